@@ -7,7 +7,7 @@ use Rattle.depot_base.specs.declared.key.RosterEntry.{RosterEntry}
 use Rattle.depot_model.specs.Lists.{IsIn, is_one_of}
 use Rattle.depot_model.specs.Items.{AreDistinct}
 use Rattle.depot_model.specs.Roster.{key_of, has_node}
-use Rattle.depot_model.proofs.Members.{all_at, all_from, any_from, any_to, in_pushed}
+use Rattle.depot_model.proofs.Members.{all_at, all_from, any_from, in_pushed}
 use Rattle.depot_vouch.specs.VouchedView.{with_node}
 use Rattle.depot_accept.specs.Convicts.{AreConvicts}
 
@@ -78,9 +78,6 @@ no_more (e ∷ es) ns d known =
     omega arith
 
 -- ---- one conviction more
-
-one_of : (n : ℕ) (ns : List ℕ) → is_one_of n ns ≡ true → IsIn n ns
-one_of n ns e = let w = any_to (λ m. eqb m n) ns e in let is : eqb w.0 n ≡ true = w.1.1 in let same : w.0 ≡ n = grind (arith, nat_tests) in subst (λ (k : ℕ). IsIn k ns) same w.1.0
 
 none_of : (n : ℕ) (ns : List ℕ) → is_one_of n ns ≡ false → AllByRecursion (λ m. m ≡ n → ⊥) ns
 none_of n ns e = all_from (λ m. m ≡ n → ⊥) ns (λ m on same. let equal : eqb m n ≡ true = grind (arith, nat_tests) in let yes = any_from (λ k. eqb k n) m ns on equal in absurd cc)

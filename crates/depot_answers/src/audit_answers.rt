@@ -1,7 +1,7 @@
 //! What an audit finds, and how much a trace has.
 ghost use Rattle.std.specs.Prelude.{◌≡◌, ◌++◌, OnOk};
 ghost use Rattle.depot_answers.specs.AnswerTexts.{text_of_finding, text_of_op, text_of_spot, text_of_traced};
-ghost use Rattle.depot_traces.specs.SeenTraces.{finding_of, op_of};
+ghost use Rattle.depot_traces.specs.SeenTraces.{finding_of, op_of_trace};
 
 use crate::record_faults::record_fault;
 use crate::words::{numbered, spaced_number, text};
@@ -31,7 +31,7 @@ fn spot(alloc: Global, out: &mut Bytes, node: NodeId, place: u32) -> Result<(), 
 /// An operation behind a space: `wNODE.PLACE` of a write, `rNODE.PLACE` of a read.
 #[tactic(auto, using(depot_base::proofs::Writing::texts))]
 fn operation(alloc: Global, out: &mut Bytes, op: Op) -> Result<(), Memory>
-    ensures { OnOk result (out.new ≡ out.old ++ text_of_op (op_of op)) }
+    ensures { OnOk result (out.new ≡ out.old ++ text_of_op (op_of_trace op)) }
 {
     match op {
         Op::Write { node, place } => {
@@ -50,7 +50,7 @@ fn operation(alloc: Global, out: &mut Bytes, op: Op) -> Result<(), Memory>
 /// What an audit finds, behind a name: one operation.
 #[tactic(auto, using(depot_base::proofs::Writing::texts))]
 fn one_op(alloc: Global, out: &mut Bytes, name: &str, op: Op) -> Result<(), Memory>
-    ensures { OnOk result (out.new ≡ out.old ++ (name.now ++ text_of_op (op_of op))) }
+    ensures { OnOk result (out.new ≡ out.old ++ (name.now ++ text_of_op (op_of_trace op))) }
 {
     text(out, name)?;
     operation(alloc, out, op)
@@ -59,7 +59,7 @@ fn one_op(alloc: Global, out: &mut Bytes, name: &str, op: Op) -> Result<(), Memo
 /// The same of two operations.
 #[tactic(auto, using(depot_base::proofs::Writing::texts))]
 fn two_ops(alloc: Global, out: &mut Bytes, name: &str, first: Op, second: Op) -> Result<(), Memory>
-    ensures { OnOk result (out.new ≡ out.old ++ (name.now ++ text_of_op (op_of first) ++ text_of_op (op_of second))) }
+    ensures { OnOk result (out.new ≡ out.old ++ (name.now ++ text_of_op (op_of_trace first) ++ text_of_op (op_of_trace second))) }
 {
     text(out, name)?;
     operation(alloc, out, first)?;

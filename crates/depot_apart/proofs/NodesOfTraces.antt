@@ -15,9 +15,9 @@ use Rattle.depot_model.specs.Roster.{Verifies}
 use Rattle.depot_model.specs.ShownWrites.{shown_of}
 use Rattle.depot_model.specs.Texts.{id_of_update}
 use Rattle.depot_model.specs.Traces as traces
-use Rattle.depot_model.specs.Traces.{AreNodesOf, IsRightRead, AreRightReads, at_node, answered}
+use Rattle.depot_model.specs.Traces.{AreNodesOf, IsRightRead, AreRightReads, at_node, answered, IsWorldOf}
 use Rattle.depot_model.specs.World.{Shown, Read, Correct, World, writes_of}
-use Rattle.depot_laws.specs.OneText.{values_of}
+use Rattle.depot_laws.specs.OneText.{world_values}
 use Rattle.depot_laws.proofs.OwnTexts.{lawful_is_short}
 use Rattle.depot_laws.proofs.Splits.{lawful_texts}
 use Rattle.depot_traces.specs.SeenTraces.{answered_of, read_of, trace_of}
@@ -25,7 +25,7 @@ use Rattle.depot_traces.specs.declared.trace.ReadTrace.{ReadTrace}
 use Rattle.depot_traces.specs.declared.trace.Trace.{Trace}
 use Rattle.depot_apart.specs.Lookups.{nodes_in}
 use Rattle.depot_apart.specs.MetTexts.{ArePairs, AreTexts, IsToldBy, AreToldBy}
-use Rattle.depot_apart.specs.TracedWorlds.{IsWorldOf, records_of}
+use Rattle.depot_apart.specs.TracedWorlds.{world_records}
 
 -- a read as its trace makes it
 abbrev pub made : List Record → ReadTrace → Read
@@ -87,13 +87,13 @@ flat_flat : {X Y Z : Type 0} (f : Y → List Z) (g : X → List Y) (xs : List X)
 flat_flat f g [] = refl
 flat_flat f g (x ∷ xs) = flat_map-append f (g x) (flat_map g xs) ∙ ap (λ (zs : List _). flat_map f (g x) ++ zs) (flat_flat f g xs)
 
-pub accepted_of : (W : World) → accepted (records_of W) ≡ writes_of W
+pub accepted_of : (W : World) → accepted (world_records W) ≡ writes_of W
 accepted_of W = flat_flat _ (λ (c : Correct). c.journal) W.nodes
 
-pub values_are : (W : World) → flat_map value_by (records_of W) ≡ values_of W
+pub values_are : (W : World) → flat_map value_by (world_records W) ≡ world_values W
 values_are W = flat_flat value_by (λ (c : Correct). c.journal) W.nodes
 
-pub given_in : {X : Type 0} (f : Record → List X) (W : World) → flat_map f (records_of W) ≡ flat_map (λ c. flat_map f c.journal) W.nodes
+pub given_in : {X : Type 0} (f : Record → List X) (W : World) → flat_map f (world_records W) ≡ flat_map (λ c. flat_map f c.journal) W.nodes
 given_in f W = flat_flat f (λ (c : Correct). c.journal) W.nodes
 
 -- ---- reads

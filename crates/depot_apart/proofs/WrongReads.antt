@@ -14,7 +14,7 @@ use Rattle.depot_model.specs.Causality.{puts_of}
 use Rattle.depot_model.specs.Journal.{accepted}
 use Rattle.depot_model.specs.Lists.{IsIn, first, is_one_of}
 use Rattle.depot_model.specs.Texts.{id_of_update}
-use Rattle.depot_model.specs.Traces.{AreRightReads}
+use Rattle.depot_model.specs.Traces.{AreRightReads, IsWorldOf}
 use Rattle.depot_model.specs.World.{Shown, Read, Correct, World, IsWorld, writes_of}
 use Rattle.depot_model.proofs.Members.{any_from, any_to, in_map, from_map, in_right}
 use Rattle.depot_laws.specs.OneText.{HaveOneText}
@@ -28,10 +28,10 @@ use Rattle.depot_traces.specs.declared.trace.ReadTrace.{ReadTrace}
 use Rattle.depot_traces.specs.declared.trace.Trace.{Trace}
 use Rattle.depot_apart.specs.declared.met.Met.{Met}
 use Rattle.depot_apart.specs.declared.met_updates.MetUpdate.{MetUpdate}
-use Rattle.depot_apart.specs.Lookups.{nodes_in, is_unput, lists_unput, unput_in, first_unput}
+use Rattle.depot_apart.specs.Lookups.{nodes_in, is_unput_in, lists_unput, unput_in, first_unput}
 use Rattle.depot_apart.specs.MetTexts.{ArePairs}
 use Rattle.depot_apart.specs.Tables.{UpdateTable, AreMetUpdates}
-use Rattle.depot_apart.specs.TracedWorlds.{IsWorldOf, records_of, IsMetIn}
+use Rattle.depot_apart.specs.TracedWorlds.{world_records, IsMetIn}
 use Rattle.depot_apart.proofs.ListLaws.{any_map, first_rows}
 use Rattle.depot_apart.proofs.NodesOfTraces.{IsNodeOf, made, ids_are, accepted_of, given_in, nodes_are, told_by_traces, nodes_told}
 use Rattle.depot_apart.proofs.TableLaws.{found_under, none_under}
@@ -70,12 +70,12 @@ stands : (o : Option MetUpdate) → (o ≡ None → ⊥) → Stands o
 stands None some = absurd (some refl)
 stands (Some x) some = record { met = x; is = refl }
 
-module _ (W : World) (world : IsWorld W) (free : HaveOneText W) (table : UpdateTable) (apart : Bool) (met : AreMetUpdates (accepted (records_of W)) (puts_of (records_of W)) table apart) where
+module _ (W : World) (world : IsWorld W) (free : HaveOneText W) (table : UpdateTable) (apart : Bool) (met : AreMetUpdates (accepted (world_records W)) (puts_of (world_records W)) table apart) where
   -- the numbers of its nodes
   abbrev numbers : List ℕ
   numbers = map (λ c. c.node) W.nodes
 
-  is_known : (u : Update) → IsIn u (writes_of W) → IsIn u (accepted (records_of W))
+  is_known : (u : Update) → IsIn u (writes_of W) → IsIn u (accepted (world_records W))
   is_known u on = subst (λ (us : List Update). IsIn u us) (sym (accepted_of W)) on
 
   -- a write stands under its id
@@ -86,12 +86,12 @@ module _ (W : World) (world : IsWorld W) (free : HaveOneText W) (table : UpdateT
 
   write_stands : (u : Update) → IsIn u (writes_of W) → StandsUnder u
   write_stands u on =
-      let us = accepted (records_of W) in
+      let us = accepted (world_records W) in
       let s = stands (get bytes_eq table (id_of_update u)) (λ none. none_under id_of_update us (id_of_update u) (sym (met.first (id_of_update u)) ∙ ap (option_map (λ (x : MetUpdate). x.update)) none) u (is_known u on) refl) in
       let known = found_under id_of_update us (id_of_update u) s.met.update (sym (met.first (id_of_update u)) ∙ ap (option_map (λ (x : MetUpdate). x.update)) s.is) in
       record { found = s.met; is = s.is; same = one_write W world free s.met.update u (subst (λ (vs : List Update). IsIn s.met.update vs) (accepted_of W) known.0) on known.1 }
 
-  unput_is : (u : Update) (s : StandsUnder u) → is_unput table numbers (id_of_update u) ≡ (is_one_of u.writer numbers && not s.found.put)
+  unput_is : (u : Update) (s : StandsUnder u) → is_unput_in table numbers (id_of_update u) ≡ (is_one_of u.writer numbers && not s.found.put)
   unput_is u s =
       ap (λ (o : Option MetUpdate). option_map_or (λ (x : MetUpdate). is_one_of x.update.writer numbers && not x.put) o false) s.is
       ∙ ap (λ (v : Update). is_one_of v.writer numbers && not s.found.put) s.same
@@ -106,10 +106,10 @@ module _ (W : World) (world : IsWorld W) (free : HaveOneText W) (table : UpdateT
   one_of u d d_on writer = any_from (λ (m : ℕ). m == u.writer) d.node numbers (in_map (λ (c : Correct). c.node) d W.nodes d_on) (eq-eqb d.node u.writer (sym writer))
 
   -- a node's put
-  puts_in : (u : Update) (d : Correct) → IsIn d W.nodes → IsIn u (puts_of d.journal) → IsIn u (puts_of (records_of W))
+  puts_in : (u : Update) (d : Correct) → IsIn d W.nodes → IsIn u (puts_of d.journal) → IsIn u (puts_of (world_records W))
   puts_in u d d_on on = subst (λ (us : List Update). IsIn u us) (sym (given_in _ W)) (flat_gives (λ (c : Correct). puts_of c.journal) u d W.nodes d_on on)
 
-  put_of : (u : Update) (d : Correct) → IsIn d W.nodes → u.writer ≡ d.node → IsIn u (puts_of (records_of W)) → IsIn u (puts_of d.journal)
+  put_of : (u : Update) (d : Correct) → IsIn d W.nodes → u.writer ≡ d.node → IsIn u (puts_of (world_records W)) → IsIn u (puts_of d.journal)
   put_of u d d_on writer on =
       let puts : Correct → List Update = λ c. puts_of c.journal in
       let g = given_by puts u W.nodes (subst (λ (us : List Update). IsIn u us) (given_in _ W) on) in
@@ -119,18 +119,18 @@ module _ (W : World) (world : IsWorld W) (free : HaveOneText W) (table : UpdateT
       subst (λ (c : Correct). IsIn u (puts_of c.journal)) same g.given
 
   -- a write passes exactly where it isn't one of a node that didn't put it
-  passes : (u : Update) → IsIn u (writes_of W) → ((d : Correct) → IsIn d W.nodes → u.writer ≡ d.node → IsIn u (puts_of d.journal)) → is_unput table numbers (id_of_update u) ≡ false
+  passes : (u : Update) → IsIn u (writes_of W) → ((d : Correct) → IsIn d W.nodes → u.writer ≡ d.node → IsIn u (puts_of d.journal)) → is_unput_in table numbers (id_of_update u) ≡ false
   passes u on puts =
       let s = write_stands u on in
       unput_is u s ∙ never_both (is_one_of u.writer numbers) s.found.put (λ e.
       let d = node_of u e in
-      (met.put (id_of_update u) s.found s.is).1 (subst (λ (v : Update). IsIn v (puts_of (records_of W))) (sym s.same) (puts_in u d.0 d.1.0 (puts d.0 d.1.0 d.1.1))))
+      (met.put (id_of_update u) s.found s.is).1 (subst (λ (v : Update). IsIn v (puts_of (world_records W))) (sym s.same) (puts_in u d.0 d.1.0 (puts d.0 d.1.0 d.1.1))))
 
-  passed : (u : Update) (d : Correct) → IsIn u (writes_of W) → IsIn d W.nodes → u.writer ≡ d.node → is_unput table numbers (id_of_update u) ≡ false → IsIn u (puts_of d.journal)
+  passed : (u : Update) (d : Correct) → IsIn u (writes_of W) → IsIn d W.nodes → u.writer ≡ d.node → is_unput_in table numbers (id_of_update u) ≡ false → IsIn u (puts_of d.journal)
   passed u d on d_on writer e =
       let s = write_stands u on in
       let put : s.found.put ≡ true = put_is (is_one_of u.writer numbers) s.found.put (sym (unput_is u s) ∙ e) (one_of u d d_on writer) in
-      put_of u d d_on writer (subst (λ (v : Update). IsIn v (puts_of (records_of W))) s.same ((met.put (id_of_update u) s.found s.is).0 put))
+      put_of u d d_on writer (subst (λ (v : Update). IsIn v (puts_of (world_records W))) s.same ((met.put (id_of_update u) s.found s.is).0 put))
 
   -- ---- one read
 
@@ -144,9 +144,9 @@ module _ (W : World) (world : IsWorld W) (free : HaveOneText W) (table : UpdateT
     lists_is : (place : ℕ) (r : Read) (q : ReadTrace) → IsIn r c.reads → slice_get c.reads place ≡ Some r → map (λ a. a.id) q.answer ≡ map (λ (s : Shown). id_of_update s.update) r.answer
         → lists_unput table numbers q ≡ not (is_exact W c place r)
     lists_is place r q r_on at ids =
-        let unput : Shown → Bool = λ s. is_unput table numbers (id_of_update s.update) in
+        let unput : Shown → Bool = λ s. is_unput_in table numbers (id_of_update s.update) in
         let told : lists_unput table numbers q ≡ list_any unput r.answer =
-        sym (any_map (is_unput table numbers) (λ (a : Answered). a.id) q.answer) ∙ ap (list_any (is_unput table numbers)) ids ∙ any_map (is_unput table numbers) (λ (s : Shown). id_of_update s.update) r.answer in
+        sym (any_map (is_unput_in table numbers) (λ (a : Answered). a.id) q.answer) ∙ ap (list_any (is_unput_in table numbers)) ids ∙ any_map (is_unput_in table numbers) (λ (s : Shown). id_of_update s.update) r.answer in
         told ∙ same_test (list_any unput r.answer) (not (is_exact W c place r))
         (λ e.
         let s = any_to unput r.answer e in

@@ -18,12 +18,12 @@ abbrev pub nodes_in : List Trace → List ℕ
 nodes_in ts = map (λ t. t.node) ts
 
 -- the table has an update of this id, of one of these nodes, that no node put
-abbrev pub is_unput : UpdateTable → List ℕ → List ℕ → Bool
-is_unput table nodes h = option_map_or (λ x. is_one_of x.update.writer nodes && not x.put) (get bytes_eq table h) false
+abbrev pub is_unput_in : UpdateTable → List ℕ → List ℕ → Bool
+is_unput_in table nodes h = option_map_or (λ x. is_one_of x.update.writer nodes && not x.put) (get bytes_eq table h) false
 
 -- a read lists one
 abbrev pub lists_unput : UpdateTable → List ℕ → ReadTrace → Bool
-lists_unput table nodes r = list_any (λ a. is_unput table nodes a.id) r.answer
+lists_unput table nodes r = list_any (λ a. is_unput_in table nodes a.id) r.answer
 
 -- the first read of a trace that does
 abbrev pub unput_in : UpdateTable → List ℕ → Trace → Option Finding

@@ -5,7 +5,7 @@ use Rattle.depot_base.specs.declared.limits.TheConstants.{MOST_RECORDS}
 use Rattle.depot_base.specs.declared.record.Record.{Record}
 use Rattle.depot_model.specs.Causality.{puts_of}
 use Rattle.depot_model.specs.Journal.{accepted, value_by}
-use Rattle.depot_model.specs.Records.{IsRecord, text_of_record}
+use Rattle.depot_model.specs.Records.{IsTextOf}
 use Rattle.depot_model.specs.World.{Correct}
 use Rattle.depot_traces.specs.declared.trace.Trace.{Trace}
 use Rattle.depot_apart.specs.Tables.{AreMetUpdates, AreMetValues}
@@ -17,11 +17,6 @@ ArePairs R [] [] = Unit {0}
 ArePairs R [] (y ∷ ys) = ⊥
 ArePairs R (x ∷ xs) [] = ⊥
 ArePairs R (x ∷ xs) (y ∷ ys) = R x y × ArePairs R xs ys
-
--- the text of a record
-pub record IsTextOf (r : Record) (text : List ℕ) : Type 0 where
-  pub fits : IsRecord r
-  pub is : text ≡ text_of_record r
 
 -- these are the texts of these records
 abbrev pub AreTexts : List Record → List (List ℕ) → Type 0

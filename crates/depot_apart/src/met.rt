@@ -4,11 +4,12 @@ ghost use Rattle.std.specs.List.{flat_map};
 ghost use Rattle.depot_base.specs.declared.record.Record.{Record};
 ghost use Rattle.depot_base.specs.declared.record.Record.TheVariants.{OwnPut, Foreign};
 ghost use Rattle.depot_laws.specs.OneText.{HaveOneText};
-ghost use Rattle.depot_model.specs.Records.{IsRecord};
+ghost use Rattle.depot_model.specs.Records.{IsRecord, IsTextOf};
 ghost use Rattle.depot_model.specs.World.{Correct, World, IsWorld};
 ghost use Rattle.depot_traces.specs.SeenTraces.{trace_of};
-ghost use Rattle.depot_apart.specs.MetTexts.{IsTextOf, AreTexts, AreToldBy, IsMetOf};
-ghost use Rattle.depot_apart.specs.TracedWorlds.{IsWorldOf, IsMetIn};
+ghost use Rattle.depot_apart.specs.MetTexts.{AreTexts, AreToldBy, IsMetOf};
+ghost use Rattle.depot_model.specs.Traces.{IsWorldOf};
+ghost use Rattle.depot_apart.specs.TracedWorlds.{IsMetIn};
 
 use crate::met_updates::MetUpdates;
 use crate::met_values::MetValues;

@@ -19,7 +19,7 @@ pub struct MetUpdate {
     pub put: bool,
 }
 
-type Table = IndexMap<Hash32, MetUpdate>;
+type UpdateMap = IndexMap<Hash32, MetUpdate>;
 
 /// What a table has under the id of an update.
 #[derive(Clone, Copy)]
@@ -33,7 +33,7 @@ enum Under {
 }
 
 /// What a table has under the id of an update.
-fn found_under(table: &Table, id: &Hash32, update: &Update) -> Under
+fn found_under(table: &UpdateMap, id: &Hash32, update: &Update) -> Under
     ensures { IsUnder (get bytes_eq table.now id.now) update.now result }
 {
     match table.get(id) {
@@ -48,7 +48,7 @@ fn found_under(table: &Table, id: &Hash32, update: &Update) -> Under
 }
 
 /// Puts an update under its id.
-fn put_update(table: &mut Table, id: Hash32, met: MetUpdate) -> Result<(), Memory>
+fn put_update(table: &mut UpdateMap, id: Hash32, met: MetUpdate) -> Result<(), Memory>
     ensures { OnOk result (PutsUpdate table.old table.new id met) }
 {
     match table.insert(id, met) {
@@ -60,7 +60,7 @@ fn put_update(table: &mut Table, id: Hash32, met: MetUpdate) -> Result<(), Memor
 /// The first update of each id, and whether each id had one update.
 #[derive(Drop)]
 pub struct MetUpdates {
-    table: Table,
+    table: UpdateMap,
     apart: bool,
 }
 

@@ -10,10 +10,10 @@ use depot_model::hash_of;
 use indexmap::IndexMap;
 use std::alloc::Global;
 
-type Table = IndexMap<Hash32, Value>;
+type ValueMap = IndexMap<Hash32, Value>;
 
 /// Whether a table has this value under a hash, or has another; None where it has none.
-fn has_same(table: &Table, hash: &Hash32, value: &[u8]) -> Option<bool>
+fn has_same(table: &ValueMap, hash: &Hash32, value: &[u8]) -> Option<bool>
     ensures { result ≡ option_map (λ met. bytes_eq met value.now) (get bytes_eq table.now hash.now) }
 {
     match table.get(hash) {
@@ -23,7 +23,7 @@ fn has_same(table: &Table, hash: &Hash32, value: &[u8]) -> Option<bool>
 }
 
 /// Puts a value under its hash.
-fn put_value(table: &mut Table, hash: Hash32, value: Value) -> Result<(), Memory>
+fn put_value(table: &mut ValueMap, hash: Hash32, value: Value) -> Result<(), Memory>
     ensures { OnOk result (PutsValue table.old table.new hash value) }
 {
     match table.insert(hash, value) {
@@ -35,7 +35,7 @@ fn put_value(table: &mut Table, hash: Hash32, value: Value) -> Result<(), Memory
 /// The first value of each hash, and whether each hash had one value.
 #[derive(Drop)]
 pub struct MetValues {
-    table: Table,
+    table: ValueMap,
     apart: bool,
 }
 

@@ -6,8 +6,9 @@ ghost use Rattle.depot_model.specs.Audit.{circle, wrong};
 ghost use Rattle.depot_model.specs.World.{World, IsWorld};
 ghost use Rattle.depot_traces.specs.SeenTraces.{finding_of, trace_of};
 ghost use Rattle.depot_traces.specs.declared.trace.TheConstants.{MOST_READS};
-ghost use Rattle.depot_apart.specs.Lookups.{nodes_in, is_unput, lists_unput, first_unput};
-ghost use Rattle.depot_apart.specs.TracedWorlds.{IsWorldOf, IsMetIn};
+ghost use Rattle.depot_apart.specs.Lookups.{nodes_in, is_unput_in, lists_unput, first_unput};
+ghost use Rattle.depot_model.specs.Traces.{IsWorldOf};
+ghost use Rattle.depot_apart.specs.TracedWorlds.{IsMetIn};
 
 use crate::met::Met;
 use crate::traced_nodes::has_node;
@@ -68,7 +69,7 @@ fn lists_unput(met: &Met, traces: &[&Trace], read: &ReadTrace) -> bool
 
 /// Whether an update of this id is one of a node of the traces and isn't known as put.
 fn is_unput(met: &Met, traces: &[&Trace], id: &Hash32) -> bool
-    ensures { result ≡ is_unput met.now.updates.table (nodes_in (map (λ t. t.now) traces.now)) id.now }
+    ensures { result ≡ is_unput_in met.now.updates.table (nodes_in (map (λ t. t.now) traces.now)) id.now }
 {
     match met.updates.get(id) {
         Some(found) => has_node(traces, found.update.writer) && !found.put,

@@ -9,7 +9,7 @@ use Rattle.depot_base.specs.declared.record.Record.{Record}
 use Rattle.depot_model.specs.RecordFaults.{AreTextsOf}
 use Rattle.depot_model.specs.Roster.{Verifies}
 use Rattle.depot_model.specs.ShownWrites.{shown_of}
-use Rattle.depot_model.specs.Traces.{ReadTrace, Trace, answered, IsRightRead, AreRightReads, HasRightReads, IsFirstBad, last_length, at_node}
+use Rattle.depot_model.specs.Traces.{ReadTrace, Trace, answered, IsRightRead, AreRightReads, IsFirstBad, last_length, at_node}
 use Rattle.depot_audit.specs.OneNode.{NeverRight, IsAhead, AreRightUpTo}
 use Rattle.depot_audit.specs.Shows.{IsShown}
 
@@ -114,30 +114,7 @@ read_stops J rs k r at not h = record {
   next = subst (λ (x : List ReadTrace). IsAhead (length J + 1) J (last_length 0 (take k rs)) x) (sym at.behind) (ahead_now J (last_length 0 (take k rs)) r not (subst (λ (x : List ReadTrace). IsAhead (length J) J (last_length 0 (take k rs)) x) at.behind h.next));
 }
 
--- there is none
-pub reads_end : (J : List Record) (rs : List ReadTrace) (k : ℕ) → drop k rs ≡ [] → AreRightUpTo (length J) J rs k → AreRightUpTo (length J + 1) J rs k
-reads_end J rs k none h = record {
-  within = h.within;
-  good = h.good;
-  next = subst (λ (x : List ReadTrace). IsAhead (length J + 1) J (last_length 0 (take k rs)) x) (sym none) tt;
-}
-
 -- ---- from the first record to the last
-
--- before the first
-ahead_of_none : (rs : List ReadTrace) → IsAhead 1 [] 0 rs
-ahead_of_none [] = tt
-ahead_of_none (r ∷ rs) = by_test (leb 1 r.length) refl where
-  by_test : (b : Bool) → leb 1 r.length ≡ b → (1 ≤ r.length) ⊎ NeverRight [] 0 r
-  by_test true is = inl (leb-true 1 r.length is)
-  by_test false is = inr (λ more h. omega (arith, leb-false 1 r.length is, h.begun))
-
-pub reads_begin : (J : List Record) (rs : List ReadTrace) → J ≡ [] → AreRightUpTo (length J + 1) J rs 0
-reads_begin J rs none = subst (λ (K : List Record). AreRightUpTo (length K + 1) K rs 0) (sym none) (record { within = omega arith; good = tt; next = ahead_of_none rs })
-
--- behind the last, where all were right
-pub all_right : (verifies : Verifies) (listed : List RosterEntry) (t : Trace) (J : List Record) (k : ℕ) → AreTextsOf (at_node verifies listed t) J t.texts → length t.reads ≤ k → AreRightUpTo (length J + 1) J t.reads k → HasRightReads verifies listed t
-all_right verifies listed t J k texts all h = (J, (texts, subst (λ (x : List ReadTrace). AreRightReads J 0 x) (take_all k t.reads all) h.good))
 
 -- and where one wasn't
 never_now : (J : List Record) (last : ℕ) (r : ReadTrace) → (length J + 1 ≤ r.length) ⊎ NeverRight J last r → IsRightRead J last r → ⊥

@@ -29,9 +29,9 @@ use Rattle.depot_model.proofs.Elements.{from_place}
 use Rattle.depot_model.proofs.LatestLaws.{one_latest_list}
 use Rattle.depot_model.proofs.LatestWrites.{latest_are_listed}
 use Rattle.depot_laws.proofs.Causes.{lawful_is_causal}
-use Rattle.depot_traces.specs.SeenTraces.{answered_of, sighting_of}
+use Rattle.depot_traces.specs.SeenTraces.{answered_of}
 use Rattle.depot_traces.specs.declared.trace.Answered.{Answered}
-use Rattle.depot_audit.specs.Shows.{told_of}
+use Rattle.depot_audit.specs.Shows.{expected_answer}
 
 -- ---- one write
 
@@ -65,24 +65,20 @@ seen_none J key u is = ap (λ o. option_map_or (seen_as J) o not_held) (sym is)
 pub tests_too : (told : Bool) (shown a b : Sighting) → a ≡ b → IsTrue told ↔ (shown ≡ b) → IsTrue told ↔ (shown ≡ a)
 tests_too told shown a b same is = (λ yes. is.0 yes ∙ sym same, λ e. is.1 (e ∙ same))
 
--- two answers are one where their ids and what they show are
-told_both : (a : Answered) (h : List ℕ) (s : Sighting) → a.id ≡ h → sighting_of a.shown ≡ s → answered_of a ≡ record { id = h; shown = s }
-told_both a h s id shown = ap (λ (i : List ℕ). record { id = i; shown = sighting_of a.shown }) id ∙ ap (λ (o : Sighting). record { id = h; shown = o }) shown
-
 -- ---- the list
 
 -- what an answer tells of the updates at these places
 abbrev pub told_at : List Record → List ℕ → List ℕ → List traces.Answered
-told_at J key items = map (told_of J key) (updates_at (accepted J) items)
+told_at J key items = map (expected_answer J key) (updates_at (accepted J) items)
 
 -- the latest writes are those of a read
 pub told_are : (here : Setting) (J : List Record) (key items : List ℕ) → IsLawful here J → AreLatestIn key (accepted J) (updates_at (accepted J) items) → told_at J key items ≡ map answered (shown_of J key)
 told_are here J key items l latest =
     let us = accepted J in
-    ap (map (told_of J key)) (one_latest_list key (λ u. IsIn u us) (Precedes us) (updates_at us items) (latest_in key us) latest (latest_are_listed key us (lawful_is_causal here J l))) ∙ sym (map-map _ _ (latest_in key us))
+    ap (map (expected_answer J key)) (one_latest_list key (λ u. IsIn u us) (Precedes us) (updates_at us items) (latest_in key us) latest (latest_are_listed key us (lawful_is_causal here J l))) ∙ sym (map-map _ _ (latest_in key us))
 
-told_cons : (J : List Record) (key : List ℕ) (item : ℕ) (items : List ℕ) (u : Update) → slice_get (accepted J) item ≡ Some u → told_at J key (item ∷ items) ≡ told_of J key u ∷ told_at J key items
-told_cons J key item items u at_item = ap (λ o. map (told_of J key) (option_to_list o ++ updates_at (accepted J) items)) at_item
+told_cons : (J : List Record) (key : List ℕ) (item : ℕ) (items : List ℕ) (u : Update) → slice_get (accepted J) item ≡ Some u → told_at J key (item ∷ items) ≡ expected_answer J key u ∷ told_at J key items
+told_cons J key item items u at_item = ap (λ o. map (expected_answer J key) (option_to_list o ++ updates_at (accepted J) items)) at_item
 
 heads : {X : Type 0} (a b : X) (xs ys : List X) → a ∷ xs ≡ b ∷ ys → a ≡ b
 heads a b xs ys e = cc
@@ -95,9 +91,6 @@ pub record AreToldUpTo (J : List Record) (key : List ℕ) (answer : List Answere
   pub within : k ≤ length items
   pub rest : map answered_of answer ≡ told_at J key items → map answered_of (drop k answer) ≡ told_at J key (drop k items)
   pub all : map answered_of (drop k answer) ≡ told_at J key (drop k items) → map answered_of answer ≡ told_at J key items
-
-pub told_begins : (J : List Record) (key : List ℕ) (answer : List Answered) (items : List ℕ) → AreToldUpTo J key answer items 0
-told_begins J key answer items = record { within = omega arith; rest = λ e. e; all = λ e. e }
 
 -- an answer and an item stand at a place
 pub record IsPairAt (us : List Update) (answer : List Answered) (items : List ℕ) (k item : ℕ) (a : Answered) (u : Update) : Type 0 where
@@ -118,10 +111,10 @@ pair_at us answer items k item a within is inside at all =
     )
 
 -- the rest begins with them
-rest_tells : (J : List Record) (key : List ℕ) (items : List ℕ) (k item : ℕ) (u : Update) → slice_get items k ≡ Some item → slice_get (accepted J) item ≡ Some u → told_at J key (drop k items) ≡ told_of J key u ∷ told_at J key (drop (k + 1) items)
+rest_tells : (J : List Record) (key : List ℕ) (items : List ℕ) (k item : ℕ) (u : Update) → slice_get items k ≡ Some item → slice_get (accepted J) item ≡ Some u → told_at J key (drop k items) ≡ expected_answer J key u ∷ told_at J key (drop (k + 1) items)
 rest_tells J key items k item u listed at_item = ap (told_at J key) (from_place items k item listed) ∙ told_cons J key item (drop (k + 1) items) u at_item
 
-pub told_goes_on : (J : List Record) (key : List ℕ) (answer : List Answered) (items : List ℕ) (k item : ℕ) (a : Answered) (u : Update) → IsPairAt (accepted J) answer items k item a u → answered_of a ≡ told_of J key u → AreToldUpTo J key answer items k → AreToldUpTo J key answer items (k + 1)
+pub told_goes_on : (J : List Record) (key : List ℕ) (answer : List Answered) (items : List ℕ) (k item : ℕ) (a : Answered) (u : Update) → IsPairAt (accepted J) answer items k item a u → answered_of a ≡ expected_answer J key u → AreToldUpTo J key answer items k → AreToldUpTo J key answer items (k + 1)
 told_goes_on J key answer items k item a u p same h =
     let left : map answered_of (drop k answer) ≡ answered_of a ∷ map answered_of (drop (k + 1) answer) = ap (map answered_of) p.answered in
     let right = rest_tells J key items k item u p.listed p.update in
@@ -131,7 +124,7 @@ told_goes_on J key answer items k item a u p same h =
       all = λ e. h.all (left ∙ ap (λ (xs : List traces.Answered). answered_of a ∷ xs) e ∙ ap (λ (x : traces.Answered). x ∷ told_at J key (drop (k + 1) items)) same ∙ sym right);
     }
 
-pub told_stops : (J : List Record) (key : List ℕ) (answer : List Answered) (items : List ℕ) (k item : ℕ) (a : Answered) (u : Update) → IsPairAt (accepted J) answer items k item a u → (answered_of a ≡ told_of J key u → ⊥) → AreToldUpTo J key answer items k → map answered_of answer ≡ told_at J key items → ⊥
+pub told_stops : (J : List Record) (key : List ℕ) (answer : List Answered) (items : List ℕ) (k item : ℕ) (a : Answered) (u : Update) → IsPairAt (accepted J) answer items k item a u → (answered_of a ≡ expected_answer J key u → ⊥) → AreToldUpTo J key answer items k → map answered_of answer ≡ told_at J key items → ⊥
 told_stops J key answer items k item a u p other h e =
     let left : map answered_of (drop k answer) ≡ answered_of a ∷ map answered_of (drop (k + 1) answer) = ap (map answered_of) p.answered in
     other (heads _ _ _ _ (sym left ∙ h.rest e ∙ rest_tells J key items k item u p.listed p.update))
@@ -148,7 +141,7 @@ more_answered J key answer items k more all h e = let a = at_place answer k more
 -- fewer are
 fewer_than_some : (J : List Record) (key : List ℕ) (answer : List Answered) (items : List ℕ) (k item : ℕ) (u : Update) → drop k answer ≡ [] → slice_get items k ≡ Some item → slice_get (accepted J) item ≡ Some u → AreToldUpTo J key answer items k → map answered_of answer ≡ told_at J key items → ⊥
 fewer_than_some J key answer items k item u none listed at_item h e =
-    let never : [] ≡ told_of J key u ∷ told_at J key (drop (k + 1) items) = sym (ap (map answered_of) none) ∙ h.rest e ∙ rest_tells J key items k item u listed at_item in
+    let never : [] ≡ expected_answer J key u ∷ told_at J key (drop (k + 1) items) = sym (ap (map answered_of) none) ∙ h.rest e ∙ rest_tells J key items k item u listed at_item in
     cc
 
 fewer_answered : (J : List Record) (key : List ℕ) (answer : List Answered) (items : List ℕ) (k : ℕ) → length answer ≤ k → k < length items → All (λ (item : ℕ). item < length (accepted J)) items → AreToldUpTo J key answer items k → map answered_of answer ≡ told_at J key items → ⊥

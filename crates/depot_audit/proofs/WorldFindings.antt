@@ -8,12 +8,12 @@ use Rattle.std.proofs.lemmas.List.{length-map}
 use Rattle.std.proofs.lemmas.Simd.{map-map}
 use Rattle.depot_base.proofs.Numbers.{number_within}
 use Rattle.depot_base.specs.declared.key.RosterEntry.{RosterEntry}
-use Rattle.depot_model.specs.Audit.{Finding, yes_found, unlawful, answer_found, circle_found, unordered_found, unseen_found, wrong_found, split_found, named_found, reads_of, operations, observed, op_of, circle, unordered, unseen, is_exact, wrong_at, wrong, split, names_one_of, named_node, finding_in}
+use Rattle.depot_model.specs.Audit.{Finding, yes_found, unlawful, answer_found, circle_found, unordered_found, unseen_found, wrong_found, split_found, named_found, reads_of, operations, observed, op_of, circle, unordered, unseen, is_exact, wrong_at, wrong, split_finding, names_one_of, named_node, finding_in}
 use Rattle.depot_model.specs.Causality.{Operation, write, read_at}
 use Rattle.depot_model.specs.Items.{AreDistinct}
 use Rattle.depot_model.specs.Lists.{first}
 use Rattle.depot_model.specs.Roster.{Verifies, has_node}
-use Rattle.depot_model.specs.Traces.{Trace, HasRightReads, AreNodesOf, AreTraced, IsFindingOf, put_by_node, by_node}
+use Rattle.depot_model.specs.Traces.{Trace, HasRightReads, AreNodesOf, AreTraced, IsFindingOf, put_by_node, by_node, IsWorldOf}
 use Rattle.depot_model.specs.World.{Correct, World, IsWorld}
 use Rattle.depot_model.proofs.FirstLaws.{Shows, shows_when, shows_map, shows_first}
 use Rattle.depot_model.proofs.Members.{all_at, from_map}
@@ -23,7 +23,6 @@ use Rattle.depot_laws.proofs.TracedWorlds.{traced_is_world}
 use Rattle.depot_traces.specs.SeenTraces.{read_of, trace_of}
 use Rattle.depot_traces.specs.TraceTexts.{trace_text, IsTrace}
 use Rattle.depot_traces.specs.declared.trace.Trace as made
-use Rattle.depot_apart.specs.TracedWorlds.{IsWorldOf}
 use Rattle.depot_audit.proofs.TracedNodes.{makes_world}
 
 -- ---- the parts of a finding
@@ -47,7 +46,7 @@ three_parts None None None None None None q r t = refl
 -- what is found where these are the first of the two parts and of the third
 pub found_is : (W : World) → IsWorld W → finding_in W ≡ of_three (first (circle W ∷ wrong W ∷ [])) (named_node W)
 unfolding finding_in
-found_is W world = three_parts (circle W) (unordered W) (unseen W) (wrong W) (split W) (named_node W) (none_unordered W world) (none_unseen W world) (none_split W world)
+found_is W world = three_parts (circle W) (unordered W) (unseen W) (wrong W) (split_finding W) (named_node W) (none_unordered W world) (none_unseen W world) (none_split W world)
 
 -- ---- findings of a world
 

@@ -12,5 +12,5 @@ pub record IsShown (J : List Record) (r : ReadTrace) : Type 0 where
   pub answer : r.answer ≡ map answered (shown_of J r.key)
 
 -- what a read is to tell of an accepted update's write of a key
-abbrev pub told_of : List Record → List ℕ → Update → Answered
-told_of J key u = answered (record { update = u; seen = seen_under J key u })
+abbrev pub expected_answer : List Record → List ℕ → Update → Answered
+expected_answer J key u = answered (record { update = u; seen = seen_under J key u })

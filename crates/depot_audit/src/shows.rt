@@ -6,7 +6,7 @@ ghost use Rattle.depot_model.specs.Contents.{gone, held_value, not_held};
 ghost use Rattle.depot_model.specs.Journal.{accepted, held_as, seen_under};
 ghost use Rattle.depot_model.specs.ShownWrites.{shown_of};
 ghost use Rattle.depot_model.specs.Traces.{answered};
-ghost use Rattle.depot_audit.specs.Shows.{told_of};
+ghost use Rattle.depot_audit.specs.Shows.{expected_answer};
 ghost use Rattle.depot_traces.specs.SeenTraces.{answered_of, sighting_of};
 
 use depot_base::{Key, NamedValue, Update};
@@ -35,7 +35,7 @@ pub fn shows<S: Scheme>(readings: &Readings<S>, read: &ReadTrace) -> bool
 /// Whether a write that a read listed is that of an item, and shown as the records show it.
 fn is_told<S: Scheme>(readings: &Readings<S>, key: &Key, item: u32, told: &Answered) -> bool
     requires item { item < length (accepted readings.now.records) }
-    ensures { (u : Update) → slice_get (accepted readings.now.records) item ≡ Some u → IsTrue result ↔ (answered_of told.now ≡ told_of readings.now.records key.now u) }
+    ensures { (u : Update) → slice_get (accepted readings.now.records) item ≡ Some u → IsTrue result ↔ (answered_of told.now ≡ expected_answer readings.now.records key.now u) }
 {
     let graph = readings.state().graph();
     *graph.id(item) == told.id && is_seen(readings, key, graph.update(item), &told.shown)

@@ -3,7 +3,7 @@ use Rattle.std.proofs.Common.{◌≡◌, ℕ, ◌+◌, ◌<◌, ◌≤◌, Bool,
 use Rattle.std.proofs.lemmas.Bool.{ltb-false, ltb-true, le-ltb, lt-ltb, eqb-true, eqb-false, ne_eqb}
 use Rattle.std.proofs.lemmas.List.{take_at, drop_at, take-append-drop, length-append, length-take, append-nil, nil_from_length}
 use Rattle.depot_base.specs.Cursor.{Cursor, advanced}
-use Rattle.depot_base.specs.Format.{◌>>=◌, Format, bytes_of, field, Later, made, whole, FirstFault, inner, kept, choose, variant, HasPart}
+use Rattle.depot_base.specs.Format.{◌>>=◌, Format, bytes_of, field, Later, made_of_fields, whole, FirstFault, inner, with_own_text, choose, variant, HasPart}
 use Rattle.depot_base.proofs.FormatLaws.{IsBytes, IsBytes-drop, IsBytes-take, cursor, Took, Faulty, Lawful, bind_ok, bind_err, guard_ok, guard_err, need_ok, need_err, ok_is, not_err}
 
 pos_of_test : (n : ℕ) → eqb n 0 ≡ false → 0 < n
@@ -21,8 +21,8 @@ bytes_lawful n = record {
       let g = guard_ok (ltb (length c.rest) n) c.at (Ok (take n c.rest, advanced n c)) (v, d) e in
       let long : n ≤ length c.rest = ltb-false _ _ g.0 in
       let len : length (take n c.rest) ≡ n = omega (arith, length-take n c.rest) in
-      let made : Took (bytes_of n) c (take n c.rest) (advanced n c) = record { fits = len; parts = sym (take-append-drop n c.rest); place = omega (arith, len); rest_fits = IsBytes-drop n c.rest fits } in
-      subst (λ (p : List ℕ × Cursor). Took (bytes_of n) c p.0 p.1) (ok_is (take n c.rest, advanced n c) (v, d) g.1) made;
+      let took : Took (bytes_of n) c (take n c.rest) (advanced n c) = record { fits = len; parts = sym (take-append-drop n c.rest); place = omega (arith, len); rest_fits = IsBytes-drop n c.rest fits } in
+      subst (λ (p : List ℕ × Cursor). Took (bytes_of n) c p.0 p.1) (ok_is (take n c.rest, advanced n c) (v, d) g.1) took;
   again = λ at v rest fits.
       let long : ltb (length (v ++ rest)) n ≡ false = le-ltb _ _ (omega (arith, length-append v rest, fits)) in
       rw (long, take_at v rest n fits, drop_at v rest n fits, fits) refl;
@@ -40,10 +40,10 @@ bytes_lawful n = record {
 
 -- ---- a field, and what follows it
 
-pub made_lawful : {V : Type 0} (v : V) → Lawful (made v) 0
+pub made_lawful : {V : Type 0} (v : V) → Lawful (made_of_fields v) 0
 made_lawful {V = V} v = record {
   takes = λ c w d fits e.
-      subst (λ (p : V × Cursor). Took (made v) c p.0 p.1) (ok_is (v, c) (w, d) e) (record { fits = refl; parts = refl; place = omega arith; rest_fits = fits });
+      subst (λ (p : V × Cursor). Took (made_of_fields v) c p.0 p.1) (ok_is (v, c) (w, d) e) (record { fits = refl; parts = refl; place = omega arith; rest_fits = fits });
   again = λ at w rest fits. let p : w ≡ v = fits in let q : at ≡ at + 0 = omega arith in rw (p, ← q) refl;
   faults = λ c o fits e. absurd (not_err (v, c) o e);
   stops = λ at bytes k fault. absurd fault;
@@ -133,13 +133,13 @@ variant_lawful {A = A} {V = V} make part f m is_part is_made l = record {
   takes = λ c v d fits e.
       let b = bind_ok (f.read c) (λ x. Ok (make x.0, x.1)) (v, d) e in
       let t = l.takes c b.0.0 b.0.1 fits b.1 in
-      let made : Took (variant make part f) c (make b.0.0) b.0.1 = record {
+      let took : Took (variant make part f) c (make b.0.0) b.0.1 = record {
         fits = rw (is_part b.0.0) t.fits;
         parts = rw (is_part b.0.0) t.parts;
         place = rw (is_part b.0.0) t.place;
         rest_fits = t.rest_fits;
       } in
-      subst (λ (p : V × Cursor). Took (variant make part f) c p.0 p.1) (ok_is (make b.0.0, b.0.1) (v, d) b.2) made;
+      subst (λ (p : V × Cursor). Took (variant make part f) c p.0 p.1) (ok_is (make b.0.0, b.0.1) (v, d) b.2) took;
   again = λ at v rest fits.
       let p = part_of f.fits (part v) fits in
       let is : make p.0 ≡ v = sym (is_made v p.0 p.1) in
@@ -227,13 +227,13 @@ inner_takes {V = V} f m n l c v d fits e =
     let b = bind_ok (whole f (cursor c.at (take n c.rest))) (λ v. Ok (v, advanced n c)) (v, d) g.1 in
     let t = whole_takes f m l (cursor c.at (take n c.rest)) b.0 (IsBytes-take n c.rest fits) b.1 in
     let len : length (f.text b.0) ≡ n = omega (arith, length-take n c.rest, ap length t.1) in
-    let made : Took (inner n f) c b.0 (advanced n c) = record {
+    let took : Took (inner n f) c b.0 (advanced n c) = record {
       fits = (t.0, len);
       parts = sym (take-append-drop n c.rest) ∙ ap (λ (x : List ℕ). x ++ drop n c.rest) t.1;
       place = omega (arith, len);
       rest_fits = IsBytes-drop n c.rest fits;
     } in
-    subst (λ (p : V × Cursor). Took (inner n f) c p.0 p.1) (ok_is (b.0, advanced n c) (v, d) b.2) made
+    subst (λ (p : V × Cursor). Took (inner n f) c p.0 p.1) (ok_is (b.0, advanced n c) (v, d) b.2) took
 
 inner_again : {V : Type 0} (f : Format V) (m n : ℕ) → Lawful f m → (at : ℕ) (v : V) (rest : List ℕ) → (inner n f).fits v → (inner n f).read (cursor at (f.text v ++ rest)) ≡ Ok (v, cursor (at + length (f.text v)) rest)
 unfolding inner
@@ -283,22 +283,22 @@ kept_took : {V : Type 0} (f : Format V) (m n : ℕ) → Lawful f m → (c : Curs
 unfolding inner
 kept_took f m n l c v d t = rw (t.parts, take_at (f.text v) d.rest n t.fits.1) refl
 
-kept_takes : {V : Type 0} (f : Format V) (m n : ℕ) → Lawful f m → (c : Cursor) (v : List ℕ × V) (d : Cursor) → IsBytes c.rest → (kept n f).read c ≡ Ok (v, d) → Took (kept n f) c v d
+kept_takes : {V : Type 0} (f : Format V) (m n : ℕ) → Lawful f m → (c : Cursor) (v : List ℕ × V) (d : Cursor) → IsBytes c.rest → (with_own_text n f).read c ≡ Ok (v, d) → Took (with_own_text n f) c v d
 unfolding inner
 kept_takes {V = V} f m n l c v d fits e =
     let b = bind_ok ((inner n f).read c) (λ x. Ok ((take n c.rest, x.0), x.1)) (v, d) e in
     let t = inner_takes f m n l c b.0.0 b.0.1 fits b.1 in
-    let made : Took (kept n f) c (take n c.rest, b.0.0) b.0.1 = record { fits = (t.fits, kept_took f m n l c b.0.0 b.0.1 t); parts = t.parts; place = t.place; rest_fits = t.rest_fits } in
-    subst (λ (p : (List ℕ × V) × Cursor). Took (kept n f) c p.0 p.1) (ok_is ((take n c.rest, b.0.0), b.0.1) (v, d) b.2) made
+    let took : Took (with_own_text n f) c (take n c.rest, b.0.0) b.0.1 = record { fits = (t.fits, kept_took f m n l c b.0.0 b.0.1 t); parts = t.parts; place = t.place; rest_fits = t.rest_fits } in
+    subst (λ (p : (List ℕ × V) × Cursor). Took (with_own_text n f) c p.0 p.1) (ok_is ((take n c.rest, b.0.0), b.0.1) (v, d) b.2) took
 
-kept_again : {V : Type 0} (f : Format V) (m n : ℕ) → Lawful f m → (at : ℕ) (v : List ℕ × V) (rest : List ℕ) → (kept n f).fits v → (kept n f).read (cursor at (f.text v.1 ++ rest)) ≡ Ok (v, cursor (at + length (f.text v.1)) rest)
+kept_again : {V : Type 0} (f : Format V) (m n : ℕ) → Lawful f m → (at : ℕ) (v : List ℕ × V) (rest : List ℕ) → (with_own_text n f).fits v → (with_own_text n f).read (cursor at (f.text v.1 ++ rest)) ≡ Ok (v, cursor (at + length (f.text v.1)) rest)
 unfolding inner
 kept_again f m n l at v rest fits =
     let one = inner_again f m n l at v.1 rest fits.0 in
     let same : take n (f.text v.1 ++ rest) ≡ v.0 = take_at (f.text v.1) rest n fits.0.1 ∙ sym fits.1 in
     rw (one, same) refl
 
-pub kept_lawful : {V : Type 0} (f : Format V) (m n : ℕ) → Lawful f m → Lawful (kept n f) m
+pub kept_lawful : {V : Type 0} (f : Format V) (m n : ℕ) → Lawful f m → Lawful (with_own_text n f) m
 unfolding inner
 kept_lawful f m n l = record {
   takes = λ c v d fits e. kept_takes f m n l c v d fits e;

@@ -16,12 +16,6 @@ rest_count [] rest = refl
 rest_count (text ∷ []) rest = refl
 rest_count (text ∷ (next ∷ texts)) rest = ap (λ (n : ℕ). suc n) (rest_count (next ∷ texts) rest)
 
--- behind others
-pub rest_last : (texts : List (List ℕ)) (text rest : List ℕ) → with_rest (texts ++ text ∷ []) rest ≡ texts ++ (text ++ rest) ∷ []
-rest_last [] text rest = refl
-rest_last (x ∷ []) text rest = refl
-rest_last (x ∷ (y ∷ texts)) text rest = ap (λ (l : List (List ℕ)). x ∷ l) (rest_last (y ∷ texts) text rest)
-
 -- their records take as many bytes more as the rest has
 pub rest_longer : (texts : List (List ℕ)) (rest : List ℕ) → 0 < length texts → length (blocks (with_rest texts rest)) ≡ length rest + length (blocks texts)
 rest_longer [] rest some = absurd (omega (arith, some))

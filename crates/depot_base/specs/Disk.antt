@@ -15,8 +15,8 @@ pub record IsTorn (at count : ℕ) (old new : List ℕ) : Type 0 where
   pub no_longer : length new ≤ max (length old) (at + count)
 
 -- each image now is an image of before, a step later
-abbrev pub Follows : (List ℕ → List ℕ → Type 0) → (List ℕ → Type 0) → (List ℕ → Type 0) → Type 0
-Follows step before now = (image : List ℕ) → now image → (base : List ℕ) × before base × step base image
+abbrev pub ImagesFollow : (List ℕ → List ℕ → Type 0) → (List ℕ → Type 0) → (List ℕ → Type 0) → Type 0
+ImagesFollow step before now = (image : List ℕ) → now image → (base : List ℕ) × before base × step base image
 
 -- each image now is an image of before
 abbrev pub Within : (List ℕ → Type 0) → (List ℕ → Type 0) → Type 0

@@ -48,12 +48,12 @@ pub record IsDamagedAt (file : List ℕ) (at : ℕ) : Type 0 where
   pub bad : (body : List ℕ) (gate : ℕ) (more : List ℕ) → length body < 2 ^ 32 → rest ≡ framed body ++ gate ∷ more → AreWithinLimits (good ++ body ∷ []) → ⊥
 
 -- the records of the file are these and so many of the new ones
-pub record HasFront (bodies new : List (List ℕ)) (file : List ℕ) : Type 0 where
+pub record HasBodyFront (bodies new : List (List ℕ)) (file : List ℕ) : Type 0 where
   pub count : ℕ
   pub is : IsFileOf file (bodies ++ take count new)
 
 -- Of the new records those before the failing one were kept, and each image of the disk has these, or these and the failing one.
-pub record IsCutShort (bodies new kept : List (List ℕ)) (told : Type 0) (images : List ℕ → Type 0) : Type 0 where
+pub record AreBodiesCutShort (bodies new kept : List (List ℕ)) (told : Type 0) (images : List ℕ → Type 0) : Type 0 where
   pub count : ℕ
   pub fewer : count < length new
   pub front : kept ≡ bodies ++ take count new
@@ -66,10 +66,10 @@ PassesLimit bodies records bytes full_of.Bytes number = (number ≡ 1 + length (
 PassesLimit bodies records bytes full_of.Writers number = ⊥
 
 -- They pass none.
-pub record HasRoom (bodies : List (List ℕ)) (records bytes : ℕ) : Type 0 where
+pub record FitsFile (bodies : List (List ℕ)) (records bytes : ℕ) : Type 0 where
   pub records_fit : length bodies + records ≤ MOST_RECORDS
   pub bytes_fit : 1 + length (blocks bodies) + bytes ≤ MOST_JOURNAL
 
 -- What a stop in a start may leave: what it might have left before, or, of a file of at most one byte, another one.
-abbrev pub StartLeaves : (List ℕ → Type 0) → List ℕ → List ℕ → Type 0
-StartLeaves before file image = before image ⊎ ((length file ≤ 1) × (length image ≤ 1))
+abbrev pub StartLeavesFile : (List ℕ → Type 0) → List ℕ → List ℕ → Type 0
+StartLeavesFile before file image = before image ⊎ ((length file ≤ 1) × (length image ≤ 1))

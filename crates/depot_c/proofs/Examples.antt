@@ -5,7 +5,7 @@ use Rattle.depot_feeds.specs.declared.feed_error.FeedError.TheVariants as feed_e
 use Rattle.depot_node.specs.declared.start_error.StartError.TheVariants as start_error
 use Rattle.depot_gossip.specs.declared.bundle_error.BundleError.TheVariants as bundle_error
 use Rattle.depot_c.specs.Asked.{asked_by}
-use Rattle.depot_c.specs.Refusals.{number_of, outcome_of}
+use Rattle.depot_c.specs.Refusals.{number_of, refusal_outcome}
 use Rattle.depot_c.specs.NodeViews.{for_disk}
 use Rattle.depot_c.specs.declared.ask.Ask.TheVariants as ask
 use Rattle.depot_c.specs.declared.ask.NodeAsk.TheVariants as node_ask
@@ -32,5 +32,5 @@ a_start_fails = refl
 a_limit_is_no_failure : for_disk (refused.Bundle (bundle_error.Spent 16)) ≡ false
 a_limit_is_no_failure = refl
 
-a_status : number_of (outcome_of (refused.Start (start_error.Damaged 120))) ≡ 9
+a_status : number_of (refusal_outcome (refused.Start (start_error.Damaged 120))) ≡ 9
 a_status = refl

@@ -16,7 +16,7 @@ use Rattle.depot_model.specs.Journal.{accepted, held_as, seen_as, seen_under}
 use Rattle.depot_model.specs.Lists.{IsIn}
 use Rattle.depot_model.specs.Order.{AreLatestIn}
 use Rattle.depot_local.specs.ShownValues.{value_seen}
-use Rattle.depot_c.specs.NodeViews.{HasLatest, IsItemAt, IsText, Reading, NodeView, CallAnswer, seen_by, shown_value}
+use Rattle.depot_c.specs.NodeViews.{HasLatest, IsPlaceOfShown, IsAnswerText, Reading, NodeView, CallAnswer, sighting_of_write, sighting_of_value}
 use Rattle.depot_c.specs.declared.answer.Answer.TheVariants as answer
 use Rattle.depot_c.specs.declared.refused.Refused.TheVariants as refused
 
@@ -44,7 +44,7 @@ at_items us (n ∷ items) (suc place) d all inside =
     ap (λ (o : Option Update). slice_get (option_to_list o ++ updates_at us items) (suc place)) r.1 ∙ at_items us items place d (behind (length us) n items all) (omega (arith, inside))
 
 -- an item of them is the place of an update
-pub item_is : (s : NodeView) (key items : List ℕ) (place : ℕ) (d : ℕ) → AreLatestIn key (accepted s.records) (updates_at (accepted s.records) items) → All (λ i. i < length (accepted s.records)) items → place < length items → IsItemAt s key place (Some (get_or items place d))
+pub item_is : (s : NodeView) (key items : List ℕ) (place : ℕ) (d : ℕ) → AreLatestIn key (accepted s.records) (updates_at (accepted s.records) items) → All (λ i. i < length (accepted s.records)) items → place < length items → IsPlaceOfShown s key place (Some (get_or items place d))
 item_is s key items place d are all inside =
     let us = accepted s.records in
     let r = at_place us (get_or items place d) (all place d inside) in
@@ -68,12 +68,12 @@ stands_in [] place u at = absurd cc
 stands_in (x ∷ us) zero u at = inl cc
 stands_in (x ∷ us) (suc place) u at = inr (stands_in us place u at)
 
-pub item_writes : (s : NodeView) (key : List ℕ) (place item : ℕ) → IsItemAt s key place (Some item) → (u : Update) → slice_get (accepted s.records) item ≡ Some u → Writes key u
+pub item_writes : (s : NodeView) (key : List ℕ) (place item : ℕ) → IsPlaceOfShown s key place (Some item) → (u : Update) → slice_get (accepted s.records) item ≡ Some u → Writes key u
 item_writes s key place item is u at =
     subst (Writes key) (one_update is.update u (sym is.shows ∙ at)) (is.are.only is.update (stands_in is.latest place is.update is.at)).writes
 
 -- what is told of a write is what a read tells
-told_text : (P : CallAnswer → Type 0) (text : List ℕ) (told : CallAnswer) → IsText text told → P (Ok (answer.Text text)) → P (Err refused.Memory) → P told
+told_text : (P : CallAnswer → Type 0) (text : List ℕ) (told : CallAnswer) → IsAnswerText text told → P (Ok (answer.Text text)) → P (Err refused.Memory) → P told
 told_text P text (Ok (answer.Text t)) is one other = subst (λ (t : List ℕ). P (Ok (answer.Text t))) (sym is) one
 told_text P text (Err refused.Memory) is one other = other
 told_text P text (Ok answer.Nothing) is one other = absurd is
@@ -90,20 +90,20 @@ told_text P text (Err (refused.Put e)) is one other = absurd is
 told_text P text (Err (refused.Bundle e)) is one other = absurd is
 told_text P text (Err (refused.Feed e)) is one other = absurd is
 
-pub read_so : (s : NodeView) (key : List ℕ) (place item : ℕ) (u : Update) (seen : Sighting) (told : CallAnswer) → IsItemAt s key place (Some item) → slice_get (accepted s.records) item ≡ Some u → seen ≡ seen_under s.records key u
-    → IsText (text_of_write (record { update = u; seen = seen })) told → Reading s key place told
+pub read_so : (s : NodeView) (key : List ℕ) (place item : ℕ) (u : Update) (seen : Sighting) (told : CallAnswer) → IsPlaceOfShown s key place (Some item) → slice_get (accepted s.records) item ≡ Some u → seen ≡ seen_under s.records key u
+    → IsAnswerText (text_of_write (record { update = u; seen = seen })) told → Reading s key place told
 read_so s key place item u seen told is at shown text =
     let same : is.update ≡ u = one_update is.update u (sym is.shows ∙ at) in
     told_text (Reading s key place) (text_of_write (record { update = u; seen = seen })) told text
     (record { latest = is.latest; are = is.are; update = u; at = is.at ∙ ap (λ (x : Update). some_update x) same; shows = ap (λ (o : Sighting). text_of_write (record { update = u; seen = o })) shown }) tt
 
 -- of a value it is the one that is held, or that none is
-by_value : (o value : Option (List ℕ)) → value ≡ value_seen (option_map_or held_value o not_held) → shown_value value ≡ option_map_or held_value o not_held
-by_value None value e = ap shown_value e
-by_value (Some v) value e = ap shown_value e
+by_value : (o value : Option (List ℕ)) → value ≡ value_seen (option_map_or held_value o not_held) → sighting_of_value value ≡ option_map_or held_value o not_held
+by_value None value e = ap sighting_of_value e
+by_value (Some v) value e = ap sighting_of_value e
 
 -- what is shown of a write is what the journal shows
-pub seen_so : (J : List Record) (key : List ℕ) (u : Update) (wrote : Option Wrote) (value : Option (List ℕ)) → wrote_under key u.writes ≡ wrote → value ≡ value_seen (seen_under J key u) → seen_by wrote value ≡ seen_under J key u
+pub seen_so : (J : List Record) (key : List ℕ) (u : Update) (wrote : Option Wrote) (value : Option (List ℕ)) → wrote_under key u.writes ≡ wrote → value ≡ value_seen (seen_under J key u) → sighting_of_write wrote value ≡ seen_under J key u
 unfolding seen_under
 seen_so J key u None value is e = sym (ap (λ (o : Option Wrote). option_map_or (seen_as J) o not_held) is)
 seen_so J key u (Some Gone) value is e = sym (ap (λ (o : Option Wrote). option_map_or (seen_as J) o not_held) is)

@@ -5,12 +5,12 @@ use Rattle.depot_c.specs.declared.answer.Answer.{Answer}
 use Rattle.depot_c.specs.declared.answer.Answer.TheVariants as answer
 
 -- its bytes: the text, the stream of the bundle, or the id of the update that was put
-abbrev pub bytes_of : Answer → List ℕ
-bytes_of (answer.Text text) = text
-bytes_of (answer.Put done) = done.id
-bytes_of (answer.Bundle bundled) = bundled.bytes
-bytes_of answer.Nothing = []
-bytes_of (answer.Number n) = []
+abbrev pub answer_bytes : Answer → List ℕ
+answer_bytes (answer.Text text) = text
+answer_bytes (answer.Put done) = done.id
+answer_bytes (answer.Bundle bundled) = bundled.bytes
+answer_bytes answer.Nothing = []
+answer_bytes (answer.Number n) = []
 
 -- its number: the one that it is, or the clock of the update that was put
 abbrev pub number_in : Answer → ℕ

@@ -5,8 +5,8 @@ use Rattle.depot_c.specs.declared.ask.Ask.TheVariants as ask
 use Rattle.depot_c.specs.declared.ask.NodeAsk.TheVariants as node_ask
 
 -- what the numbers from 0 on ask, as include/depot.h has them
-abbrev pub operations : List (Option Ask)
-operations =
+abbrev pub asked_operations : List (Option Ask)
+asked_operations =
     Some ask.Length
     ∷ Some ask.Roster
     ∷ Some ask.Key
@@ -31,4 +31,4 @@ operations =
     ∷ []
 
 abbrev pub asked_by : ℕ → Option Ask
-asked_by op = get_or operations op None
+asked_by op = get_or asked_operations op None

@@ -7,7 +7,7 @@ use Rattle.depot_answers.specs.AnswerTexts.{text_of_refused, text_of_report}
 use Rattle.depot_answers.specs.Closings.{closing_of}
 use Rattle.depot_answers.specs.declared.exchange_answers.Closing.{Closing}
 use Rattle.depot_answers.specs.declared.exchange_answers.Closing.TheVariants as closing
-use Rattle.depot_feeds.specs.Pieces.{Feeds, Stream, at_work, no_stream, told_of}
+use Rattle.depot_feeds.specs.Pieces.{Feeds, Stream, at_work, no_stream, report_of_stream}
 use Rattle.depot_feeds.specs.declared.feed_error.FeedError.{FeedError}
 use Rattle.depot_feeds.specs.declared.feed_error.FeedError.TheVariants as feed_error
 use Rattle.depot_model.specs.Bundle.{Signs}
@@ -17,9 +17,9 @@ use Rattle.depot_model.specs.Winternitz.{winternitz_signature, winternitz_verifi
 use Rattle.depot_model.specs.declared.bundle.Refusal.{Refusal}
 use Rattle.depot_model.specs.declared.bundle.Report.{Report}
 use Rattle.depot_winter.specs.TreeSigning.{key_of_seed}
-use Rattle.depot_c.specs.NodeViews.{IsText, RunsOn, NodeView, Stays, CallAnswer}
+use Rattle.depot_c.specs.NodeViews.{IsAnswerText, RunsOn, NodeView, Stays, CallAnswer}
 use Rattle.depot_c.specs.Serving.{AsksNode}
-use Rattle.depot_c.specs.Starts.{IsNodeNumber, IsRefusedOn, IsStartedOn}
+use Rattle.depot_c.specs.Starts.{IsNodeNumber, IsRefusedOn, IsViewStarted}
 use Rattle.depot_c.specs.declared.answer.Answer.TheVariants as answer
 use Rattle.depot_c.specs.declared.ask.Ask.{Ask}
 use Rattle.depot_c.specs.declared.ask.Ask.TheVariants as ask
@@ -28,15 +28,15 @@ use Rattle.depot_c.specs.declared.refused.Refused.{Refused}
 use Rattle.depot_c.specs.declared.refused.Refused.TheVariants as refused
 
 -- a signer that is kept: its key, and what it gives
-pub record Kept : Type 0 where
+pub record KeptSigner : Type 0 where
   pub key : PublicKey
   pub sign : Signs
 
 -- what is seen of a handle
-pub record View : Type 0 where
+pub record HandleView : Type 0 where
   -- the roster and the signer that a start goes by
   pub listed : Option (List RosterEntry)
-  pub kept : Option Kept
+  pub kept : Option KeptSigner
   -- the node
   pub node_view : Option NodeView
   -- the stream that is fed to it, and why it was closed, where the program's lines say why
@@ -45,13 +45,13 @@ pub record View : Type 0 where
   -- what became of the stream that ended last
   pub report : Option Report
 
-abbrev pub nothing_kept : View
+abbrev pub nothing_kept : HandleView
 nothing_kept = record { listed = None; kept = None; node_view = None; feed = None; closing = None; report = None }
 
 -- ---- rosters and keys
 
 -- Keeps the roster of a text. Where the text is none, the handle is as before, with the roster from before.
-abbrev pub KeepsRoster : List ℕ → View → CallAnswer → View → Type 0
+abbrev pub KeepsRoster : List ℕ → HandleView → CallAnswer → HandleView → Type 0
 KeepsRoster text v (Ok answer.Nothing) w = (listed : List RosterEntry) × (ParsesRoster text (Ok listed) × (w ≡ record v { listed = Some listed }))
 KeepsRoster text v (Err (refused.Roster e)) w = ParsesRoster text (Err e) × (w ≡ v)
 KeepsRoster text v other w = ⊥
@@ -61,13 +61,13 @@ abbrev pub IsSeed : ℕ → List ℕ → Type 0
 IsSeed height seed = (length seed ≡ 32) × ((LEAST_HEIGHT ≤ height) × (height ≤ GREATEST_HEIGHT))
 
 -- the signer of a seed and a height
-abbrev pub kept_of : ℕ → List ℕ → Kept
-kept_of height seed = record { key = key_of_seed seed height; sign = winternitz_signature seed height }
+abbrev pub signer_of_seed : ℕ → List ℕ → KeptSigner
+signer_of_seed height seed = record { key = key_of_seed seed height; sign = winternitz_signature seed height }
 
 -- Makes the key and keeps its signer. Input comes exactly where there is none, and then, as where no memory is found, the handle is
 -- as before.
-abbrev pub KeepsKey : ℕ → List ℕ → View → CallAnswer → View → Type 0
-KeepsKey height seed v (Ok answer.Nothing) w = IsSeed height seed × (w ≡ record v { kept = Some (kept_of height seed) })
+abbrev pub KeepsKey : ℕ → List ℕ → HandleView → CallAnswer → HandleView → Type 0
+KeepsKey height seed v (Ok answer.Nothing) w = IsSeed height seed × (w ≡ record v { kept = Some (signer_of_seed height seed) })
 KeepsKey height seed v (Err refused.Input) w = (IsSeed height seed → ⊥) × (w ≡ v)
 KeepsKey height seed v (Err refused.Memory) w = IsSeed height seed × (w ≡ v)
 KeepsKey height seed v other w = ⊥
@@ -81,31 +81,31 @@ SignerGiven seed height key sign (Err other) = ⊥
 -- ---- starts
 
 -- The node of this number stands now, by the roster and the signer that are kept, which stay.
-pub record HasStarted (n : ℕ) (file : List ℕ) (v w : View) : Type 0 where
+pub record HasStarted (n : ℕ) (file : List ℕ) (v w : HandleView) : Type 0 where
   pub listed : List RosterEntry
   pub roster : v.listed ≡ Some listed
-  pub kept : Kept
+  pub kept : KeptSigner
   pub signer : v.kept ≡ Some kept
   pub free : v.node_view ≡ None
   pub node_view : NodeView
-  pub started : IsStartedOn (record { verifies = winternitz_verifies; me = n; listed = listed }) kept.key kept.sign file node_view
+  pub started : IsViewStarted (record { verifies = winternitz_verifies; me = n; listed = listed }) kept.key kept.sign file node_view
   pub is : w ≡ record v { node_view = Some node_view }
 
 -- No node is started, for this. The roster and the signer stay.
-pub record HasNotStarted (n : ℕ) (file : List ℕ) (v : View) (r : Refused) : Type 0 where
+pub record HasNotStarted (n : ℕ) (file : List ℕ) (v : HandleView) (r : Refused) : Type 0 where
   pub listed : List RosterEntry
   pub roster : v.listed ≡ Some listed
-  pub kept : Kept
+  pub kept : KeptSigner
   pub signer : v.kept ≡ Some kept
   pub refused : IsRefusedOn (record { verifies = winternitz_verifies; me = n; listed = listed }) kept.key file r
 
 -- whether a node can be started: there are a roster and a signer, and no node yet
-abbrev pub is_ready : View → Bool
+abbrev pub is_ready : HandleView → Bool
 is_ready v = is_none v.node_view && (is_some v.listed && is_some v.kept)
 
 -- Starts a node from the bytes of a journal's file. Input comes exactly where the number is no node's, and then Order exactly where
 -- there is no roster, no key, or a node already; then the handle is as before, and so it is where no memory is found.
-abbrev pub Starts : ℕ → List ℕ → View → CallAnswer → View → Type 0
+abbrev pub Starts : ℕ → List ℕ → HandleView → CallAnswer → HandleView → Type 0
 Starts n file v (Ok answer.Nothing) w = HasStarted n file v w
 Starts n file v (Err (refused.Start e)) w = HasNotStarted n file v (refused.Start e) × (w ≡ v)
 Starts n file v (Err refused.Input) w = (IsNodeNumber n → ⊥) × (w ≡ v)
@@ -114,10 +114,10 @@ Starts n file v (Err refused.Memory) w = IsNodeNumber n × ((is_ready v ≡ true
 Starts n file v other w = ⊥
 
 -- The node ends, and with it the stream that is fed to it. The roster and the signer stay.
-abbrev pub Ends : View → CallAnswer → View → Type 0
-Ends v (Ok answer.Nothing) w = (is_none v.node_view ≡ false) × (w ≡ record v { node_view = None; feed = None; closing = None })
-Ends v (Err refused.Order) w = (v.node_view ≡ None) × (w ≡ v)
-Ends v other w = ⊥
+abbrev pub NodeEnds : HandleView → CallAnswer → HandleView → Type 0
+NodeEnds v (Ok answer.Nothing) w = (is_none v.node_view ≡ false) × (w ≡ record v { node_view = None; feed = None; closing = None })
+NodeEnds v (Err refused.Order) w = (v.node_view ≡ None) × (w ≡ v)
+NodeEnds v other w = ⊥
 
 -- ---- streams
 
@@ -146,28 +146,28 @@ AtNodeViews None t P = ⊥
 AtNodeViews (Some s) None P = ⊥
 
 -- all is as it was but the node
-abbrev pub IsSameButNode : View → View → Type 0
+abbrev pub IsSameButNode : HandleView → HandleView → Type 0
 IsSameButNode v w = w ≡ record v { node_view = w.node_view }
 
 -- a feed is taken out that is open, or a new one
-abbrev pub TakesFeed : View → Result Stream Refused → View → Type 0
+abbrev pub TakesFeed : HandleView → Result Stream Refused → HandleView → Type 0
 TakesFeed v (Ok f) w = (f ≡ stream_in v.feed) × ((f.closed ≡ false) × (w ≡ record v { feed = None }))
 TakesFeed v (Err refused.Memory) w = w ≡ v
 TakesFeed v (Err refused.Order) w = ((stream_in v.feed).closed ≡ true) × (w ≡ v)
 TakesFeed v (Err other) w = ⊥
 
 -- a piece goes to a feed and to the node
-abbrev pub FeedsNode : View → Stream → List ℕ → Result (Unit {0}) FeedError → Stream → View → Type 0
+abbrev pub FeedsNode : HandleView → Stream → List ℕ → Result (Unit {0}) FeedError → Stream → HandleView → Type 0
 FeedsNode v f piece fed g w = IsSameButNode v w × AtNodeViews v.node_view w.node_view (λ s t. Stays s t × (RunsOn s (fed_as fed) t × Feeds s.here (at_work f s.records) piece fed g t.records))
 
 -- The feed and the node after a piece.
-pub record HasFed (piece : List ℕ) (v : View) (fed : Result (Unit {0}) FeedError) (closing : Option Closing) (w : View) : Type 0 where
+pub record HasFed (piece : List ℕ) (v : HandleView) (fed : Result (Unit {0}) FeedError) (closing : Option Closing) (w : HandleView) : Type 0 where
   pub stream : Stream
   pub nodes : AtNodeViews v.node_view w.node_view (λ s t. Stays s t × (RunsOn s (fed_as fed) t × Feeds s.here (at_work (stream_in v.feed) s.records) piece fed stream t.records))
   pub is : w ≡ record v { node_view = w.node_view; feed = Some stream; closing = closing }
 
 -- A piece of a stream is fed. Order comes where there is no node, and where the stream was closed: it has to be ended first.
-abbrev pub FeedsHandle : List ℕ → View → CallAnswer → View → Type 0
+abbrev pub FeedsHandle : List ℕ → HandleView → CallAnswer → HandleView → Type 0
 FeedsHandle piece v (Ok answer.Nothing) w = HasFed piece v (Ok tt) v.closing w
 FeedsHandle piece v (Err (refused.Feed e)) w = HasFed piece v (Err e) (closing_by e) w
 FeedsHandle piece v (Err refused.Memory) w = w ≡ v
@@ -176,14 +176,14 @@ FeedsHandle piece v other w = ⊥
 
 -- what became of a stream, in the words of the program's lines: whatever feeding has this report and was closed for this
 abbrev pub IsReport : Report → Option Closing → CallAnswer → Type 0
-IsReport report closing told = (s : Feeding) → report_of s ≡ report → s.closed ≡ closing_of closing → IsText (text_of_report s) told
+IsReport report closing told = (s : Feeding) → report_of s ≡ report → s.closed ≡ closing_of closing → IsAnswerText (text_of_report s) told
 
 -- The stream ends, and is told.
-abbrev pub EndsStream : Option Stream → View → CallAnswer → View → Type 0
+abbrev pub EndsStream : Option Stream → HandleView → CallAnswer → HandleView → Type 0
 EndsStream None v told w = (told ≡ Err refused.Order) × (w ≡ v)
-EndsStream (Some f) v told w = IsReport (told_of f) v.closing told × (w ≡ record v { feed = None; closing = None; report = Some (told_of f) })
+EndsStream (Some f) v told w = IsReport (report_of_stream f) v.closing told × (w ≡ record v { feed = None; closing = None; report = Some (report_of_stream f) })
 
-abbrev pub EndsFeed : View → CallAnswer → View → Type 0
+abbrev pub EndsFeed : HandleView → CallAnswer → HandleView → Type 0
 EndsFeed v told w = EndsStream v.feed v told w
 
 -- a refused frame, by its place among them, from 0
@@ -197,7 +197,7 @@ abbrev pub ShowsFrame : Option Report → ℕ → CallAnswer → Type 0
 ShowsFrame None place told = told ≡ Err refused.Order
 ShowsFrame (Some report) place told = IsRefusedFrame report place told
 
-abbrev pub ShowsRefusal : ℕ → View → CallAnswer → Type 0
+abbrev pub ShowsRefusal : ℕ → HandleView → CallAnswer → Type 0
 ShowsRefusal place v told = ShowsFrame v.report place told
 
 -- ---- the node
@@ -208,17 +208,17 @@ AsksNodeView a n input None told t = (told ≡ Err refused.Order) × (t ≡ None
 AsksNodeView a n input (Some s) told (Some t) = Stays s t × (RunsOn s told t × AsksNode a n input s told t)
 AsksNodeView a n input (Some s) told None = ⊥
 
-abbrev pub AsksHandle : NodeAsk → ℕ → List ℕ → View → CallAnswer → View → Type 0
+abbrev pub AsksHandle : NodeAsk → ℕ → List ℕ → HandleView → CallAnswer → HandleView → Type 0
 AsksHandle a n input v told w = IsSameButNode v w × AsksNodeView a n input v.node_view told w.node_view
 
 -- ---- all of it
 
 -- What a handle answers, and what it is then.
-abbrev pub Does : Ask → ℕ → List ℕ → View → CallAnswer → View → Type 0
+abbrev pub Does : Ask → ℕ → List ℕ → HandleView → CallAnswer → HandleView → Type 0
 Does ask.Roster n input v told w = KeepsRoster input v told w
 Does ask.Key n input v told w = KeepsKey n input v told w
 Does ask.Start n input v told w = Starts n input v told w
-Does ask.End n input v told w = Ends v told w
+Does ask.End n input v told w = NodeEnds v told w
 Does ask.Feed n input v told w = FeedsHandle input v told w
 Does ask.FeedEnd n input v told w = EndsFeed v told w
 Does ask.Refusal n input v told w = ShowsRefusal n v told × (w ≡ v)

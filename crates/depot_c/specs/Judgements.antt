@@ -2,7 +2,6 @@
 use Rattle.std.specs.Prelude.{◌≡◌, ◌≢◌, ℕ, List, [], ◌∷◌, Err}
 use Rattle.depot_base.specs.Membership.{IsIn}
 use Rattle.depot_base.specs.declared.proof.Kind.{Kind}
-use Rattle.depot_base.specs.declared.proof.Kind.TheVariants as kind
 use Rattle.depot_base.specs.declared.key.RosterEntry.{RosterEntry}
 use Rattle.depot_model.specs.declared.roster_format.RosterError.{RosterError}
 use Rattle.depot_model.specs.declared.roster_format.RosterError.TheVariants as roster_error
@@ -11,15 +10,8 @@ use Rattle.depot_model.specs.declared.judgement.JudgeError.TheVariants as point
 use Rattle.depot_model.specs.Conviction.{Convicts}
 use Rattle.depot_model.specs.Judgement.{IsJudgementOf}
 use Rattle.depot_model.specs.RosterText.{ParsesRoster}
-use Rattle.depot_model.specs.Texts.{IsRoster, text_of_roster}
+use Rattle.depot_model.specs.Texts.{IsRoster, number_of_kind, text_of_roster}
 use Rattle.depot_model.specs.Winternitz.{winternitz_verifies}
-
--- the number of a kind, as texts of proofs have it
-abbrev pub number_of_kind : Kind → ℕ
-number_of_kind kind.SameNumber = 1
-number_of_kind kind.SamePrev = 2
-number_of_kind kind.Backward = 3
-number_of_kind kind.NotUpdate = 4
 
 -- The texts are those of a roster and of a proof that convicts its node of this number in the kind of this number.
 pub record IsConvicted (roster proof : List ℕ) (node kind : ℕ) : Type 0 where
@@ -31,7 +23,7 @@ pub record IsConvicted (roster proof : List ℕ) (node kind : ℕ) : Type 0 wher
   pub convicts : Convicts winternitz_verifies listed proof (record { node = node; kind = named })
 
 -- The first text is no roster's, for this.
-pub record IsNoRoster (roster : List ℕ) : Type 0 where
+pub record IsRosterRefused (roster : List ℕ) : Type 0 where
   pub cause : RosterError
   pub told : cause ≢ roster_error.Memory
   pub refused : ParsesRoster roster (Err cause)

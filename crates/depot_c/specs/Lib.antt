@@ -5,5 +5,6 @@ pub mod Handles
 pub mod Judgements
 pub mod Refusals
 pub mod NodeViews
+pub mod Served
 pub mod Serving
 pub mod Starts

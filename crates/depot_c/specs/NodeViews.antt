@@ -50,21 +50,21 @@ abbrev pub CallAnswer : Type 0
 CallAnswer = Result Answer Refused
 
 -- the answer is this text, unless no memory was found
-abbrev pub IsText : List ℕ → CallAnswer → Type 0
-IsText text (Ok (answer.Text told)) = told ≡ text
-IsText text (Err refused.Memory) = Unit {0}
-IsText text other = ⊥
+abbrev pub IsAnswerText : List ℕ → CallAnswer → Type 0
+IsAnswerText text (Ok (answer.Text told)) = told ≡ text
+IsAnswerText text (Err refused.Memory) = Unit {0}
+IsAnswerText text other = ⊥
 
 -- what is shown of a value that is held, if one is
-abbrev pub shown_value : Option (List ℕ) → Sighting
-shown_value (Some v) = held_value v
-shown_value None = not_held
+abbrev pub sighting_of_value : Option (List ℕ) → Sighting
+sighting_of_value (Some v) = held_value v
+sighting_of_value None = not_held
 
 -- what is shown of a write: a deletion, or this value that is held, if one is
-abbrev pub seen_by : Option Wrote → Option (List ℕ) → Sighting
-seen_by None value = not_held
-seen_by (Some Gone) value = gone
-seen_by (Some (Put hash size)) value = shown_value value
+abbrev pub sighting_of_write : Option Wrote → Option (List ℕ) → Sighting
+sighting_of_write None value = not_held
+sighting_of_write (Some Gone) value = gone
+sighting_of_write (Some (Put hash size)) value = sighting_of_value value
 
 -- The node is who it was.
 pub record Stays (s t : NodeView) : Type 0 where
@@ -126,9 +126,9 @@ pub record HasLatest (s : NodeView) (key : List ℕ) (most : ℕ) : Type 0 where
   pub few : length latest ≤ most
 
 -- the place of the update at this place of the key's latest writes, among the accepted updates
-abbrev pub IsItemAt : NodeView → List ℕ → ℕ → Option ℕ → Type 0
-IsItemAt s key place (Some item) = IsLatestAt s key place (λ u. slice_get (accepted s.records) item ≡ Some u)
-IsItemAt s key place None = HasLatest s key place
+abbrev pub IsPlaceOfShown : NodeView → List ℕ → ℕ → Option ℕ → Type 0
+IsPlaceOfShown s key place (Some item) = IsLatestAt s key place (λ u. slice_get (accepted s.records) item ≡ Some u)
+IsPlaceOfShown s key place None = HasLatest s key place
 
 -- What a read of a key answers for a place of its latest writes: the write in the words of the program's lines.
 abbrev pub Reading : NodeView → List ℕ → ℕ → CallAnswer → Type 0

@@ -13,15 +13,15 @@ use Rattle.depot_node.specs.declared.start_error.StartError.{StartError}
 use Rattle.depot_node.specs.declared.start_error.StartError.TheVariants as start_error
 use Rattle.depot_gossip.specs.declared.bundle_error.BundleError.{BundleError}
 use Rattle.depot_gossip.specs.declared.bundle_error.BundleError.TheVariants as bundle_error
-use Rattle.depot_c.specs.declared.outcome.Outcome.{Outcome}
-use Rattle.depot_c.specs.declared.outcome.Outcome.TheVariants as outcome
+use Rattle.depot_c.specs.declared.outcome.CallOutcome.{CallOutcome}
+use Rattle.depot_c.specs.declared.outcome.CallOutcome.TheVariants as outcome
 use Rattle.depot_c.specs.declared.refused.Refused.{Refused}
 use Rattle.depot_c.specs.declared.refused.Refused.TheVariants as refused
 
 -- ---- outcomes
 
 -- the number of an outcome, which the caller has as a status
-abbrev pub number_of : Outcome → ℕ
+abbrev pub number_of : CallOutcome → ℕ
 number_of outcome.Done = 0
 number_of outcome.Input = 2
 number_of outcome.Disk = 4
@@ -33,11 +33,11 @@ number_of outcome.Order = 11
 number_of outcome.Stopped = 12
 number_of outcome.Absent = 13
 
-abbrev pub outcome_of_roster : RosterError → Outcome
+abbrev pub outcome_of_roster : RosterError → CallOutcome
 outcome_of_roster roster_error.Memory = outcome.Memory
 outcome_of_roster e = outcome.Input
 
-abbrev pub outcome_of_start : StartError → Outcome
+abbrev pub outcome_of_start : StartError → CallOutcome
 outcome_of_start start_error.Memory = outcome.Memory
 outcome_of_start start_error.Disk = outcome.Disk
 outcome_of_start (start_error.Damaged at) = outcome.NotLawful
@@ -47,7 +47,7 @@ outcome_of_start (start_error.OtherKey roster signer) = outcome.Identity
 outcome_of_start (start_error.OtherNode node) = outcome.Identity
 outcome_of_start (start_error.OtherRoster kept given) = outcome.Identity
 
-abbrev pub outcome_of_put : PutError → Outcome
+abbrev pub outcome_of_put : PutError → CallOutcome
 outcome_of_put put_error.Memory = outcome.Memory
 outcome_of_put put_error.Disk = outcome.Disk
 outcome_of_put put_error.Stopped = outcome.Stopped
@@ -56,7 +56,7 @@ outcome_of_put (put_error.Tips n) = outcome.Limit
 outcome_of_put (put_error.Collides id) = outcome.Limit
 outcome_of_put (put_error.Full what) = outcome.Limit
 
-abbrev pub outcome_of_bundle : BundleError → Outcome
+abbrev pub outcome_of_bundle : BundleError → CallOutcome
 outcome_of_bundle bundle_error.Memory = outcome.Memory
 outcome_of_bundle bundle_error.Disk = outcome.Disk
 outcome_of_bundle bundle_error.Stopped = outcome.Stopped
@@ -65,7 +65,7 @@ outcome_of_bundle (bundle_error.OtherRoster given mine) = outcome.Identity
 outcome_of_bundle (bundle_error.Spent n) = outcome.Limit
 outcome_of_bundle (bundle_error.Full what) = outcome.Limit
 
-abbrev pub outcome_of_feed : FeedError → Outcome
+abbrev pub outcome_of_feed : FeedError → CallOutcome
 outcome_of_feed feed_error.Memory = outcome.Memory
 outcome_of_feed feed_error.Disk = outcome.Disk
 outcome_of_feed feed_error.Stopped = outcome.Stopped
@@ -73,17 +73,17 @@ outcome_of_feed (feed_error.IllFormed at) = outcome.Input
 outcome_of_feed (feed_error.Full what) = outcome.Limit
 
 -- how a call ends that is refused for this
-abbrev pub outcome_of : Refused → Outcome
-outcome_of refused.Input = outcome.Input
-outcome_of refused.Memory = outcome.Memory
-outcome_of refused.Order = outcome.Order
-outcome_of refused.Stopped = outcome.Stopped
-outcome_of refused.Absent = outcome.Absent
-outcome_of (refused.Roster e) = outcome_of_roster e
-outcome_of (refused.Start e) = outcome_of_start e
-outcome_of (refused.Put e) = outcome_of_put e
-outcome_of (refused.Bundle e) = outcome_of_bundle e
-outcome_of (refused.Feed e) = outcome_of_feed e
+abbrev pub refusal_outcome : Refused → CallOutcome
+refusal_outcome refused.Input = outcome.Input
+refusal_outcome refused.Memory = outcome.Memory
+refusal_outcome refused.Order = outcome.Order
+refusal_outcome refused.Stopped = outcome.Stopped
+refusal_outcome refused.Absent = outcome.Absent
+refusal_outcome (refused.Roster e) = outcome_of_roster e
+refusal_outcome (refused.Start e) = outcome_of_start e
+refusal_outcome (refused.Put e) = outcome_of_put e
+refusal_outcome (refused.Bundle e) = outcome_of_bundle e
+refusal_outcome (refused.Feed e) = outcome_of_feed e
 
 -- ---- words
 

@@ -20,7 +20,7 @@ NodeGiven n (Err refused.Input) = IsNodeNumber n → ⊥
 NodeGiven n (Err other) = ⊥
 
 -- The node that was started stands there, by this signer, with the journal of the file; of a file without records, with its birth.
-pub record IsStartedOn (here : Setting) (key : PublicKey) (sign : Signs) (file : List ℕ) (s : NodeView) : Type 0 where
+pub record IsViewStarted (here : Setting) (key : PublicKey) (sign : Signs) (file : List ℕ) (s : NodeView) : Type 0 where
   pub stands : s.here ≡ here
   pub keyed : key_of here.listed here.me ≡ Some key
   pub signs : s.sign ≡ sign
@@ -29,7 +29,7 @@ pub record IsStartedOn (here : Setting) (key : PublicKey) (sign : Signs) (file :
 
 -- the same, where the key and the signatures are those of a signer
 abbrev pub IsStartedBy : {G O : Type 0} → signer.Ghosts G O → Setting → G → List ℕ → NodeView → Type 0
-IsStartedBy g here by file s = IsStartedOn here (g.key_of by) (g.signature_of by) file s
+IsStartedBy g here by file s = IsViewStarted here (g.key_of by) (g.signature_of by) file s
 
 -- no node is started, for this
 abbrev pub IsRefusedOn : Setting → PublicKey → List ℕ → Refused → Type 0

@@ -1,6 +1,6 @@
 //! What a call answers.
 ghost use Rattle.std.specs.Prelude.{◌≡◌};
-ghost use Rattle.depot_c.specs.Answering.{bytes_of, number_in, seq_in, tally_in, tally_of};
+ghost use Rattle.depot_c.specs.Answering.{answer_bytes, number_in, seq_in, tally_in, tally_of};
 
 use depot_base::Bytes;
 use depot_gossip::Bundled;
@@ -24,7 +24,7 @@ pub enum Answer {
 impl Answer {
     /// Its bytes: the text, the stream of the bundle, or the id of the update that was put.
     pub fn bytes(&self) -> &[u8]
-        ensures { result.now ≡ bytes_of self.now }
+        ensures { result.now ≡ answer_bytes self.now }
     {
         match self {
             Answer::Text(text) => text.as_slice(),

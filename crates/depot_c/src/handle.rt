@@ -1,7 +1,7 @@
 //! All that a handle keeps, and what it does when it is asked.
 ghost use Rattle.std.specs.Prelude.{◌≡◌, option_map, is_none, false, Some, None};
-ghost use Rattle.depot_c.specs.Handles.{AsksHandle, Does, Ends, EndsFeed, FeedsHandle, FeedsNode, IsRefusedFrame, IsReport, KeepsKey, KeepsRoster, ShowsRefusal, SignerGiven, Starts, TakesFeed, View, closing_by};
-ghost use Rattle.depot_c.specs.Calls.{IsFresh, answered};
+ghost use Rattle.depot_c.specs.Handles.{AsksHandle, Does, NodeEnds, EndsFeed, FeedsHandle, FeedsNode, IsRefusedFrame, IsReport, KeepsKey, KeepsRoster, ShowsRefusal, SignerGiven, Starts, TakesFeed, HandleView, closing_by};
+ghost use Rattle.depot_c.specs.Calls.{IsNewHandle, kept_answer};
 
 use crate::answer::Answer;
 use crate::ask::{Ask, NodeAsk};
@@ -35,7 +35,7 @@ pub struct Handle {
 /// What contracts see of a handle.
 pub trait Viewed {
     /// What it keeps.
-    ghost view_of: { Self → View };
+    ghost view_of: { Self → HandleView };
 }
 
 impl Viewed for Handle {
@@ -51,7 +51,7 @@ impl Viewed for Handle {
 
 /// A handle of nothing. It takes no memory.
 pub fn fresh(alloc: Global) -> Handle
-    ensures { IsFresh (⟦<Handle as Viewed>⟧.view_of result) (answered result) }
+    ensures { IsNewHandle (⟦<Handle as Viewed>⟧.view_of result) (kept_answer result) }
 {
     Handle {
         alloc,
@@ -96,7 +96,11 @@ fn signer_of(alloc: Global, seed: &[u8], height: u64) -> Result<SharedSigner, Re
 }
 
 /// What became of the frames of a stream, in words.
-fn told_of(alloc: Global, told: &Report, closing: Option<Closing>) -> Result<Answer, Refused>
+fn answer_of_report(
+    alloc: Global,
+    told: &Report,
+    closing: Option<Closing>,
+) -> Result<Answer, Refused>
     ensures { IsReport told.now closing result }
 {
     let mut line = Bytes::new(alloc);
@@ -175,7 +179,7 @@ impl Handle {
 
     /// Ends the node, and with it a stream that is fed to it.
     fn end(&mut self) -> Result<Answer, Refused>
-        ensures { Ends (⟦<Handle as Viewed>⟧.view_of self.old) result (⟦<Handle as Viewed>⟧.view_of self.new) }
+        ensures { NodeEnds (⟦<Handle as Viewed>⟧.view_of self.old) result (⟦<Handle as Viewed>⟧.view_of self.new) }
     {
         if self.is_free() {
             return Err(Refused::Order);
@@ -244,7 +248,7 @@ impl Handle {
             return Err(Refused::Order);
         };
         let told = feed.end();
-        let answer = told_of(self.alloc, &told, self.closing);
+        let answer = answer_of_report(self.alloc, &told, self.closing);
         self.closing = None;
         self.report = Some(told);
         answer

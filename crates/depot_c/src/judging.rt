@@ -1,6 +1,7 @@
 //! Proofs of misbehaviour, judged for a caller in C.
 ghost use Rattle.std.specs.Prelude.{◌≡◌, ◌≢◌};
-ghost use Rattle.depot_c.specs.Judgements.{IsConvicted, IsNoRoster, IsNotConvicted, IsStatus, number_of_kind};
+ghost use Rattle.depot_model.specs.Texts.{number_of_kind};
+ghost use Rattle.depot_c.specs.Judgements.{IsConvicted, IsRosterRefused, IsNotConvicted, IsStatus};
 
 use depot_base::Kind;
 use depot_judge::{JudgeError, judge};
@@ -49,7 +50,7 @@ fn unconvicted(status: u32) -> Judged
 #[unsafe(no_mangle)]
 pub extern "C" fn depot_c_judge(alloc: Global, roster: &[u8], proof: &[u8]) -> Judged
     ensures convicted { result.status ≡ 0 → IsConvicted roster.now proof.now result.node result.kind }
-    ensures no_roster { result.status ≡ 2 → IsNoRoster roster.now }
+    ensures no_roster { result.status ≡ 2 → IsRosterRefused roster.now }
     ensures not_convicted { result.status ≡ 7 → IsNotConvicted roster.now proof.now }
     ensures status { IsStatus result.status }
     ensures nobody { result.status ≢ 0 → (result.node ≡ 0) × (result.kind ≡ 0) }

@@ -6,7 +6,7 @@
 //!
 //! - `judging` judges the text of a proof; it keeps nothing.
 //! - `exports` has the handle's exports, `serving` a call, `handle` what a handle keeps and does, `starting` its starts and
-//!   `node_calls` what it asks of a node. Contracts see a handle as a `View` and a node as a `NodeView` (specs/).
+//!   `node_calls` what it asks of a node. Contracts see a handle as a `HandleView` and a node as a `NodeView` (specs/).
 //! - `ask` has the operations, `answer` what they answer, `refused` and `outcome` why they don't, in words and as a status.
 //! - `shared_signer` is a key that serves more than one start.
 //!

@@ -3,7 +3,7 @@ ghost use Rattle.std.specs.Prelude.{◌≡◌, false, option_copied};
 ghost use Rattle.depot_base.specs.Writes.{one_change, wrote_under};
 ghost use Rattle.depot_answers.specs.AnswerTexts.{text_of_write};
 ghost use Rattle.depot_answers.specs.Sightings.{sighting_of_seen};
-ghost use Rattle.depot_c.specs.NodeViews.{Bundling, Helloing, IsItemAt, IsText, Putting, Reading, Recording, RunsOn, Stays, Valuing, seen_by, shown_value};
+ghost use Rattle.depot_c.specs.NodeViews.{Bundling, Helloing, IsPlaceOfShown, IsAnswerText, Putting, Reading, Recording, RunsOn, Stays, Valuing, sighting_of_write, sighting_of_value};
 ghost use Rattle.depot_c.specs.Serving.{AsksNode, ChangesGiven, KeyGiven, OfKey, PuttingAll, PuttingAt};
 
 use crate::answer::Answer;
@@ -16,6 +16,7 @@ use depot_base::{Bytes, Changes, Key, LengthError, Update, Value, Wrote};
 use depot_gossip::{bundle, hello};
 use depot_lines::word_readers::changes;
 use depot_lines::{Keys, LineError, Parts};
+use depot_local::LocalNode;
 use depot_model::Replica;
 use std::alloc::Global;
 
@@ -96,7 +97,7 @@ fn puts(alloc: Global, node: &mut Over, input: &[u8]) -> Result<Answer, Refused>
 
 /// A text of an answer.
 fn text(alloc: Global, bytes: &[u8]) -> Result<Answer, Refused>
-    ensures { IsText bytes.now result }
+    ensures { IsAnswerText bytes.now result }
 {
     match Bytes::from_slice(alloc, bytes) {
         Ok(text) => Ok(Answer::Text(text)),
@@ -106,7 +107,7 @@ fn text(alloc: Global, bytes: &[u8]) -> Result<Answer, Refused>
 
 /// What a read shows of an update's write of a key, of which this value is held, if one is.
 fn seen<'a>(update: &Update, key: &Key, value: Option<&'a [u8]>) -> Seen<'a>
-    ensures { sighting_of_seen result ≡ seen_by (wrote_under key.now update.now.writes) (option_copied value.entry) }
+    ensures { sighting_of_seen result ≡ sighting_of_write (wrote_under key.now update.now.writes) (option_copied value.entry) }
 {
     match update.wrote(key.bytes()) {
         Some(Wrote::Put { .. }) => held(value),
@@ -117,7 +118,7 @@ fn seen<'a>(update: &Update, key: &Key, value: Option<&'a [u8]>) -> Seen<'a>
 
 /// A value that is held, or that none is.
 fn held(value: Option<&[u8]>) -> Seen<'_>
-    ensures { sighting_of_seen result ≡ shown_value (option_copied value.entry) }
+    ensures { sighting_of_seen result ≡ sighting_of_value (option_copied value.entry) }
 {
     match value {
         Some(value) => Seen::Held(value),
@@ -127,7 +128,7 @@ fn held(value: Option<&[u8]>) -> Seen<'_>
 
 /// A write that a read shows, in words.
 fn shown(alloc: Global, update: &Update, seen: Seen<'_>) -> Result<Answer, Refused>
-    ensures { IsText (text_of_write (record { update = update.now; seen = sighting_of_seen seen.entry })) result }
+    ensures { IsAnswerText (text_of_write (record { update = update.now; seen = sighting_of_seen seen.entry })) result }
 {
     let mut line = Bytes::new(alloc);
     match write(alloc, &mut line, update, seen) {
@@ -139,7 +140,7 @@ fn shown(alloc: Global, update: &Update, seen: Seen<'_>) -> Result<Answer, Refus
 /// The item at a place of a key's latest writes.
 fn item_at(node: &Over, key: &Key, place: u64) -> Option<u32>
     requires { (⟦<Over as HasNodeView>⟧.node_view node.now).stopped ≡ false }
-    ensures { IsItemAt (⟦<Over as HasNodeView>⟧.node_view node.now) key.now place result }
+    ensures { IsPlaceOfShown (⟦<Over as HasNodeView>⟧.node_view node.now) key.now place result }
 {
     let items = node.latest(key);
     if place < items.len() as u64 {

@@ -4,7 +4,7 @@ ghost use Rattle.depot_c.specs.Refusals.{number_of};
 
 /// How a call ended: with the number that it answers.
 #[derive(Clone, Copy, Debug, PartialEq, Eq)]
-pub enum Outcome {
+pub enum CallOutcome {
     /// It did what was asked.
     Done,
     /// The input isn't in its form.
@@ -27,22 +27,22 @@ pub enum Outcome {
     Absent,
 }
 
-impl Outcome {
+impl CallOutcome {
     /// Its number: the status of the program where that has one.
     pub fn number(self) -> u64
         ensures { result ≡ number_of self }
     {
         match self {
-            Outcome::Done => 0,
-            Outcome::Input => 2,
-            Outcome::Disk => 4,
-            Outcome::Memory => 6,
-            Outcome::Limit => 8,
-            Outcome::NotLawful => 9,
-            Outcome::Identity => 10,
-            Outcome::Order => 11,
-            Outcome::Stopped => 12,
-            Outcome::Absent => 13,
+            CallOutcome::Done => 0,
+            CallOutcome::Input => 2,
+            CallOutcome::Disk => 4,
+            CallOutcome::Memory => 6,
+            CallOutcome::Limit => 8,
+            CallOutcome::NotLawful => 9,
+            CallOutcome::Identity => 10,
+            CallOutcome::Order => 11,
+            CallOutcome::Stopped => 12,
+            CallOutcome::Absent => 13,
         }
     }
 }

@@ -1,9 +1,9 @@
 //! Why a call is refused.
 ghost use Rattle.std.specs.Prelude.{◌≡◌, ◌++◌, OnOk, codes};
 ghost use Rattle.depot_answers.specs.AnswerTexts.{text_of_number, spaced, text_of_limit, text_of_record_fault};
-ghost use Rattle.depot_c.specs.Refusals.{IsTold, outcome_of, outcome_of_bundle, outcome_of_feed, outcome_of_put, outcome_of_roster, outcome_of_start, words_of, words_of_bundle, words_of_feed, words_of_put, words_of_start};
+ghost use Rattle.depot_c.specs.Refusals.{IsTold, refusal_outcome, outcome_of_bundle, outcome_of_feed, outcome_of_put, outcome_of_roster, outcome_of_start, words_of, words_of_bundle, words_of_feed, words_of_put, words_of_start};
 
-use crate::outcome::Outcome;
+use crate::outcome::CallOutcome;
 use depot_answers::{collides, full, numbered, record_fault, roster_error, spent, tips};
 use depot_base::{Bytes, Memory};
 use depot_gossip::{BundleError, FeedError};
@@ -37,68 +37,68 @@ pub enum Refused {
 }
 
 /// How a call ends that a roster's text refuses.
-fn of_roster(error: RosterError) -> Outcome
+fn of_roster(error: RosterError) -> CallOutcome
     ensures { result ≡ outcome_of_roster error }
 {
     match error {
-        RosterError::Memory => Outcome::Memory,
-        _ => Outcome::Input,
+        RosterError::Memory => CallOutcome::Memory,
+        _ => CallOutcome::Input,
     }
 }
 
 /// How a call ends that starts no node.
-fn of_start(error: StartError) -> Outcome
+fn of_start(error: StartError) -> CallOutcome
     ensures { result ≡ outcome_of_start error }
 {
     match error {
-        StartError::Memory => Outcome::Memory,
-        StartError::Disk => Outcome::Disk,
-        StartError::Damaged(_) | StartError::NotLawful { .. } => Outcome::NotLawful,
+        StartError::Memory => CallOutcome::Memory,
+        StartError::Disk => CallOutcome::Disk,
+        StartError::Damaged(_) | StartError::NotLawful { .. } => CallOutcome::NotLawful,
         StartError::UnknownMe
         | StartError::OtherKey { .. }
         | StartError::OtherNode(_)
-        | StartError::OtherRoster { .. } => Outcome::Identity,
+        | StartError::OtherRoster { .. } => CallOutcome::Identity,
     }
 }
 
 /// How a call ends that puts nothing.
-fn of_put(error: PutError) -> Outcome
+fn of_put(error: PutError) -> CallOutcome
     ensures { result ≡ outcome_of_put error }
 {
     match error {
-        PutError::Memory => Outcome::Memory,
-        PutError::Disk => Outcome::Disk,
-        PutError::Stopped => Outcome::Stopped,
+        PutError::Memory => CallOutcome::Memory,
+        PutError::Disk => CallOutcome::Disk,
+        PutError::Stopped => CallOutcome::Stopped,
         PutError::Spent(_) | PutError::Tips(_) | PutError::Collides(_) | PutError::Full(_) => {
-            Outcome::Limit
+            CallOutcome::Limit
         }
     }
 }
 
 /// How a call ends that makes no bundle.
-fn of_bundle(error: BundleError) -> Outcome
+fn of_bundle(error: BundleError) -> CallOutcome
     ensures { result ≡ outcome_of_bundle error }
 {
     match error {
-        BundleError::Memory => Outcome::Memory,
-        BundleError::Disk => Outcome::Disk,
-        BundleError::Stopped => Outcome::Stopped,
-        BundleError::IllFormed(_) => Outcome::Input,
-        BundleError::OtherRoster { .. } => Outcome::Identity,
-        BundleError::Spent(_) | BundleError::Full(_) => Outcome::Limit,
+        BundleError::Memory => CallOutcome::Memory,
+        BundleError::Disk => CallOutcome::Disk,
+        BundleError::Stopped => CallOutcome::Stopped,
+        BundleError::IllFormed(_) => CallOutcome::Input,
+        BundleError::OtherRoster { .. } => CallOutcome::Identity,
+        BundleError::Spent(_) | BundleError::Full(_) => CallOutcome::Limit,
     }
 }
 
 /// How a call ends that closes a feed.
-fn of_feed(error: FeedError) -> Outcome
+fn of_feed(error: FeedError) -> CallOutcome
     ensures { result ≡ outcome_of_feed error }
 {
     match error {
-        FeedError::Memory => Outcome::Memory,
-        FeedError::Disk => Outcome::Disk,
-        FeedError::Stopped => Outcome::Stopped,
-        FeedError::IllFormed(_) => Outcome::Input,
-        FeedError::Full(_) => Outcome::Limit,
+        FeedError::Memory => CallOutcome::Memory,
+        FeedError::Disk => CallOutcome::Disk,
+        FeedError::Stopped => CallOutcome::Stopped,
+        FeedError::IllFormed(_) => CallOutcome::Input,
+        FeedError::Full(_) => CallOutcome::Limit,
     }
 }
 
@@ -173,15 +173,15 @@ fn say_start(alloc: Global, out: &mut Bytes, error: &StartError) -> Result<(), M
 
 impl Refused {
     /// How the call ends.
-    pub fn outcome(&self) -> Outcome
-        ensures { result ≡ outcome_of self.now }
+    pub fn outcome(&self) -> CallOutcome
+        ensures { result ≡ refusal_outcome self.now }
     {
         match *self {
-            Refused::Input => Outcome::Input,
-            Refused::Memory => Outcome::Memory,
-            Refused::Order => Outcome::Order,
-            Refused::Stopped => Outcome::Stopped,
-            Refused::Absent => Outcome::Absent,
+            Refused::Input => CallOutcome::Input,
+            Refused::Memory => CallOutcome::Memory,
+            Refused::Order => CallOutcome::Order,
+            Refused::Stopped => CallOutcome::Stopped,
+            Refused::Absent => CallOutcome::Absent,
             Refused::Roster(error) => of_roster(error),
             Refused::Start(error) => of_start(error),
             Refused::Put(error) => of_put(error),

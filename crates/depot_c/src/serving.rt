@@ -1,11 +1,11 @@
 //! One call on a handle.
 ghost use Rattle.std.specs.Prelude.{◌≡◌};
-ghost use Rattle.depot_c.specs.Calls.{Acts, IsCopied, Serves, Settles, answered};
+ghost use Rattle.depot_c.specs.Calls.{Performs, IsCopied, Serves, KeepsAnswer, kept_answer};
 
 use crate::answer::Answer;
 use crate::ask::Ask;
 use crate::handle::{Handle, Viewed, fresh};
-use crate::outcome::Outcome;
+use crate::outcome::CallOutcome;
 use crate::refused::Refused;
 
 /// Fills a piece with bytes from an offset on, as far as there are any, and says how many.
@@ -24,12 +24,12 @@ fn copy_out(bytes: &[u8], at: u64, into: &mut [u8]) -> u64
 /// Keeps what a call answered, and gives its status.
 fn settle(h: &mut Handle, told: Result<Answer, Refused>) -> u64
     ensures view { ⟦<Handle as Viewed>⟧.view_of h.new ≡ ⟦<Handle as Viewed>⟧.view_of h.old }
-    ensures settles { Settles told result (answered h.new) }
+    ensures settles { KeepsAnswer told result (kept_answer h.new) }
 {
     match told {
         Ok(answer) => {
             h.answer = answer;
-            Outcome::Done.number()
+            CallOutcome::Done.number()
         }
         Err(refused) => {
             let status = refused.outcome().number();
@@ -41,7 +41,7 @@ fn settle(h: &mut Handle, told: Result<Answer, Refused>) -> u64
 
 /// Does what is asked of a handle, and keeps the answer.
 fn act(h: &mut Handle, ask: Ask, number: u64, input: &[u8]) -> u64
-    ensures { Acts ask number input.now (⟦<Handle as Viewed>⟧.view_of h.old) result (answered h.new) (⟦<Handle as Viewed>⟧.view_of h.new) }
+    ensures { Performs ask number input.now (⟦<Handle as Viewed>⟧.view_of h.old) result (kept_answer h.new) (⟦<Handle as Viewed>⟧.view_of h.new) }
 {
     let told = h.does(ask, number, input);
     settle(h, told)
@@ -50,7 +50,7 @@ fn act(h: &mut Handle, ask: Ask, number: u64, input: &[u8]) -> u64
 /// One call: what the number of the operation asks. Those that read the answer give what they read, and each other one gives
 /// the number of its outcome, with an answer that is kept until the next of them.
 pub fn serve(h: &mut Handle, op: u32, number: u64, input: &[u8], output: &mut [u8]) -> u64
-    ensures { Serves op number input.now (⟦<Handle as Viewed>⟧.view_of h.old) (answered h.old) output.old (⟦<Handle as Viewed>⟧.view_of h.new) (answered h.new) result output.new }
+    ensures { Serves op number input.now (⟦<Handle as Viewed>⟧.view_of h.old) (kept_answer h.old) output.old (⟦<Handle as Viewed>⟧.view_of h.new) (kept_answer h.new) result output.new }
 {
     match Ask::of(op) {
         None => settle(h, Err(Refused::Input)),
@@ -61,7 +61,7 @@ pub fn serve(h: &mut Handle, op: u32, number: u64, input: &[u8], output: &mut [u
         Some(Ask::Tally) => h.answer.tally(number),
         Some(Ask::Clear) => {
             *h = fresh(h.alloc);
-            Outcome::Done.number()
+            CallOutcome::Done.number()
         }
         Some(ask) => act(h, ask, number, input),
     }

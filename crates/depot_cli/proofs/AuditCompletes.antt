@@ -1,5 +1,5 @@
 -- What `audit` comes to where its files are there: none is refused, and what they show is Done or Broken.
-use Rattle.std.proofs.Common.{◌≡◌, ◌⊎◌, ℕ, zero, suc, List, [], ◌∷◌, map, take, Bool, true, false, eqb, ◌||◌, IsTrue, Option, Some, None, Err, slice_get, refl, sym, ap, subst, ◌∙◌, inl, inr, arith}
+use Rattle.std.proofs.Common.{◌≡◌, ◌⊎◌, ℕ, zero, suc, List, [], ◌∷◌, take, Bool, true, false, eqb, ◌||◌, IsTrue, Option, Some, Err, slice_get, refl, sym, ap, subst, ◌∙◌, inl, inr, arith}
 use Rattle.std.specs.List.{AllByRecursion, list_any}
 use Rattle.std.proofs.lemmas.Bool.{eqb-true}
 use Rattle.depot_base.proofs.Decoding.{in_one_way}
@@ -17,12 +17,12 @@ use Rattle.depot_outside.specs.Told.{Shelves, Loads, Sinks, HasFile}
 use Rattle.depot_traces.proofs.TraceLaws.{trace_text_lawful}
 use Rattle.depot_traces.specs.TraceTexts.{IsTrace, text_of_trace, trace_text}
 use Rattle.depot_traces.specs.declared.trace.Trace.{Trace}
-use Rattle.depot_trace_files.specs.Handing.{AreHanded, IsRefusedFile, IsRefusedTrace, has_trace_of, nodes_of}
+use Rattle.depot_trace_files.specs.Handing.{AreHanded, IsRefusedFile, has_trace_of, nodes_of}
 use Rattle.depot_trace_files.specs.declared.loading.TraceRefusal.{TraceRefusal}
 use Rattle.depot_trace_files.specs.declared.loading.TraceRefusal.TheVariants.{Missing, IllFormed, Twice, Stranger}
 use Rattle.depot_cli.specs.declared.status.Status.{Status}
 use Rattle.depot_cli.specs.declared.status.Status.TheVariants.{Done, Memory, Broken}
-use Rattle.depot_cli.specs.Runs.{AreOfRoster, AreTraceFiles, Audits, AuditsTraces, HasFailed, IsRosterText, IsWell, RefusesTrace, status_of_finding}
+use Rattle.depot_cli.specs.Runs.{AreOfRoster, AreTraceFiles, Audits, AuditsTraces, HasShelfFailed, IsRosterText, IsWell, RefusesTrace, status_of_finding}
 use Rattle.depot_cli.proofs.ThereFiles.{not_lacking, one_file, no_roster}
 
 -- ---- traces by their texts
@@ -84,7 +84,7 @@ stands_at file (n ∷ names) (suc place) (t ∷ ts) name handed at =
 -- ---- no file is refused
 
 refused_never : (shelf : Shelves) (sink : Sinks) (listed : List RosterEntry) (names : List (List ℕ)) (ts before : List Trace) (place : ℕ) (name : List ℕ) (why : TraceRefusal) → IsWell shelf sink → AreOfRoster listed ts → AllByRecursion IsTrace ts
-    → (s : StandsAt shelf.file name place ts) → before ≡ take place ts → IsRefusedFile shelf.tells shelf.file (HasFailed shelf) listed before name why → ⊥
+    → (s : StandsAt shelf.file name place ts) → before ≡ take place ts → IsRefusedFile shelf.tells shelf.file (HasShelfFailed shelf) listed before name why → ⊥
 refused_never shelf sink listed names ts before place name Missing well of fits s same (inl failed) = omega (arith, failed, well.shelf_is_well)
 refused_never shelf sink listed names ts before place name Missing well of fits s same (inr absent) = let none = absent well.tells in let some = s.there in cc
 refused_never shelf sink listed names ts before place name (IllFormed at) well of fits s same refused =

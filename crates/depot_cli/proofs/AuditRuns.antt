@@ -1,5 +1,5 @@
 -- What `audit` answers, by what was gathered of its trace files behind a roster.
-use Rattle.std.proofs.Common.{◌≡◌, ◌<◌, ◌≤◌, ℕ, map, true, Result, Ok, Err, codes, arith, List, [], ◌∷◌, ◌++◌, length, get_or, take, Some, slice_get, ◌+◌, refl, sym, ap, subst, ◌∙◌, append_assoc, inl, inr}
+use Rattle.std.proofs.Common.{◌≡◌, ◌≤◌, ℕ, map, true, Result, Ok, Err, codes, arith, List, [], ◌∷◌, ◌++◌, length, get_or, take, Some, slice_get, ◌+◌, refl, sym, ap, subst, ◌∙◌, append_assoc, inl, inr}
 use Rattle.std.specs.Result.{IfOk, IsOk}
 use Rattle.std.proofs.lemmas.Option.{get_or_from_slice_get}
 use Rattle.std.proofs.lemmas.Result.{IfOk-weaker}
@@ -17,15 +17,14 @@ use Rattle.depot_model.specs.Traces.{IsFindingOf}
 use Rattle.depot_model.specs.Traces as traces
 use Rattle.depot_model.specs.Winternitz.{winternitz_verifies}
 use Rattle.depot_model.proofs.Members.{from_map, all_at}
-use Rattle.depot_outside.specs.Told.{Shelves, Loads, HasFile, HasLoaded, WhereTold, loads, shelves}
+use Rattle.depot_outside.specs.Told.{Shelves, Loads, HasFile, WhereTold}
 use Rattle.depot_traces.specs.SeenTraces.{finding_of, trace_of}
 use Rattle.depot_traces.specs.TraceTexts.{IsTrace, trace_text}
 use Rattle.depot_traces.specs.declared.finding.Finding as told
 use Rattle.depot_traces.specs.declared.trace.Trace.{Trace}
 use Rattle.depot_trace_files.specs.Handing.{AreForAudit, nodes_of}
-use Rattle.depot_trace_files.specs.declared.loading.GatheredTraces.{GatheredTraces}
 use Rattle.depot_trace_files.specs.declared.loading.GatheredTraces.TheVariants as gathered
-use Rattle.depot_cli.specs.declared.outcome.Outcome.{Outcome}
+use Rattle.depot_cli.specs.declared.outcome.CommandOutcome.{CommandOutcome}
 use Rattle.depot_cli.specs.declared.status.Status.{Status}
 use Rattle.depot_cli.specs.Runs.{AnswersFiles, Audits, IsAudited, IsRosterText, status_of_finding}
 
@@ -104,7 +103,7 @@ audited_is listed ts found for is =
     }
 
 -- the same where memory may have been wanting for the one or the other
-pub audited_printed : (listed : List RosterEntry) (ts : List Trace) (r : Result told.Finding absent.Memory) (q : Result Outcome absent.Memory) → AreForAudit listed ts → IfOk r (λ f. IsFindingOf winternitz_verifies listed (map trace_of ts) (finding_of f))
+pub audited_printed : (listed : List RosterEntry) (ts : List Trace) (r : Result told.Finding absent.Memory) (q : Result CommandOutcome absent.Memory) → AreForAudit listed ts → IfOk r (λ f. IsFindingOf winternitz_verifies listed (map trace_of ts) (finding_of f))
     → IfOk q (λ o. IfOk r (λ f. o ≡ record { status = status_of_finding (finding_of f); text = text_of_finding (finding_of f) ++ codes "\n" })) → IfOk q (λ _. IsOk r) → IfOk q (λ o. IsAudited listed ts o.status o.text)
-audited_printed listed ts (Ok f) q for is printed some = IfOk-weaker q _ _ (λ o same. subst (λ (x : Outcome). IsAudited listed ts x.status x.text) (sym same) (audited_is listed ts (finding_of f) for is)) printed
+audited_printed listed ts (Ok f) q for is printed some = IfOk-weaker q _ _ (λ o same. subst (λ (x : CommandOutcome). IsAudited listed ts x.status x.text) (sym same) (audited_is listed ts (finding_of f) for is)) printed
 audited_printed listed ts (Err e) q for is printed some = IfOk-weaker q _ _ (λ o none. absurd cc) some

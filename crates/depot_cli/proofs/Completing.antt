@@ -11,10 +11,10 @@ pub use Rattle.depot_cli.proofs.ThereFiles.{not_lacking, one_file, no_roster}
 use Rattle.depot_cli.proofs.AuditCompletes.{audit_completes}
 use Rattle.depot_cli.specs.declared.status.Status.{Status}
 use Rattle.depot_cli.specs.declared.status.Status.TheVariants.{Done, Input, Shelf, Memory, NoProof, NotLawful}
-use Rattle.depot_cli.specs.declared.invocation.Command.{Command}
-use Rattle.depot_cli.specs.declared.invocation.Command.TheVariants as asked
-use Rattle.depot_outside.specs.Told.{Shelves, Loads, Sinks, HasFile, LacksFile}
-use Rattle.depot_cli.specs.Runs.{IsNoLog, IsOrphaned, Scans, PrintsKey, IsRosterText, IsNoRoster, HasRoster, JudgesProof, Judges, IsNoSchedule, PrintsLoad, Replays, Answers, Begins, Ends, IsWell, IsWholeLog, IsScheduleText, Completes}
+use Rattle.depot_cli.specs.declared.invocation.Invocation.{Invocation}
+use Rattle.depot_cli.specs.declared.invocation.Invocation.TheVariants as asked
+use Rattle.depot_outside.specs.Told.{Shelves, Loads, Sinks, HasFile}
+use Rattle.depot_cli.specs.Runs.{IsNoLog, IsOrphaned, Scans, PrintsKey, HasRoster, JudgesProof, Judges, IsNoSchedule, PrintsLoad, Replays, AnswersCommand, Begins, Ends, IsWell, IsWholeLog, IsScheduleText, CommandCompletes}
 
 no_log : (shelf : Shelves) (name text : List ℕ) → HasFile shelf name IsWholeLog → HasFile shelf name (IsNoLog name text) → ⊥
 no_log shelf name text whole broken =
@@ -73,7 +73,7 @@ load_completes number Done text answer = inl refl
 load_completes number status text answer = absurd answer
 
 -- what a command answers is what it comes to
-completes : (shelf : Shelves) (loads : Loads) (sink : Sinks) (command : Option Command) (status : Status) (text : List ℕ) → Answers shelf loads command status text → IsWell shelf sink → Completes shelf command status
+completes : (shelf : Shelves) (loads : Loads) (sink : Sinks) (command : Option Invocation) (status : Status) (text : List ℕ) → AnswersCommand shelf loads command status text → IsWell shelf sink → CommandCompletes shelf command status
 completes shelf loads sink None status text (loaded, (is, line)) well = inl is
 completes shelf loads sink (Some (asked.Scan log key)) status text (loaded, answer) well = scan_completes shelf sink log key status text well answer
 completes shelf loads sink (Some (asked.Key seed height)) status text (loaded, answer) well = key_completes seed height status text answer
@@ -84,7 +84,7 @@ completes shelf loads sink (Some (asked.Audit name traces)) status text answer w
 completes shelf loads sink (Some (asked.Replay name)) status text (loaded, answer) well = replay_completes shelf sink name status text well answer
 
 -- memory may run out in place of each
-without_memory : (shelf : Shelves) (command : Option Command) (status : Status) → status ≡ Memory → Completes shelf command status
+without_memory : (shelf : Shelves) (command : Option Invocation) (status : Status) → status ≡ Memory → CommandCompletes shelf command status
 without_memory shelf None status is = inr is
 without_memory shelf (Some (asked.Scan log key)) status is = λ there. inr is
 without_memory shelf (Some (asked.Key seed height)) status is = inr is
@@ -95,7 +95,7 @@ without_memory shelf (Some (asked.Node n)) status is = tt
 without_memory shelf (Some (asked.Audit name traces)) status is = λ listed ts good there of. inr (inr is)
 
 -- a run that ends as its command answers completes it, where nothing failed
-pub ends_complete : (shelf : Shelves) (loads : Loads) (sink : Sinks) (command : Option Command) (status : Status) → Ends (Answers shelf loads command) (Begins shelf loads command) sink status → IsWell shelf sink → Completes shelf command status
+pub ends_complete : (shelf : Shelves) (loads : Loads) (sink : Sinks) (command : Option Invocation) (status : Status) → Ends (AnswersCommand shelf loads command) (Begins shelf loads command) sink status → IsWell shelf sink → CommandCompletes shelf command status
 ends_complete shelf loads sink command status (inl e) well = completes shelf loads sink command status e.text e.answered well
 ends_complete shelf loads sink command status (inr (inl e)) well = without_memory shelf command status e.is
 ends_complete shelf loads sink command status (inr (inr e)) well = absurd (omega (arith, e.rose, well.sink_is_well))

@@ -8,12 +8,13 @@ use Rattle.depot_model.specs.World.{IsAuthentic, IsCollisionFree}
 use Rattle.depot_schedule.specs.Schedules.{IsTextOfSchedule}
 use Rattle.depot_schedule.specs.declared.schedule.Schedule.{Schedule}
 use Rattle.depot_world.specs.Transcript.{transcript_of, world_of}
-use Rattle.depot_cli.specs.declared.invocation.Command.TheVariants as asked
-use Rattle.depot_cli.specs.declared.outcome.Outcome.{Outcome}
+use Rattle.depot_laws.specs.WorldFacts.{PairsConvictNoCorrectNode}
+use Rattle.depot_cli.specs.declared.invocation.Invocation.TheVariants as asked
+use Rattle.depot_cli.specs.declared.outcome.CommandOutcome.{CommandOutcome}
 use Rattle.depot_cli.specs.declared.status.Status.{Status}
 use Rattle.depot_cli.specs.declared.status.Status.TheVariants.{Done, Input}
 use Rattle.depot_outside.specs.Told.{Shelves, Loads, Sinks, WhereTold, HasLoaded}
-use Rattle.depot_cli.specs.Runs.{IsReplayed, PairsSpareCorrectNodes, ReplayOf, Replays, IsFrontOf, Answers, Begins, Ends, Finishes, Plays}
+use Rattle.depot_cli.specs.Runs.{IsReplayed, ReplayOf, Replays, IsFrontOf, AnswersCommand, Begins, Ends, Finishes, PlaysSchedule}
 
 -- a run that ends by some answers ends by those that they are, too
 pub ends_so : (answers answers2 : Status → List ℕ → Type 0) (begins begins2 : List ℕ → Type 0) (sink : Sinks) (status : Status)
@@ -24,7 +25,7 @@ ends_so a a2 b b2 sink status so begun (inr (inl e)) = inr (inl (record { is = e
 ends_so a a2 b b2 sink status so begun (inr (inr e)) = inr (inr (record { is = e.is; rose = e.rose; answer = e.answer; text = e.text; answered = so e.answer e.text e.answered; wrote = e.wrote }))
 
 -- a command that wrote its text at once ends as it answers
-pub finished : (answers : Status → List ℕ → Type 0) (begins : List ℕ → Type 0) (sink : Sinks) (found : Result Outcome absent.Memory) (status : Status)
+pub finished : (answers : Status → List ℕ → Type 0) (begins : List ℕ → Type 0) (sink : Sinks) (found : Result CommandOutcome absent.Memory) (status : Status)
     → IfOk found (λ o. answers o.status o.text) → begins [] → Finishes found sink status → Ends answers begins sink status
 finished answers begins sink (Ok o) status answered none ends =
     ends_so _ answers _ begins sink status
@@ -34,16 +35,16 @@ finished answers begins sink (Err e) status answered none ends =
     inr (inl (record { is = ends.is; text = ends.text; begun = subst begins (sym ends.begun) none; wrote = ends.wrote }))
 
 -- the same of a command that came to one outcome, unless memory ran out
-pub finished_by : (answers : Status → List ℕ → Type 0) (begins : List ℕ → Type 0) (sink : Sinks) (found : Result Outcome absent.Memory) (one : Outcome) (status : Status)
+pub finished_by : (answers : Status → List ℕ → Type 0) (begins : List ℕ → Type 0) (sink : Sinks) (found : Result CommandOutcome absent.Memory) (one : CommandOutcome) (status : Status)
     → IfOk found (λ o. o ≡ one) → answers one.status one.text → begins [] → Finishes found sink status → Ends answers begins sink status
 finished_by answers begins sink found one status is answered none ends =
-    finished answers begins sink found status (IfOk-weaker found _ _ (λ o same. subst (λ (x : Outcome). answers x.status x.text) (sym same) answered) is) none ends
+    finished answers begins sink found status (IfOk-weaker found _ _ (λ o same. subst (λ (x : CommandOutcome). answers x.status x.text) (sym same) answered) is) none ends
 
 -- a schedule that was played from its text was replayed
 pub replayed : (name bytes : List ℕ) (s : Schedule) (sink : Sinks) (status : Status) → IsTextOfSchedule bytes s
     → (IsAuthentic (world_of s) → IsCollisionFree (world_of s) → IsForkJoinCausal (world_of s)) → (IsAuthentic (world_of s) → IsCollisionFree (world_of s) → ConvictsNoCorrectNode (world_of s))
-    → (IsAuthentic (world_of s) → PairsSpareCorrectNodes (world_of s))
-    → Plays s sink status → Ends (ReplayOf name bytes) (IsFrontOf (λ text. IsReplayed text bytes)) sink status
+    → (IsAuthentic (world_of s) → PairsConvictNoCorrectNode (world_of s))
+    → PlaysSchedule s sink status → Ends (ReplayOf name bytes) (IsFrontOf (λ text. IsReplayed text bytes)) sink status
 replayed name bytes s sink status read causal convicts pairs ends =
     ends_so _ (ReplayOf name bytes) _ (IsFrontOf (λ text. IsReplayed text bytes)) sink status
     (λ answer text is. subst (λ (a : Status). ReplayOf name bytes a text) (sym is.0) (subst (λ (t : List ℕ). IsReplayed t bytes) (sym is.1) whole))
@@ -60,9 +61,9 @@ replays shelf name bytes status text there is = absurd is
 
 -- a replay of the bytes of a file ends as the command of its name does
 pub replay_ends : (shelf : Shelves) (loads : Loads) (name bytes : List ℕ) (sink : Sinks) (status : Status) → HasLoaded loads (name ∷ []) → WhereTold shelf (shelf.file name ≡ Some bytes)
-    → Ends (ReplayOf name bytes) (IsFrontOf (λ text. IsReplayed text bytes)) sink status → Ends (Answers shelf loads (Some (asked.Replay name))) (Begins shelf loads (Some (asked.Replay name))) sink status
+    → Ends (ReplayOf name bytes) (IsFrontOf (λ text. IsReplayed text bytes)) sink status → Ends (AnswersCommand shelf loads (Some (asked.Replay name))) (Begins shelf loads (Some (asked.Replay name))) sink status
 replay_ends shelf loads name bytes sink status loaded there ends =
-    ends_so _ (Answers shelf loads (Some (asked.Replay name))) _ (Begins shelf loads (Some (asked.Replay name))) sink status
+    ends_so _ (AnswersCommand shelf loads (Some (asked.Replay name))) _ (Begins shelf loads (Some (asked.Replay name))) sink status
     (λ answer text is. (loaded, replays shelf name bytes answer text there is))
     front ends
   where

@@ -1,5 +1,5 @@
 -- How `node` ends, by what its roster and its script come to.
-use Rattle.std.proofs.Common.{◌≡◌, ◌≢◌, ◌⊎◌, ℕ, List, [], ◌∷◌, ◌++◌, Option, Some, Result, Ok, Err, refl, sym, ap, subst, ◌∙◌, arith, inl, inr, codes}
+use Rattle.std.proofs.Common.{◌≡◌, ◌≢◌, ◌⊎◌, ℕ, List, [], ◌∷◌, ◌++◌, Option, Some, Result, Ok, refl, sym, ap, subst, ◌∙◌, arith, inl, inr, codes}
 use Rattle.depot_base.proofs.Decoding.{in_one_way}
 use Rattle.depot_base.specs.declared.key.PublicKey.{PublicKey}
 use Rattle.depot_base.specs.declared.key.RosterEntry.{RosterEntry}
@@ -20,21 +20,21 @@ use Rattle.depot_outside.specs.declared.shelf.Shelf.{Ghosts}
 use Rattle.depot_script.specs.Scripts.{IsTextOfScript, script_of}
 use Rattle.depot_script.specs.declared.command.Command as line
 use Rattle.depot_script.proofs.ScriptLaws.{script_again}
-use Rattle.depot_session.specs.declared.ending.Ending.{Ending}
-use Rattle.depot_session.specs.declared.ending.Ending.TheVariants as ending
+use Rattle.depot_session.specs.declared.ending.ScriptEnding.{ScriptEnding}
+use Rattle.depot_session.specs.declared.ending.ScriptEnding.TheVariants as ending
 use Rattle.depot_session.specs.SessionRuns.{AsksFirst, AsksShort, AsksWhole, HasFailed, IsCutBy}
 use Rattle.depot_session.specs.SessionRuns as runs
 use Rattle.depot_session.specs.Sessions.{Session, loads_given}
-use Rattle.depot_session.specs.ScriptTelling.{Asked, GoesByShelf}
+use Rattle.depot_session.specs.ScriptTelling.{Asked}
 use Rattle.depot_winter.specs.TreeSigning.{key_of_seed}
-use Rattle.depot_cli.specs.declared.invocation.Command.{Command}
-use Rattle.depot_cli.specs.declared.invocation.Command.TheVariants as asked
+use Rattle.depot_cli.specs.declared.invocation.Invocation.{Invocation}
+use Rattle.depot_cli.specs.declared.invocation.Invocation.TheVariants as asked
 use Rattle.depot_cli.specs.declared.invocation.NodeWords.{NodeWords}
-use Rattle.depot_cli.specs.declared.outcome.Outcome.{Outcome}
+use Rattle.depot_cli.specs.declared.outcome.CommandOutcome.{CommandOutcome}
 use Rattle.depot_cli.specs.declared.status.Status.{Status}
 use Rattle.depot_cli.specs.declared.status.Status.TheVariants.{Input, Sink, Memory}
 use Rattle.depot_cli.specs.Nodes.{CompletesNode, IsWellDisk, LoadsFrom, Results, RunsBytes, RunsFile, RunsScript, ScriptInputs, node_at}
-use Rattle.depot_cli.specs.Runs.{Answers, Begins, Completes, EndsAtFault, IsNoScript, IsRosterText, IsWell, NodeInputs}
+use Rattle.depot_cli.specs.Runs.{AnswersCommand, Begins, CommandCompletes, IsNoScript, IsRosterText, IsWell, NodeInputs}
 use Rattle.depot_cli.specs.Statuses.{status_of}
 use Rattle.depot_cli.proofs.Completing.{ends_complete, no_roster, not_lacking, one_file}
 use Rattle.depot_cli.proofs.Endings.{ends_so}
@@ -53,28 +53,14 @@ same_shelves g old mid new told same calm quiet = λ i. record {
   faults_after = g.faults new;
 }
 
--- where the shelf failed nothing else is answered than a fault
-pub ends_at_fault : (shelf : Shelves) (e : Ending) (status : Status) → status ≡ status_of e → (GoesByShelf (Err e) → shelf.faults_after ≡ shelf.faults_before) → (status ≡ Sink) ⊎ ((status ≡ Memory) ⊎ EndsAtFault shelf status)
-ends_at_fault shelf ending.Sink status is quiet = inl is
-ends_at_fault shelf ending.Memory status is quiet = inr (inl is)
-ends_at_fault shelf ending.Shelf status is quiet = inr (inr (inl is))
-ends_at_fault shelf other status is quiet = inr (inr (inr (quiet tt)))
-
--- a fault of the later part of a run is one of the whole
-pub later_fault : (first whole : Shelves) (status : Status) → whole.faults_after ≡ first.faults_after → whole.faults_before ≡ first.faults_before → (status ≡ Sink) ⊎ ((status ≡ Memory) ⊎ EndsAtFault first status) → (status ≡ Sink) ⊎ ((status ≡ Memory) ⊎ EndsAtFault whole status)
-later_fault first whole status after before (inl is) = inl is
-later_fault first whole status after before (inr (inl is)) = inr (inl is)
-later_fault first whole status after before (inr (inr (inl is))) = inr (inr (inl is))
-later_fault first whole status after before (inr (inr (inr same))) = inr (inr (inr (after ∙ same ∙ sym before)))
-
 -- ---- the roster
 
 -- a file that is no roster is told
-pub no_roster_answers : (shelf : Shelves) (loads : Loads) (n : NodeWords) (bytes : List ℕ) (error : RosterError) (found : Result Outcome absent.Memory) → HasLoaded loads (n.roster ∷ []) → WhereTold shelf (shelf.file n.roster ≡ Some bytes) → (error ≡ roster_error.Memory) ⊎ IsRefusedFor bytes error
-    → IfOk found (λ o. (error ≢ roster_error.Memory) × (o ≡ record { status = Input; text = codes "input " ++ n.roster ++ codes " " ++ text_of_roster_error error ++ codes "\n" })) → IfOk found (λ o. Answers shelf loads (Some (asked.Node n)) o.status o.text)
+pub no_roster_answers : (shelf : Shelves) (loads : Loads) (n : NodeWords) (bytes : List ℕ) (error : RosterError) (found : Result CommandOutcome absent.Memory) → HasLoaded loads (n.roster ∷ []) → WhereTold shelf (shelf.file n.roster ≡ Some bytes) → (error ≡ roster_error.Memory) ⊎ IsRefusedFor bytes error
+    → IfOk found (λ o. (error ≢ roster_error.Memory) × (o ≡ record { status = Input; text = codes "input " ++ n.roster ++ codes " " ++ text_of_roster_error error ++ codes "\n" })) → IfOk found (λ o. AnswersCommand shelf loads (Some (asked.Node n)) o.status o.text)
 no_roster_answers shelf loads n bytes error found named there (inl is) told = IfOk-weaker found _ _ (λ o so. absurd (so.0 is)) told
 no_roster_answers shelf loads n bytes error found named there (inr why) told =
-    IfOk-weaker found _ _ (λ o so. subst (λ (x : Outcome). Answers shelf loads (Some (asked.Node n)) x.status x.text) (sym so.1) (inr (inl (named, (refl, λ is_told. record { bytes = bytes; there = there is_told; holds = record { error = error; cause = why; is = refl } }))))) told
+    IfOk-weaker found _ _ (λ o so. subst (λ (x : CommandOutcome). AnswersCommand shelf loads (Some (asked.Node n)) x.status x.text) (sym so.1) (inr (inl (named, (refl, λ is_told. record { bytes = bytes; there = there is_told; holds = record { error = error; cause = why; is = refl } }))))) told
 
 -- ---- the script
 
@@ -134,17 +120,17 @@ module _ (first : List (List ℕ)) (one : List ℕ) (calls whole : Asked) (behin
     ];
   }
 
-  begins_behind : (here : Setting) (key : PublicKey) (disk : Disks) (shelf : Shelves) (sink : Sinks) (e : Ending) → runs.Begins here key first disk shelf calls sink e → runs.Begins here key (one ∷ first) disk shelf whole sink e
+  begins_behind : (here : Setting) (key : PublicKey) (disk : Disks) (shelf : Shelves) (sink : Sinks) (e : ScriptEnding) → runs.RunBegins here key first disk shelf calls sink e → runs.RunBegins here key (one ∷ first) disk shelf whole sink e
   begins_behind here key disk shelf sink e (inl refused) = inl (refused.0, refused_behind refused.1)
   begins_behind here key disk shelf sink e (inr started) = inr started
 
-  answered_behind : (here : Setting) (sign : Signs) (J : List Record) (s : Session) (commands : List line.Command) (disk : Disks) (shelf : Shelves) (sink : Sinks) (e : Ending) → runs.Answered here sign J s commands first disk shelf calls sink e
-      → runs.Answered here sign J s commands (one ∷ first) disk shelf whole sink e
+  answered_behind : (here : Setting) (sign : Signs) (J : List Record) (s : Session) (commands : List line.Command) (disk : Disks) (shelf : Shelves) (sink : Sinks) (e : ScriptEnding) → runs.RunsAsAnswered here sign J s commands first disk shelf calls sink e
+      → runs.RunsAsAnswered here sign J s commands (one ∷ first) disk shelf whole sink e
   answered_behind here sign J s commands disk shelf sink e (inl w) = inl (w.0, whole_behind here sign s commands w.1)
   answered_behind here sign J s commands disk shelf sink e (inr short) = inr (short.0, short_behind here sign s short.0.done short.0.rest short.1)
 
 -- what a script came to, behind one file more that was loaded first
-runs_behind : (listed : List RosterEntry) (n : NodeWords) (commands : List line.Command) (first : List (List ℕ)) (one : List ℕ) (disk : Disks) (behind shelf : Shelves) (calls whole : Asked) (sink : Sinks) (same_disk : Type 0) (e : Ending) → behind ≡ shelf → IsBehind calls whole one
+runs_behind : (listed : List RosterEntry) (n : NodeWords) (commands : List line.Command) (first : List (List ℕ)) (one : List ℕ) (disk : Disks) (behind shelf : Shelves) (calls whole : Asked) (sink : Sinks) (same_disk : Type 0) (e : ScriptEnding) → behind ≡ shelf → IsBehind calls whole one
     → RunsScript listed n commands first disk behind calls sink same_disk e → RunsScript listed n commands (one ∷ first) disk shelf whole sink same_disk e
 runs_behind listed n commands first one disk behind shelf calls whole sink same_disk e same asked_behind ran =
     let r = subst (λ (s : Shelves). RunsScript listed n commands first disk s calls sink same_disk e) same ran in
@@ -183,7 +169,7 @@ pub file_run : (listed : List RosterEntry) (n : NodeWords) (disk : Disks) (behin
     → WhereTold shelf (HasFile shelf n.roster (λ bytes. IsRosterText bytes listed)) → RunsFile listed n disk behind first calls sink same_disk same_mid status → Results (Some (asked.Node n)) disk shelf loads whole sink same_disk same_files status
 file_run listed n disk behind shelf first loads calls whole sink same_disk same_mid same_files status same before after called so has (inl (u, (loaded, ends))) =
     let both = inr (more_loads first loads n.roster (n.script ∷ []) before after loaded, λ told. (let h = has told in record { bytes = h.bytes; there = h.there; holds = (listed, h.holds) })) in
-    inl ((u.0, so u.1), ends_so _ (Answers shelf loads (Some (asked.Node n))) _ (Begins shelf loads (Some (asked.Node n))) sink status (λ answer text is. input_behind n listed behind shelf first loads answer text same before after has is) (λ text none. (both, none)) ends)
+    inl ((u.0, so u.1), ends_so _ (AnswersCommand shelf loads (Some (asked.Node n))) _ (Begins shelf loads (Some (asked.Node n))) sink status (λ answer text is. input_behind n listed behind shelf first loads answer text same before after has is) (λ text none. (both, none)) ends)
 file_run listed n disk behind shelf first loads calls whole sink same_disk same_mid same_files status same before after called so has (inr (commands, (is, (loaded, (e, (ends, runs)))))) =
     inr (record {
       listed = listed;
@@ -199,7 +185,7 @@ file_run listed n disk behind shelf first loads calls whole sink same_disk same_
 -- ---- what nothing stands in the way of
 
 -- what another command than `node` comes to completes it
-pub results_complete : (disk : Disks) (shelf : Shelves) (loads : Loads) (calls : Asked) (sink : Sinks) (same_disk same_files : Type 0) (command : Option Command) (status : Status) → Results command disk shelf loads calls sink same_disk same_files status → IsWell shelf sink → Completes shelf command status
+pub results_complete : (disk : Disks) (shelf : Shelves) (loads : Loads) (calls : Asked) (sink : Sinks) (same_disk same_files : Type 0) (command : Option Invocation) (status : Status) → Results command disk shelf loads calls sink same_disk same_files status → IsWell shelf sink → CommandCompletes shelf command status
 results_complete disk shelf loads calls sink same_disk same_files (Some (asked.Node n)) status r well = tt
 results_complete disk shelf loads calls sink same_disk same_files other status r well = ends_complete shelf loads sink other status r.1 well
 
@@ -230,7 +216,7 @@ one_script : (bytes : List ℕ) (a b : List line.Command) → IsTextOfScript byt
 one_script bytes a b is other = ok_is_one a b (sym (ap script_of is.is ∙ script_again a is.has) ∙ ap script_of other.is ∙ script_again b other.has)
 
 -- where nothing fails a run is cut short for want of memory alone
-cut_by_memory : (disk : Disks) (shelf : Shelves) (sink : Sinks) (e : Ending) (status : Status) → IsWell shelf sink → IsWellDisk disk → status ≡ status_of e → IsCutBy (HasFailed disk) shelf sink e → status ≡ Memory
+cut_by_memory : (disk : Disks) (shelf : Shelves) (sink : Sinks) (e : ScriptEnding) (status : Status) → IsWell shelf sink → IsWellDisk disk → status ≡ status_of e → IsCutBy (HasFailed disk) shelf sink e → status ≡ Memory
 cut_by_memory disk shelf sink ending.Memory status well disk_well is cut = is
 cut_by_memory disk shelf sink ending.Disk status well disk_well is cut = absurd (omega (arith, cut, disk_well.is_well))
 cut_by_memory disk shelf sink ending.Shelf status well disk_well is cut = absurd (omega (arith, cut, well.shelf_is_well))
@@ -257,6 +243,6 @@ node_completes disk shelf loads calls sink same_disk same_files n status (inr r)
       | inr short ↦ inr (cut_by_memory disk shelf sink r.ends status well disk_well r.status_is short.0.cut)
     ]
 
-pub results_complete_node : (disk : Disks) (shelf : Shelves) (loads : Loads) (calls : Asked) (sink : Sinks) (same_disk same_files : Type 0) (command : Option Command) (status : Status) → Results command disk shelf loads calls sink same_disk same_files status → IsWell shelf sink → IsWellDisk disk → CompletesNode disk shelf command status
+pub results_complete_node : (disk : Disks) (shelf : Shelves) (loads : Loads) (calls : Asked) (sink : Sinks) (same_disk same_files : Type 0) (command : Option Invocation) (status : Status) → Results command disk shelf loads calls sink same_disk same_files status → IsWell shelf sink → IsWellDisk disk → CompletesNode disk shelf command status
 results_complete_node disk shelf loads calls sink same_disk same_files (Some (asked.Node n)) status r well disk_well = node_completes disk shelf loads calls sink same_disk same_files n status r well disk_well
 results_complete_node disk shelf loads calls sink same_disk same_files other status r well disk_well = tt

@@ -1,5 +1,5 @@
 -- Files that are there.
-use Rattle.std.proofs.Common.{◌≡◌, ℕ, List, Some, None, ap, subst, inl, inr, arith}
+use Rattle.std.proofs.Common.{◌≡◌, ℕ, List, Some, subst, inl, inr, arith}
 use Rattle.depot_base.specs.declared.key.RosterEntry.{RosterEntry}
 use Rattle.depot_outside.specs.Told.{Shelves, Sinks, HasFile, LacksFile}
 use Rattle.depot_sign.proofs.RosterCauses.{refused_is_none}

@@ -13,16 +13,16 @@ use Rattle.depot_outside.specs.declared.sink.Sink as sink_of
 use Rattle.depot_outside.specs.Told.{Disks, HasFile, HasLoaded, LacksFile, Loads, Shelves, Sinks, WhereTold, disks, loads, shelves, sinks}
 use Rattle.depot_script.specs.Scripts.{IsTextOfScript}
 use Rattle.depot_script.specs.declared.command.Command as line
-use Rattle.depot_session.specs.declared.ending.Ending.{Ending}
-use Rattle.depot_session.specs.declared.ending.Ending.TheVariants as ending
+use Rattle.depot_session.specs.declared.ending.ScriptEnding.{ScriptEnding}
+use Rattle.depot_session.specs.declared.ending.ScriptEnding.TheVariants as ending
 use Rattle.depot_session.specs.ScriptTelling.{Asked, asked as calls_on}
 use Rattle.depot_session.specs.SessionRuns as runs
 use Rattle.depot_session.specs.Sessions.{answers_of, loads_given, session_from, shelf_line}
 use Rattle.depot_winter.specs.TreeSigning.{key_of_seed}
 use Rattle.depot_cli.specs.Runs.{Begins, CommandEnds, Ends, IsNoScript, IsRosterText, IsWell}
 use Rattle.depot_cli.specs.Statuses.{status_of}
-use Rattle.depot_cli.specs.declared.invocation.Command.{Command}
-use Rattle.depot_cli.specs.declared.invocation.Command.TheVariants as asked
+use Rattle.depot_cli.specs.declared.invocation.Invocation.{Invocation}
+use Rattle.depot_cli.specs.declared.invocation.Invocation.TheVariants as asked
 use Rattle.depot_cli.specs.declared.invocation.NodeWords.{NodeWords}
 use Rattle.depot_cli.specs.declared.status.Status.{Status}
 use Rattle.depot_cli.specs.declared.status.Status.TheVariants.{Input, Memory, Shelf}
@@ -38,11 +38,11 @@ node_at listed id = record { verifies = winternitz_verifies; me = id; listed = l
 -- of this node, or none, they are those of the definition, or the run is cut short; and behind the files of the first names the shelf was asked for
 -- those of the commands that were carried out, and for nothing of a later one. Else the node is refused for its key, its roster or its journal, and
 -- the shelf was asked for no more; where the roster hasn't its key the disk isn't touched.
-pub record RunsScript (listed : List RosterEntry) (n : NodeWords) (commands : List line.Command) (first : List (List ℕ)) (disk : Disks) (shelf : Shelves) (calls : Asked) (sink : Sinks) (same_disk : Type 0) (ends : Ending) : Type 0 where
+pub record RunsScript (listed : List RosterEntry) (n : NodeWords) (commands : List line.Command) (first : List (List ℕ)) (disk : Disks) (shelf : Shelves) (calls : Asked) (sink : Sinks) (same_disk : Type 0) (ends : ScriptEnding) : Type 0 where
   pub images : IsTrue disk.tells → runs.KeepsFile (node_at listed n.id) disk
   pub stable : IsTrue disk.tells → (ends ≡ ending.Done) ⊎ (ends ≡ ending.Limit) → runs.Settles (node_at listed n.id) disk
   pub untouched : (key_of listed n.id ≡ Some (key_of_seed n.seed n.height) → ⊥) → same_disk
-  pub begins : runs.Begins (node_at listed n.id) (key_of_seed n.seed n.height) first disk shelf calls sink ends
+  pub begins : runs.RunBegins (node_at listed n.id) (key_of_seed n.seed n.height) first disk shelf calls sink ends
   pub answers : runs.AnswersScript (node_at listed n.id) (key_of_seed n.seed n.height) (winternitz_signature n.seed n.height) commands first disk shelf calls sink ends
   pub disk_failed : ends ≡ ending.Disk → disk.faults_before < disk.faults_after
   pub sink_failed : ends ≡ ending.Sink → sink.faults_before < sink.faults_after
@@ -59,7 +59,7 @@ pub record RunsNode (n : NodeWords) (disk : Disks) (shelf : Shelves) (loads : Lo
   pub commands : List line.Command
   pub script : WhereTold shelf (HasFile shelf n.script (λ bytes. IsTextOfScript bytes commands))
   pub loaded : LoadsFrom (n.roster ∷ n.script ∷ []) commands loads
-  pub ends : Ending
+  pub ends : ScriptEnding
   pub status_is : status ≡ status_of ends
   pub runs : RunsScript listed n commands (n.roster ∷ n.script ∷ []) disk shelf calls sink same_disk ends
 
@@ -68,7 +68,7 @@ pub record RunsNode (n : NodeWords) (disk : Disks) (shelf : Shelves) (loads : Lo
 abbrev pub RunsBytes : List RosterEntry → NodeWords → List ℕ → Disks → Shelves → Loads → Asked → Sinks → (same_disk same_files : Type 0) → Status → Type 0
 RunsBytes listed n bytes disk shelf loads calls sink same_disk same_files status =
     ((same_disk × same_files) × (HasLoaded loads [] × Ends (λ answer text. (answer ≡ Input) × IsNoScript n.script text bytes) (λ text. text ≡ []) sink status)) ⊎
-    ((commands : List line.Command) × (IsTextOfScript bytes commands × (LoadsFrom [] commands loads × ((ends : Ending) × ((status ≡ status_of ends) × RunsScript listed n commands [] disk shelf calls sink same_disk ends)))))
+    ((commands : List line.Command) × (IsTextOfScript bytes commands × (LoadsFrom [] commands loads × ((ends : ScriptEnding) × ((status ≡ status_of ends) × RunsScript listed n commands [] disk shelf calls sink same_disk ends)))))
 
 -- What `node` answers where its script can't be had or is none.
 abbrev pub ScriptInputs : Shelves → Loads → List ℕ → Status → List ℕ → Type 0
@@ -80,11 +80,11 @@ ScriptInputs shelf loads script status text =
 abbrev pub RunsFile : List RosterEntry → NodeWords → Disks → Shelves → Loads → Asked → Sinks → (same_disk same_files : Type 0) → Status → Type 0
 RunsFile listed n disk shelf loads calls sink same_disk same_files status =
     ((same_disk × same_files) × (HasLoaded loads (n.script ∷ []) × Ends (ScriptInputs shelf loads n.script) (λ text. text ≡ []) sink status)) ⊎
-    ((commands : List line.Command) × (WhereTold shelf (HasFile shelf n.script (λ bytes. IsTextOfScript bytes commands)) × (LoadsFrom (n.script ∷ []) commands loads × ((ends : Ending) × ((status ≡ status_of ends) × RunsScript listed n commands (n.script ∷ []) disk shelf calls sink same_disk ends)))))
+    ((commands : List line.Command) × (WhereTold shelf (HasFile shelf n.script (λ bytes. IsTextOfScript bytes commands)) × (LoadsFrom (n.script ∷ []) commands loads × ((ends : ScriptEnding) × ((status ≡ status_of ends) × RunsScript listed n commands (n.script ∷ []) disk shelf calls sink same_disk ends)))))
 
 -- What a command comes to. Every command but `node` leaves disk and files as they were and stores nothing, and so does `node` where its roster or its
 -- script can't be had.
-abbrev pub Results : Option Command → Disks → Shelves → Loads → Asked → Sinks → (same_disk same_files : Type 0) → Status → Type 0
+abbrev pub Results : Option Invocation → Disks → Shelves → Loads → Asked → Sinks → (same_disk same_files : Type 0) → Status → Type 0
 Results (Some (asked.Node n)) disk shelf loads calls sink same_disk same_files status =
     ((same_disk × same_files) × CommandEnds shelf loads (Some (asked.Node n)) sink status) ⊎ RunsNode n disk shelf loads calls sink same_disk status
 Results command disk shelf loads calls sink same_disk same_files status = (same_disk × same_files) × CommandEnds shelf loads command sink status
@@ -98,7 +98,7 @@ Between P f shelf shelf_then d disk disk_then s out out_then status =
     (disk_then ≡ disk) ((f.file shelf_then ≡ f.file shelf) × (f.stores shelf_then ≡ f.stores shelf)) status
 
 -- what a run of `node` comes to where nothing fails, over a lawful journal of this node, or none; Memory may stand in its place
-abbrev pub CompletesNode : Disks → Shelves → Option Command → Status → Type 0
+abbrev pub CompletesNode : Disks → Shelves → Option Invocation → Status → Type 0
 CompletesNode disk shelf (Some (asked.Node n)) status = (listed : List RosterEntry) (commands : List line.Command) (J : List Record) → HasFile shelf n.roster (λ bytes. IsRosterText bytes listed) → HasFile shelf n.script (λ bytes. IsTextOfScript bytes commands)
     → key_of listed n.id ≡ Some (key_of_seed n.seed n.height) → IsLawful (node_at listed n.id) J → HasRecords J disk.file
     → (status ≡ status_of (answers_of (node_at listed n.id) (winternitz_signature n.seed n.height) (session_from (node_at listed n.id) J [] shelf.file) commands).ending) ⊎ (status ≡ Memory)
@@ -110,5 +110,5 @@ pub record IsWellDisk (disk : Disks) : Type 0 where
   pub is_well : disk.faults_after ≡ disk.faults_before
 
 -- Where no count of faults rises, each file is there and each is in its grammar, `node` does what it says.
-abbrev pub NodeCompletes : Disks → Shelves → Sinks → Option Command → Status → Type 0
+abbrev pub NodeCompletes : Disks → Shelves → Sinks → Option Invocation → Status → Type 0
 NodeCompletes disk shelf sink command status = IsWell shelf sink → IsWellDisk disk → CompletesNode disk shelf command status

@@ -3,11 +3,7 @@ use Rattle.std.specs.Prelude.{◌≡◌, ◌<◌, ◌⊎◌, ◌↔◌, ℕ, ◌
 use Rattle.std.specs.Fmt.{decimal}
 use Rattle.std.specs.List.{AllByRecursion}
 use Rattle.hex.specs.Hex.{encode_lower}
-use Rattle.depot_base.specs.Statement.{writer_of}
 use Rattle.depot_base.specs.declared.memory.Memory as absent
-use Rattle.depot_base.specs.declared.proof.Kind.{Kind}
-use Rattle.depot_base.specs.declared.proof.Proof.TheVariants.{Pair}
-use Rattle.depot_base.specs.declared.statement.Signed.{Signed}
 use Rattle.depot_base.specs.declared.update.Update.{Update}
 use Rattle.depot_base.specs.declared.key.RosterEntry.{RosterEntry}
 use Rattle.depot_model.specs.declared.judgement.Verdict.{Verdict}
@@ -22,9 +18,8 @@ use Rattle.depot_model.specs.Winternitz.{root_of, winternitz_verifies}
 use Rattle.depot_model.specs.Lines.{text_of_verdict, text_of_point, text_of_roster_error}
 use Rattle.depot_model.specs.Causality.{IsForkJoinCausal, ConvictsNoCorrectNode}
 use Rattle.depot_model.specs.Items.{AreDistinct}
-use Rattle.depot_model.specs.Lists.{IsIn}
 use Rattle.depot_model.specs.Roster.{has_node}
-use Rattle.depot_model.specs.World.{Correct, World, IsAuthentic, IsCollisionFree, proofs_of}
+use Rattle.depot_model.specs.World.{IsAuthentic, IsCollisionFree}
 use Rattle.depot_model.specs.Audit as audits
 use Rattle.depot_model.specs.Traces.{IsFindingOf, IsCausalWorldOf}
 use Rattle.depot_answers.specs.AnswerTexts.{text_of_faulty_line, text_of_finding}
@@ -33,31 +28,32 @@ use Rattle.depot_schedule.specs.Schedules.{IsTextOfSchedule, schedule_of}
 use Rattle.depot_lines.specs.declared.line_fault.LineFault.{LineFault}
 use Rattle.depot_schedule.specs.declared.schedule.Schedule.{Schedule}
 use Rattle.depot_world.specs.Transcript.{transcript_of, world_of}
+use Rattle.depot_laws.specs.WorldFacts.{PairsConvictNoCorrectNode}
 use Rattle.depot_load.specs.Loads.{load_of}
 use Rattle.depot_load.specs.Summaries.{summary_of}
 use Rattle.depot_session.specs.Sessions.{shelf_line}
 use Rattle.depot_scan.specs.LogScans.{IsScanned, HasOrphan}
 use Rattle.depot_outside.specs.Told.{Shelves, Loads, HasLoaded, HasFile, WhereTold, LacksFile, Sinks, Wrote, WroteFront}
 use Rattle.depot_traces.specs.SeenTraces.{trace_of}
-use Rattle.depot_traces.specs.TraceTexts.{IsTrace, text_of_trace}
+use Rattle.depot_traces.specs.TraceTexts.{IsTrace}
 use Rattle.depot_traces.specs.declared.trace.Trace.{Trace}
-use Rattle.depot_trace_files.specs.Handing.{AreForAudit, AreHanded, IsGathered, IsRefusedAt, nodes_of}
+use Rattle.depot_trace_files.specs.Handing.{AreHanded, IsGathered, IsRefusedAt, nodes_of}
 use Rattle.depot_trace_files.specs.declared.loading.GatheredTraces.{GatheredTraces}
 use Rattle.depot_trace_files.specs.declared.loading.GatheredTraces.TheVariants as gathered
 use Rattle.depot_trace_files.specs.declared.loading.TraceRefusal.{TraceRefusal}
 use Rattle.depot_trace_files.specs.declared.loading.TraceRefusal.TheVariants as refusal
-use Rattle.depot_cli.specs.declared.invocation.Command.{Command}
-use Rattle.depot_cli.specs.declared.invocation.Command.TheVariants as asked
-use Rattle.depot_cli.specs.declared.outcome.Outcome.{Outcome}
+use Rattle.depot_cli.specs.declared.invocation.Invocation.{Invocation}
+use Rattle.depot_cli.specs.declared.invocation.Invocation.TheVariants as asked
+use Rattle.depot_cli.specs.declared.outcome.CommandOutcome.{CommandOutcome}
 use Rattle.depot_cli.specs.declared.status.Status.{Status}
 use Rattle.depot_cli.specs.declared.status.Status.TheVariants.{Done, Words, Input, Shelf, Sink, Memory, NoProof, NotLawful, Broken}
 
 -- ---- the shelf
 
 -- what a load of the name gives: the bytes of the file, or nothing
-abbrev pub IsLoaded : Shelves → List ℕ → Option (List ℕ) → Type 0
-IsLoaded shelf name (Some bytes) = WhereTold shelf (shelf.file name ≡ Some bytes) × (shelf.faults_after ≡ shelf.faults_before)
-IsLoaded shelf name None = LacksFile shelf name
+abbrev pub IsFileLoaded : Shelves → List ℕ → Option (List ℕ) → Type 0
+IsFileLoaded shelf name (Some bytes) = WhereTold shelf (shelf.file name ≡ Some bytes) × (shelf.faults_after ≡ shelf.faults_before)
+IsFileLoaded shelf name None = LacksFile shelf name
 
 -- where the shelf failed nothing else is answered
 abbrev pub EndsAtFault : Shelves → Status → Type 0
@@ -143,10 +139,6 @@ Judges shelf loads roster proof status text =
 
 -- ---- replay
 
--- no proof of two statements in a world names a correct node
-abbrev pub PairsSpareCorrectNodes : World → Type 0
-PairsSpareCorrectNodes W = (c : Correct) (kind : Kind) (a b : Signed) → IsIn c W.nodes → IsIn (Pair kind a b) (proofs_of W) → writer_of a.statement ≡ c.node → ⊥
-
 -- The bytes are the text of a schedule, and the text is its transcript. So it tells of a world that is fork-join causal and convicts no
 -- correct node, while no correct node's signature is forged and no two hashed texts collide in it. No proof of two statements names a
 -- correct node while none is forged, whether texts collide or not.
@@ -156,7 +148,7 @@ pub record IsReplayed (text bytes : List ℕ) : Type 0 where
   pub is : text ≡ transcript_of schedule
   pub causal : IsAuthentic (world_of schedule) → IsCollisionFree (world_of schedule) → IsForkJoinCausal (world_of schedule)
   pub convicts : IsAuthentic (world_of schedule) → IsCollisionFree (world_of schedule) → ConvictsNoCorrectNode (world_of schedule)
-  pub pairs : IsAuthentic (world_of schedule) → PairsSpareCorrectNodes (world_of schedule)
+  pub pairs : IsAuthentic (world_of schedule) → PairsConvictNoCorrectNode (world_of schedule)
 
 -- the bytes are no schedule's, and the text tells the first faulty line and its first fault
 pub record IsNoSchedule (name text bytes : List ℕ) : Type 0 where
@@ -234,8 +226,8 @@ status_of_refusal refusal.Missing = Shelf
 status_of_refusal why = Input
 
 -- the shelf failed in this run
-abbrev pub HasFailed : Shelves → Type 0
-HasFailed shelf = shelf.faults_before < shelf.faults_after
+abbrev pub HasShelfFailed : Shelves → Type 0
+HasShelfFailed shelf = shelf.faults_before < shelf.faults_after
 
 -- What the trace files of these names answer, where this was gathered of them.
 abbrev pub AnswersGathered : List RosterEntry → List (List ℕ) → GatheredTraces → Status → List ℕ → Type 0
@@ -244,14 +236,14 @@ AnswersGathered listed names (gathered.Refused place why) status text = (status 
 
 -- What they answer behind a roster: what was gathered of them, by which files were loaded, and its answer.
 abbrev pub AnswersFiles : Shelves → Loads → List RosterEntry → List (List ℕ) → Status → List ℕ → Type 0
-AnswersFiles shelf loads listed names status text = (g : GatheredTraces) × (IsGathered shelf.tells shelf.file (HasFailed shelf) (shelf.faults_after ≡ shelf.faults_before) loads listed names g × AnswersGathered listed names g status text)
+AnswersFiles shelf loads listed names status text = (g : GatheredTraces) × (IsGathered shelf.tells shelf.file (HasShelfFailed shelf) (shelf.faults_after ≡ shelf.faults_before) loads listed names g × AnswersGathered listed names g status text)
 
 -- The trace file of a place is refused: those before it were loaded and are traces of distinct nodes of the roster, and none behind it was loaded.
 pub record RefusesTrace (shelf : Shelves) (loads : Loads) (listed : List RosterEntry) (roster : List ℕ) (names : List (List ℕ)) (status : Status) (text : List ℕ) : Type 0 where
   pub place : ℕ
   pub why : TraceRefusal
   pub loaded : HasLoaded loads (roster ∷ take (place + 1) names)
-  pub refused : IsRefusedAt shelf.tells shelf.file (HasFailed shelf) listed names place why
+  pub refused : IsRefusedAt shelf.tells shelf.file (HasShelfFailed shelf) listed names place why
   pub status_is : status ≡ status_of_refusal why
   pub text_is : text ≡ text_of_refusal refused.name why
 
@@ -272,15 +264,15 @@ Audits shelf loads roster names status text =
 -- ---- any command
 
 -- what the command answers and prints, and which files it loads, where memory is found and the sink doesn't fail
-abbrev pub Answers : Shelves → Loads → Option Command → Status → List ℕ → Type 0
-Answers shelf loads None status text = HasLoaded loads [] × ((status ≡ Words) × (text ≡ codes "words\n"))
-Answers shelf loads (Some (asked.Scan log key)) status text = HasLoaded loads (log ∷ []) × Scans shelf log key status text
-Answers shelf loads (Some (asked.Key seed height)) status text = HasLoaded loads [] × PrintsKey seed height status text
-Answers shelf loads (Some (asked.Judge roster proof)) status text = Judges shelf loads roster proof status text
-Answers shelf loads (Some (asked.Replay schedule)) status text = HasLoaded loads (schedule ∷ []) × Replays shelf schedule status text
-Answers shelf loads (Some (asked.Load number)) status text = HasLoaded loads [] × PrintsLoad number status text
-Answers shelf loads (Some (asked.Node n)) status text = NodeInputs shelf loads n.roster n.script status text
-Answers shelf loads (Some (asked.Audit roster traces)) status text = Audits shelf loads roster traces status text
+abbrev pub AnswersCommand : Shelves → Loads → Option Invocation → Status → List ℕ → Type 0
+AnswersCommand shelf loads None status text = HasLoaded loads [] × ((status ≡ Words) × (text ≡ codes "words\n"))
+AnswersCommand shelf loads (Some (asked.Scan log key)) status text = HasLoaded loads (log ∷ []) × Scans shelf log key status text
+AnswersCommand shelf loads (Some (asked.Key seed height)) status text = HasLoaded loads [] × PrintsKey seed height status text
+AnswersCommand shelf loads (Some (asked.Judge roster proof)) status text = Judges shelf loads roster proof status text
+AnswersCommand shelf loads (Some (asked.Replay schedule)) status text = HasLoaded loads (schedule ∷ []) × Replays shelf schedule status text
+AnswersCommand shelf loads (Some (asked.Load number)) status text = HasLoaded loads [] × PrintsLoad number status text
+AnswersCommand shelf loads (Some (asked.Node n)) status text = NodeInputs shelf loads n.roster n.script status text
+AnswersCommand shelf loads (Some (asked.Audit roster traces)) status text = Audits shelf loads roster traces status text
 
 -- nothing, or a front of a text of which this holds
 abbrev pub IsFrontOf : (List ℕ → Type 0) → List ℕ → Type 0
@@ -299,7 +291,7 @@ abbrev pub LoadsSomeBehindRoster : Shelves → Loads → List ℕ → List (List
 LoadsSomeBehindRoster shelf loads roster names = LoadsAtMost loads roster ⊎ ((n : ℕ) × (HasLoaded loads (roster ∷ take n names) × WhereTold shelf (HasRoster shelf roster)))
 
 -- what had been loaded when memory ran out: the first of the files that the words name
-abbrev pub LoadsFirst : Shelves → Loads → Option Command → Type 0
+abbrev pub LoadsFirst : Shelves → Loads → Option Invocation → Type 0
 LoadsFirst shelf loads (Some (asked.Scan log key)) = LoadsAtMost loads log
 LoadsFirst shelf loads (Some (asked.Judge roster proof)) = LoadsBehindRoster shelf loads roster proof
 LoadsFirst shelf loads (Some (asked.Replay schedule)) = LoadsAtMost loads schedule
@@ -308,8 +300,8 @@ LoadsFirst shelf loads (Some (asked.Audit roster traces)) = LoadsSomeBehindRoste
 LoadsFirst shelf loads command = HasLoaded loads []
 
 -- what had been loaded and written when memory ran out: no text, or a front of the transcript that `replay` writes line by line
-abbrev pub Begins : Shelves → Loads → Option Command → List ℕ → Type 0
-Begins shelf loads (Some (asked.Replay schedule)) text = LoadsAtMost loads schedule × IsFrontOf (Answers shelf loads (Some (asked.Replay schedule)) Done) text
+abbrev pub Begins : Shelves → Loads → Option Invocation → List ℕ → Type 0
+Begins shelf loads (Some (asked.Replay schedule)) text = LoadsAtMost loads schedule × IsFrontOf (AnswersCommand shelf loads (Some (asked.Replay schedule)) Done) text
 Begins shelf loads command text = LoadsFirst shelf loads command × (text ≡ [])
 
 -- ---- how a run ends
@@ -341,17 +333,17 @@ abbrev pub Ends : (Status → List ℕ → Type 0) → (List ℕ → Type 0) →
 Ends answers begins sink status = EndsWhole answers sink status ⊎ (EndsWithoutMemory begins sink status ⊎ EndsCutShort answers sink status)
 
 -- how the run of a command ends
-abbrev pub CommandEnds : Shelves → Loads → Option Command → Sinks → Status → Type 0
-CommandEnds shelf loads command sink status = Ends (Answers shelf loads command) (Begins shelf loads command) sink status
+abbrev pub CommandEnds : Shelves → Loads → Option Invocation → Sinks → Status → Type 0
+CommandEnds shelf loads command sink status = Ends (AnswersCommand shelf loads command) (Begins shelf loads command) sink status
 
 -- how a run ends that writes at once the text that it came to
-abbrev pub Finishes : Result Outcome absent.Memory → Sinks → Status → Type 0
+abbrev pub Finishes : Result CommandOutcome absent.Memory → Sinks → Status → Type 0
 Finishes (Ok o) sink status = Ends (λ answer text. (answer ≡ o.status) × (text ≡ o.text)) (λ text. text ≡ []) sink status
 Finishes (Err e) sink status = EndsWithoutMemory (λ text. text ≡ []) sink status
 
 -- how a run ends that plays a schedule: the whole transcript is written, or a front of it
-abbrev pub Plays : Schedule → Sinks → Status → Type 0
-Plays s sink status = Ends (λ answer text. (answer ≡ Done) × (text ≡ transcript_of s)) (λ text. (n : ℕ) × (text ≡ take n (transcript_of s))) sink status
+abbrev pub PlaysSchedule : Schedule → Sinks → Status → Type 0
+PlaysSchedule s sink status = Ends (λ answer text. (answer ≡ Done) × (text ≡ transcript_of s)) (λ text. (n : ℕ) × (text ≡ take n (transcript_of s))) sink status
 
 -- ---- what nothing stands in the way of
 
@@ -380,12 +372,12 @@ abbrev pub AreOfRoster : List RosterEntry → List Trace → Type 0
 AreOfRoster listed ts = AllByRecursion (λ t. has_node listed t.node ≡ true) ts × AreDistinct (nodes_of ts)
 
 -- what such a run comes to, where its files are there and in their grammars; Memory may stand in place of each status. Of `node` it is said beside its runs.
-abbrev pub Completes : Shelves → Option Command → Status → Type 0
-Completes shelf None status = (status ≡ Words) ⊎ (status ≡ Memory)
-Completes shelf (Some (asked.Scan log key)) status = HasFile shelf log IsWholeLog → (status ≡ Done) ⊎ (status ≡ Memory)
-Completes shelf (Some (asked.Key seed height)) status = (status ≡ Done) ⊎ (status ≡ Memory)
-Completes shelf (Some (asked.Judge roster proof)) status = HasRoster shelf roster → HasFile shelf proof (λ bytes. Unit {0}) → (status ≡ Done) ⊎ ((status ≡ NoProof) ⊎ (status ≡ Memory))
-Completes shelf (Some (asked.Load number)) status = (status ≡ Done) ⊎ (status ≡ Memory)
-Completes shelf (Some (asked.Node n)) status = Unit {0}
-Completes shelf (Some (asked.Audit roster names)) status = (listed : List RosterEntry) (ts : List Trace) → HasFile shelf roster (λ bytes. IsRosterText bytes listed) → AreTraceFiles shelf names ts → AreOfRoster listed ts → (status ≡ Done) ⊎ ((status ≡ Broken) ⊎ (status ≡ Memory))
-Completes shelf (Some (asked.Replay schedule)) status = HasFile shelf schedule IsScheduleText → (status ≡ Done) ⊎ (status ≡ Memory)
+abbrev pub CommandCompletes : Shelves → Option Invocation → Status → Type 0
+CommandCompletes shelf None status = (status ≡ Words) ⊎ (status ≡ Memory)
+CommandCompletes shelf (Some (asked.Scan log key)) status = HasFile shelf log IsWholeLog → (status ≡ Done) ⊎ (status ≡ Memory)
+CommandCompletes shelf (Some (asked.Key seed height)) status = (status ≡ Done) ⊎ (status ≡ Memory)
+CommandCompletes shelf (Some (asked.Judge roster proof)) status = HasRoster shelf roster → HasFile shelf proof (λ bytes. Unit {0}) → (status ≡ Done) ⊎ ((status ≡ NoProof) ⊎ (status ≡ Memory))
+CommandCompletes shelf (Some (asked.Load number)) status = (status ≡ Done) ⊎ (status ≡ Memory)
+CommandCompletes shelf (Some (asked.Node n)) status = Unit {0}
+CommandCompletes shelf (Some (asked.Audit roster names)) status = (listed : List RosterEntry) (ts : List Trace) → HasFile shelf roster (λ bytes. IsRosterText bytes listed) → AreTraceFiles shelf names ts → AreOfRoster listed ts → (status ≡ Done) ⊎ ((status ≡ Broken) ⊎ (status ≡ Memory))
+CommandCompletes shelf (Some (asked.Replay schedule)) status = HasFile shelf schedule IsScheduleText → (status ≡ Done) ⊎ (status ≡ Memory)

@@ -1,7 +1,7 @@
 -- The exit status of each way in which a run ends, and how the run of a script ends as a status.
 use Rattle.std.specs.Prelude.{ℕ}
-use Rattle.depot_session.specs.declared.ending.Ending.{Ending}
-use Rattle.depot_session.specs.declared.ending.Ending.TheVariants as ending
+use Rattle.depot_session.specs.declared.ending.ScriptEnding.{ScriptEnding}
+use Rattle.depot_session.specs.declared.ending.ScriptEnding.TheVariants as ending
 use Rattle.depot_cli.specs.declared.status.Status.{Status}
 use Rattle.depot_cli.specs.declared.status.Status.TheVariants.{Done, Words, Input, Shelf, Disk, Sink, Memory, NoProof, Limit, NotLawful, Identity, Broken}
 
@@ -19,7 +19,7 @@ number_of_status NotLawful = 9
 number_of_status Identity = 10
 number_of_status Broken = 11
 
-abbrev pub status_of : Ending → Status
+abbrev pub status_of : ScriptEnding → Status
 status_of ending.Done = Done
 status_of ending.Input = Input
 status_of ending.Shelf = Shelf

@@ -10,7 +10,7 @@ ghost use Rattle.depot_cli.specs.Runs.{AnswersFiles, Audits, EndsAtFault, IsAudi
 
 use crate::files::load;
 use crate::judge_command::{line, refused_roster};
-use crate::outcome::Outcome;
+use crate::outcome::CommandOutcome;
 use crate::status::Status;
 use crate::trace_names::TraceNames;
 use depot_answers::finding;
@@ -35,7 +35,7 @@ fn status_of(found: &Finding) -> Status
 }
 
 /// What an audit finds, printed.
-fn found_line(alloc: Global, found: Finding) -> Result<Outcome, Memory>
+fn found_line(alloc: Global, found: Finding) -> Result<CommandOutcome, Memory>
     ensures { IfOk result (λ o. o ≡ record { status = status_of_finding (finding_of found); text = text_of_finding (finding_of found) ++ codes "\n" }) }
 {
     let mut text = Bytes::new(alloc);
@@ -44,7 +44,7 @@ fn found_line(alloc: Global, found: Finding) -> Result<Outcome, Memory>
 }
 
 /// What an audit finds, printed, where memory was found for it.
-fn found_or_none(alloc: Global, found: Result<Finding, Memory>) -> Result<Outcome, Memory>
+fn found_or_none(alloc: Global, found: Result<Finding, Memory>) -> Result<CommandOutcome, Memory>
     ensures printed { IfOk result (λ o. IfOk found (λ f. o ≡ record { status = status_of_finding (finding_of f); text = text_of_finding (finding_of f) ++ codes "\n" })) }
     ensures some { IfOk result (λ _. IsOk found) }
 {
@@ -55,7 +55,7 @@ fn found_or_none(alloc: Global, found: Result<Finding, Memory>) -> Result<Outcom
 }
 
 /// What an audit of traces finds, printed.
-fn audited(alloc: Global, roster: &Roster, traces: &Traces) -> Result<Outcome, Memory>
+fn audited(alloc: Global, roster: &Roster, traces: &Traces) -> Result<CommandOutcome, Memory>
     requires some { 1 ≤ length traces.now }
     requires few { length traces.now ≤ MOST_TRACES }
     requires traces { AreForAudit roster.now traces.now }
@@ -65,28 +65,28 @@ fn audited(alloc: Global, roster: &Roster, traces: &Traces) -> Result<Outcome, M
 }
 
 /// The file of that name isn't in its grammar from this offset on, printed.
-fn ill_formed(alloc: Global, name: &str, at: u64) -> Result<Outcome, Memory>
+fn ill_formed(alloc: Global, name: &str, at: u64) -> Result<CommandOutcome, Memory>
     ensures { IfOk result (λ o. o ≡ record { status = Status.Input; text = codes "input " ++ name.now ++ codes " at " ++ decimal at ++ codes "\n" }) }
 {
     let line = format!(in alloc; "input {name} at {at}\n")?;
-    Outcome::of_line(alloc, Status::Input, line.as_str())
+    CommandOutcome::of_line(alloc, Status::Input, line.as_str())
 }
 
 /// The file of that name has the trace of a node of which a file before it has one, printed.
-fn twice(alloc: Global, name: &str, node: NodeId) -> Result<Outcome, Memory>
+fn twice(alloc: Global, name: &str, node: NodeId) -> Result<CommandOutcome, Memory>
     ensures { IfOk result (λ o. o ≡ record { status = Status.Input; text = codes "input " ++ name.now ++ codes " twice " ++ decimal node ++ codes "\n" }) }
 {
     let node = node.number();
     let line = format!(in alloc; "input {name} twice {node}\n")?;
-    Outcome::of_line(alloc, Status::Input, line.as_str())
+    CommandOutcome::of_line(alloc, Status::Input, line.as_str())
 }
 
 /// Why the file of that name is no trace for the audit, printed.
-fn refused(alloc: Global, name: &str, why: TraceRefusal) -> Result<Outcome, Memory>
+fn refused(alloc: Global, name: &str, why: TraceRefusal) -> Result<CommandOutcome, Memory>
     ensures { IfOk result (λ o. o ≡ record { status = status_of_refusal why; text = text_of_refusal name.now why }) }
 {
     match why {
-        TraceRefusal::Missing => Outcome::no_file(alloc, name),
+        TraceRefusal::Missing => CommandOutcome::no_file(alloc, name),
         TraceRefusal::IllFormed(at) => ill_formed(alloc, name, at),
         TraceRefusal::Twice(node) => twice(alloc, name, node),
         TraceRefusal::Stranger => ill_formed(alloc, name, 2),
@@ -99,7 +99,7 @@ fn audit_files<F: Shelf>(
     shelf: &mut F,
     roster: &Roster,
     names: &[FileName],
-) -> Result<Outcome, Memory>
+) -> Result<CommandOutcome, Memory>
     requires some { 1 ≤ length names.now }
     requires few { length names.now ≤ MOST_TRACES }
     ensures answers { IfOk result (λ o. AnswersFiles (shelves F.Shelf shelf.old shelf.new) (loads F.Shelf shelf.old shelf.new) roster.now names.now o.status o.text) }
@@ -120,7 +120,7 @@ pub fn audit<F: Shelf>(
     shelf: &mut F,
     roster: &str,
     traces: &TraceNames,
-) -> Result<Outcome, Memory>
+) -> Result<CommandOutcome, Memory>
     ensures audits { IfOk result (λ o. Audits (shelves F.Shelf shelf.old shelf.new) (loads F.Shelf shelf.old shelf.new) roster.now traces.now o.status o.text) }
     ensures first_fault { IfOk result (λ o. EndsAtFault (shelves F.Shelf shelf.old shelf.new) o.status) }
     ensures loads { LoadsSomeBehindRoster (shelves F.Shelf shelf.old shelf.new) (loads F.Shelf shelf.old shelf.new) roster.now traces.now }
@@ -128,7 +128,7 @@ pub fn audit<F: Shelf>(
     ensures stores { F.stores shelf.new ≡ F.stores shelf.old }
 {
     let Some(text) = load(shelf, roster)? else {
-        return Outcome::no_file(alloc, roster);
+        return CommandOutcome::no_file(alloc, roster);
     };
     match Roster::parse(alloc, text.as_slice()) {
         Ok(listed) => audit_files(alloc, shelf, &listed, traces.as_slice()),

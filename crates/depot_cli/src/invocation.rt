@@ -16,7 +16,7 @@ use std::alloc::Global;
 
 /// What the words ask for.
 #[derive(Debug, Drop)]
-pub enum Command {
+pub enum Invocation {
     /// `scan LOG KEY`: the latest writes of a key in a log. The name of the log, and the key.
     Scan(Word, Key),
     /// `key SEED HEIGHT`: the root of a Winternitz key.
@@ -44,7 +44,7 @@ pub struct NodeWords {
 }
 
 /// The command of `scan`'s two words.
-fn scan_command(alloc: Global, log: &Word, key: &Word) -> Result<Option<Command>, Memory>
+fn scan_command(alloc: Global, log: &Word, key: &Word) -> Result<Option<Invocation>, Memory>
     ensures { IfOk result (λ c. c ≡ scan_command log.now key.now) }
 {
     let Some(log) = name_word(log)? else {
@@ -53,11 +53,11 @@ fn scan_command(alloc: Global, log: &Word, key: &Word) -> Result<Option<Command>
     let Some(key) = key_word(alloc, key)? else {
         return Ok(None);
     };
-    Ok(Some(Command::Scan(log, key)))
+    Ok(Some(Invocation::Scan(log, key)))
 }
 
 /// The command of `key`'s two words.
-fn key_command(alloc: Global, seed: &Word, height: &Word) -> Result<Option<Command>, Memory>
+fn key_command(alloc: Global, seed: &Word, height: &Word) -> Result<Option<Invocation>, Memory>
     ensures { IfOk result (λ c. c ≡ key_command seed.now height.now) }
 {
     let Some(seed) = hash_word(alloc, seed)? else {
@@ -66,11 +66,11 @@ fn key_command(alloc: Global, seed: &Word, height: &Word) -> Result<Option<Comma
     let Some(height) = height_word(height) else {
         return Ok(None);
     };
-    Ok(Some(Command::Key(seed, height)))
+    Ok(Some(Invocation::Key(seed, height)))
 }
 
 /// The command of `judge`'s two words.
-fn judge_command(roster: &Word, proof: &Word) -> Result<Option<Command>, Memory>
+fn judge_command(roster: &Word, proof: &Word) -> Result<Option<Invocation>, Memory>
     ensures { IfOk result (λ c. c ≡ judge_command roster.now proof.now) }
 {
     let Some(roster) = name_word(roster)? else {
@@ -79,25 +79,25 @@ fn judge_command(roster: &Word, proof: &Word) -> Result<Option<Command>, Memory>
     let Some(proof) = name_word(proof)? else {
         return Ok(None);
     };
-    Ok(Some(Command::Judge(roster, proof)))
+    Ok(Some(Invocation::Judge(roster, proof)))
 }
 
 /// The command of `replay`'s word.
-fn replay_command(schedule: &Word) -> Result<Option<Command>, Memory>
+fn replay_command(schedule: &Word) -> Result<Option<Invocation>, Memory>
     ensures { IfOk result (λ c. c ≡ replay_command schedule.now) }
 {
     match name_word(schedule)? {
-        Some(schedule) => Ok(Some(Command::Replay(schedule))),
+        Some(schedule) => Ok(Some(Invocation::Replay(schedule))),
         None => Ok(None),
     }
 }
 
 /// The command of `load`'s word.
-fn load_command(number: &Word) -> Option<Command>
+fn load_command(number: &Word) -> Option<Invocation>
     ensures { result ≡ load_command number.now }
 {
     match load_word(number) {
-        Some(number) => Some(Command::Load(number)),
+        Some(number) => Some(Invocation::Load(number)),
         None => None,
     }
 }
@@ -110,7 +110,7 @@ fn node_command(
     height: &Word,
     id: &Word,
     script: &Word,
-) -> Result<Option<Command>, Memory>
+) -> Result<Option<Invocation>, Memory>
     ensures { IfOk result (λ c. c ≡ node_command roster.now seed.now height.now id.now script.now) }
 {
     let Some(roster) = name_word(roster)? else {
@@ -128,7 +128,7 @@ fn node_command(
     let Some(script) = name_word(script)? else {
         return Ok(None);
     };
-    Ok(Some(Command::Node(NodeWords {
+    Ok(Some(Invocation::Node(NodeWords {
         roster,
         seed,
         height,
@@ -166,7 +166,11 @@ fn trace_names(alloc: Global, words: &[Word]) -> Result<Option<TraceNames>, Memo
 }
 
 /// The command of `audit`'s words.
-fn audit_command(alloc: Global, roster: &Word, traces: &[Word]) -> Result<Option<Command>, Memory>
+fn audit_command(
+    alloc: Global,
+    roster: &Word,
+    traces: &[Word],
+) -> Result<Option<Invocation>, Memory>
     ensures { IfOk result (λ c. c ≡ audit_command roster.now traces.now) }
 {
     let Some(roster) = name_word(roster)? else {
@@ -175,12 +179,12 @@ fn audit_command(alloc: Global, roster: &Word, traces: &[Word]) -> Result<Option
     let Some(traces) = trace_names(alloc, traces)? else {
         return Ok(None);
     };
-    Ok(Some(Command::Audit(roster, traces)))
+    Ok(Some(Invocation::Audit(roster, traces)))
 }
 
 /// The command of two words.
 #[tactic(auto, unfolding(crate::specs::Words::command_with))]
-fn two_words(verb: &Word, word: &Word) -> Result<Option<Command>, Memory>
+fn two_words(verb: &Word, word: &Word) -> Result<Option<Invocation>, Memory>
     ensures { IfOk result (λ c. c ≡ command_with verb.now word.now) }
 {
     if verb.is("replay") {
@@ -199,7 +203,7 @@ fn three_words(
     verb: &Word,
     first: &Word,
     second: &Word,
-) -> Result<Option<Command>, Memory>
+) -> Result<Option<Invocation>, Memory>
     ensures { IfOk result (λ c. c ≡ command_by verb.now first.now second.now) }
 {
     if verb.is("scan") {
@@ -224,7 +228,7 @@ fn six_words(
     height: &Word,
     id: &Word,
     script: &Word,
-) -> Result<Option<Command>, Memory>
+) -> Result<Option<Invocation>, Memory>
     ensures { IfOk result (λ c. c ≡ command_for verb.now roster.now seed.now height.now id.now script.now) }
 {
     if verb.is("node") {
@@ -234,7 +238,7 @@ fn six_words(
 }
 
 /// The command that the words are, or None where they are none.
-pub fn parse(alloc: Global, words: &[Word]) -> Result<Option<Command>, Memory>
+pub fn parse(alloc: Global, words: &[Word]) -> Result<Option<Invocation>, Memory>
     ensures { IfOk result (λ c. c ≡ command_of words.now) }
 {
     if words.len() >= 2 && words[0].is("audit") {
@@ -244,7 +248,7 @@ pub fn parse(alloc: Global, words: &[Word]) -> Result<Option<Command>, Memory>
 }
 
 /// The command that the words are by their number: any but `audit`.
-fn by_number(alloc: Global, words: &[Word]) -> Result<Option<Command>, Memory>
+fn by_number(alloc: Global, words: &[Word]) -> Result<Option<Invocation>, Memory>
     ensures { IfOk result (λ c. c ≡ command_by_number words.now) }
 {
     match words {

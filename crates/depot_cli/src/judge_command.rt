@@ -7,7 +7,7 @@ ghost use Rattle.depot_outside.specs.Told.{shelves, loads, HasLoaded};
 ghost use Rattle.depot_cli.specs.Runs.{EndsAtFault, Judges, JudgesProof, IsPoint, JudgementOf, LoadsBehindRoster};
 
 use crate::files::load;
-use crate::outcome::Outcome;
+use crate::outcome::CommandOutcome;
 use crate::status::Status;
 use depot_base::{Bytes, Memory};
 use depot_judge::{JudgeError, Verdict};
@@ -17,15 +17,15 @@ use depot_winter::WinterScheme;
 use std::alloc::Global;
 
 /// A text as a line.
-pub fn line(status: Status, mut text: Bytes) -> Result<Outcome, Memory>
+pub fn line(status: Status, mut text: Bytes) -> Result<CommandOutcome, Memory>
     ensures { IfOk result (λ o. o ≡ record { status = status; text = text ++ codes "\n" }) }
 {
     text.push_all(b"\n")?;
-    Ok(Outcome { status, text })
+    Ok(CommandOutcome { status, text })
 }
 
 /// A verdict, printed.
-fn verdict(alloc: Global, verdict: Verdict) -> Result<Outcome, Memory>
+fn verdict(alloc: Global, verdict: Verdict) -> Result<CommandOutcome, Memory>
     ensures { IfOk result (λ o. o ≡ record { status = Status.Done; text = text_of_verdict verdict ++ codes "\n" }) }
 {
     let mut text = Bytes::new(alloc);
@@ -34,7 +34,7 @@ fn verdict(alloc: Global, verdict: Verdict) -> Result<Outcome, Memory>
 }
 
 /// A failed point, printed.
-fn no_proof(alloc: Global, point: &JudgeError) -> Result<Outcome, Memory>
+fn no_proof(alloc: Global, point: &JudgeError) -> Result<CommandOutcome, Memory>
     ensures { IfOk result (λ o. o ≡ record { status = Status.NoProof; text = text_of_point point.now ++ codes "\n" }) }
 {
     let mut text = Bytes::new(alloc);
@@ -44,7 +44,7 @@ fn no_proof(alloc: Global, point: &JudgeError) -> Result<Outcome, Memory>
 
 /// The file of that name is no roster, printed.
 #[tactic(auto, using(depot_base::proofs::Writing::texts))]
-fn no_roster(alloc: Global, name: &str, error: RosterError) -> Result<Outcome, Memory>
+fn no_roster(alloc: Global, name: &str, error: RosterError) -> Result<CommandOutcome, Memory>
     ensures { IfOk result (λ o. o ≡ record { status = Status.Input; text = codes "input " ++ name.now ++ codes " " ++ text_of_roster_error error ++ codes "\n" }) }
 {
     let front = format!(in alloc; "input {name} ")?;
@@ -54,7 +54,11 @@ fn no_roster(alloc: Global, name: &str, error: RosterError) -> Result<Outcome, M
 }
 
 /// The file of that name is no roster, printed, unless memory ran out.
-pub fn refused_roster(alloc: Global, name: &str, error: RosterError) -> Result<Outcome, Memory>
+pub fn refused_roster(
+    alloc: Global,
+    name: &str,
+    error: RosterError,
+) -> Result<CommandOutcome, Memory>
     ensures { IfOk result (λ o. (error ≢ RosterError.Memory) × (o ≡ record { status = Status.Input; text = codes "input " ++ name.now ++ codes " " ++ text_of_roster_error error ++ codes "\n" })) }
 {
     match error {
@@ -64,7 +68,7 @@ pub fn refused_roster(alloc: Global, name: &str, error: RosterError) -> Result<O
 }
 
 /// The judgement of the bytes of a proof, printed.
-fn judge_bytes(alloc: Global, roster: &Roster, proof: &[u8]) -> Result<Outcome, Memory>
+fn judge_bytes(alloc: Global, roster: &Roster, proof: &[u8]) -> Result<CommandOutcome, Memory>
     ensures { IfOk result (λ o. JudgementOf roster.now proof.now o.status o.text) }
 {
     match depot_judge::judge(alloc, roster, &WinterScheme, proof) {
@@ -80,7 +84,7 @@ fn judge_proof<F: Shelf>(
     shelf: &mut F,
     roster: &Roster,
     name: &str,
-) -> Result<Outcome, Memory>
+) -> Result<CommandOutcome, Memory>
     ensures judges { IfOk result (λ o. JudgesProof (shelves F.Shelf shelf.old shelf.new) roster.now name.now o.status o.text) }
     ensures first_fault { IfOk result (λ o. EndsAtFault (shelves F.Shelf shelf.old shelf.new) o.status) }
     ensures loads { HasLoaded (loads F.Shelf shelf.old shelf.new) (name.now ∷ []) }
@@ -89,7 +93,7 @@ fn judge_proof<F: Shelf>(
 {
     match load(shelf, name)? {
         Some(proof) => judge_bytes(alloc, roster, proof.as_slice()),
-        None => Outcome::no_file(alloc, name),
+        None => CommandOutcome::no_file(alloc, name),
     }
 }
 
@@ -99,7 +103,7 @@ pub fn judge<F: Shelf>(
     shelf: &mut F,
     roster: &str,
     proof: &str,
-) -> Result<Outcome, Memory>
+) -> Result<CommandOutcome, Memory>
     ensures judges { IfOk result (λ o. Judges (shelves F.Shelf shelf.old shelf.new) (loads F.Shelf shelf.old shelf.new) roster.now proof.now o.status o.text) }
     ensures first_fault { IfOk result (λ o. EndsAtFault (shelves F.Shelf shelf.old shelf.new) o.status) }
     ensures loads { LoadsBehindRoster (shelves F.Shelf shelf.old shelf.new) (loads F.Shelf shelf.old shelf.new) roster.now proof.now }
@@ -107,7 +111,7 @@ pub fn judge<F: Shelf>(
     ensures stores { F.stores shelf.new ≡ F.stores shelf.old }
 {
     let Some(text) = load(shelf, roster)? else {
-        return Outcome::no_file(alloc, roster);
+        return CommandOutcome::no_file(alloc, roster);
     };
     match Roster::parse(alloc, text.as_slice()) {
         Ok(listed) => judge_proof(alloc, shelf, &listed, proof),

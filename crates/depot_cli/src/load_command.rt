@@ -5,7 +5,7 @@ ghost use Rattle.depot_load.specs.Loads.{load_of};
 ghost use Rattle.depot_load.specs.Summaries.{summary_of};
 ghost use Rattle.depot_world.specs.Transcript.{transcript_of};
 
-use crate::outcome::Outcome;
+use crate::outcome::CommandOutcome;
 use crate::status::Status;
 use depot_base::{Bytes, Items, Memory};
 use depot_load::{loads_are_schedules, make_load, summary};
@@ -14,10 +14,10 @@ use depot_replay::{ReplayError, replay};
 use std::alloc::Global;
 
 /// The line that sums up the replay of the schedule that a number makes.
-pub fn summed_up(alloc: Global, number: u32) -> Result<Outcome, Memory>
+pub fn summed_up(alloc: Global, number: u32) -> Result<CommandOutcome, Memory>
     ensures { IfOk result (λ o. PrintsLoad number o.status o.text) }
 {
-    Ok(Outcome {
+    Ok(CommandOutcome {
         status: Status::Done,
         text: line(alloc, number)?,
     })

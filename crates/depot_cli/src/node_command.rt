@@ -5,9 +5,9 @@ ghost use Rattle.depot_cli.specs.Nodes.{Between, Results, RunsBytes, RunsFile};
 ghost use Rattle.depot_cli.specs.Runs.{EndsAtFault};
 
 use crate::files::load;
-use crate::invocation::{Command, NodeWords};
+use crate::invocation::{Invocation, NodeWords};
 use crate::judge_command::refused_roster;
-use crate::outcome::{Outcome, finish};
+use crate::outcome::{CommandOutcome, finish};
 use crate::status::Status;
 use depot_base::Memory;
 use depot_lines::TextError;
@@ -37,7 +37,7 @@ fn run_bytes<F: Shelf, D: Disk, S: Sink>(
         Ok(script) => script,
         Err(TextError::Memory) => return Status::Memory,
         Err(TextError::Line(number, fault)) => {
-            let told = Outcome::faulty_line(alloc, words.script.text(), number, fault);
+            let told = CommandOutcome::faulty_line(alloc, words.script.text(), number, fault);
             return finish(told, out);
         }
     };
@@ -73,7 +73,7 @@ fn run_file<F: Shelf, D: Disk, S: Sink>(
 {
     match load(shelf, words.script.text()) {
         Ok(Some(bytes)) => run_bytes(alloc, words, roster, bytes.as_slice(), shelf, disk, out),
-        Ok(None) => finish(Outcome::no_file(alloc, words.script.text()), out),
+        Ok(None) => finish(CommandOutcome::no_file(alloc, words.script.text()), out),
         Err(Memory) => Status::Memory,
     }
 }
@@ -87,14 +87,14 @@ pub fn node<F: Shelf, D: Disk, S: Sink>(
     disk: &mut D,
     out: &mut S,
 ) -> Status
-    ensures results { Between (Results (Some (Command.Node words.now))) F.Shelf shelf.old shelf.new D.Disk disk.old disk.new S.Sink out.old out.new result }
+    ensures results { Between (Results (Some (Invocation.Node words.now))) F.Shelf shelf.old shelf.new D.Disk disk.old disk.new S.Sink out.old out.new result }
     ensures first_fault { (result ≡ Status.Sink) ⊎ ((result ≡ Status.Memory) ⊎ EndsAtFault (shelves F.Shelf shelf.old shelf.new) result) }
     ensures sink_fault { S.faults out.old < S.faults out.new → result ≡ Status.Sink }
     ensures disk_fault { D.faults disk.old < D.faults disk.new → (result ≡ Status.Disk) ⊎ ((result ≡ Status.Sink) ⊎ (result ≡ Status.Memory)) }
 {
     let text = match load(shelf, words.roster.text()) {
         Ok(Some(text)) => text,
-        Ok(None) => return finish(Outcome::no_file(alloc, words.roster.text()), out),
+        Ok(None) => return finish(CommandOutcome::no_file(alloc, words.roster.text()), out),
         Err(Memory) => return Status::Memory,
     };
     match Roster::parse(alloc, text.as_slice()) {

@@ -12,27 +12,27 @@ use std::alloc::Global;
 
 /// What a command came to: the status, and the whole text that it prints.
 #[derive(Debug, Drop)]
-pub struct Outcome {
+pub struct CommandOutcome {
     pub status: Status,
     pub text: Bytes,
 }
 
-impl Outcome {
+impl CommandOutcome {
     /// This status and the text of a line.
-    pub fn of_line(alloc: Global, status: Status, line: &str) -> Result<Outcome, Memory>
+    pub fn of_line(alloc: Global, status: Status, line: &str) -> Result<CommandOutcome, Memory>
         ensures { IfOk result (λ o. o ≡ record { status = status; text = line.now }) }
     {
-        Ok(Outcome {
+        Ok(CommandOutcome {
             status,
             text: Bytes::from_slice(alloc, line.as_bytes())?,
         })
     }
 
     /// The words are no command.
-    pub fn words(alloc: Global) -> Result<Outcome, Memory>
+    pub fn words(alloc: Global) -> Result<CommandOutcome, Memory>
         ensures { IfOk result (λ o. o ≡ record { status = Status.Words; text = codes "words\n" }) }
     {
-        Outcome::of_line(alloc, Status::Words, "words\n")
+        CommandOutcome::of_line(alloc, Status::Words, "words\n")
     }
 
     /// The text of that name has a faulty line, the first of this number from 1, and this is its first fault.
@@ -42,30 +42,30 @@ impl Outcome {
         name: &str,
         number: u32,
         fault: LineFault,
-    ) -> Result<Outcome, Memory>
+    ) -> Result<CommandOutcome, Memory>
         ensures { IfOk result (λ o. o ≡ record { status = Status.Input; text = codes "input " ++ name.now ++ codes " " ++ text_of_faulty_line number fault ++ codes "\n" }) }
     {
         let front = format!(in alloc; "input {name} ")?;
         let mut text = Bytes::from_slice(alloc, front.as_bytes())?;
         depot_answers::faulty_line(alloc, &mut text, number, fault)?;
         text.push_all(b"\n")?;
-        Ok(Outcome {
+        Ok(CommandOutcome {
             status: Status::Input,
             text,
         })
     }
 
     /// The file of that name can't be had.
-    pub fn no_file(alloc: Global, name: &str) -> Result<Outcome, Memory>
+    pub fn no_file(alloc: Global, name: &str) -> Result<CommandOutcome, Memory>
         ensures { IfOk result (λ o. o ≡ record { status = Status.Shelf; text = codes "shelf " ++ name.now ++ codes "\n" }) }
     {
         let line = format!(in alloc; "shelf {name}\n")?;
-        Outcome::of_line(alloc, Status::Shelf, line.as_str())
+        CommandOutcome::of_line(alloc, Status::Shelf, line.as_str())
     }
 }
 
 /// Writes the text that a command came to, where memory was found for it, and says how the run ended.
-pub fn finish<S: Sink>(found: Result<Outcome, Memory>, out: &mut S) -> Status
+pub fn finish<S: Sink>(found: Result<CommandOutcome, Memory>, out: &mut S) -> Status
     ensures finishes { Finishes found (sinks S.Sink out.old out.new) result }
     ensures sink_fault { S.faults out.old < S.faults out.new → result ≡ Status.Sink }
 {

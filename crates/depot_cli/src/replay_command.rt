@@ -3,11 +3,11 @@ ghost use Rattle.std.specs.Prelude.{◌≡◌, ◌<◌, ◌⊎◌, Some, IfOk};
 ghost use Rattle.depot_lines.specs.LineReading.{Parses};
 ghost use Rattle.depot_schedule.specs.Schedules.{IsSchedule, IsTextOfSchedule, schedule_of};
 ghost use Rattle.depot_outside.specs.Told.{shelves, loads, sinks};
-ghost use Rattle.depot_cli.specs.Runs.{Ends, CommandEnds, EndsAtFault, IsFrontOf, IsReplayed, ReplayOf, Plays};
+ghost use Rattle.depot_cli.specs.Runs.{Ends, CommandEnds, EndsAtFault, IsFrontOf, IsReplayed, ReplayOf, PlaysSchedule};
 
 use crate::files::load;
-use crate::invocation::Command;
-use crate::outcome::{Outcome, finish};
+use crate::invocation::Invocation;
+use crate::outcome::{CommandOutcome, finish};
 use crate::status::Status;
 use depot_base::{Bytes, Memory};
 use depot_lines::TextError;
@@ -21,7 +21,7 @@ use std::alloc::Global;
 /// Plays a schedule, writing its transcript line by line, and says how the run ended.
 fn play<S: Sink>(alloc: Global, schedule: Schedule, out: &mut S) -> Status
     requires { IsSchedule schedule }
-    ensures plays { Plays schedule (sinks S.Sink out.old out.new) result }
+    ensures plays { PlaysSchedule schedule (sinks S.Sink out.old out.new) result }
     ensures sink_fault { S.faults out.old < S.faults out.new → result ≡ Status.Sink }
 {
     match depot_replay::replay(alloc, schedule, out) {
@@ -50,7 +50,7 @@ fn replay_bytes<S: Sink>(alloc: Global, bytes: Bytes, name: &str, out: &mut S) -
         Ok(schedule) => play(alloc, schedule, out),
         Err(TextError::Memory) => Status::Memory,
         Err(TextError::Line(number, fault)) => finish(
-            Outcome::faulty_line(alloc, name, number, fault),
+            CommandOutcome::faulty_line(alloc, name, number, fault),
             out,
         ),
     }
@@ -58,7 +58,7 @@ fn replay_bytes<S: Sink>(alloc: Global, bytes: Bytes, name: &str, out: &mut S) -
 
 /// Plays the schedule of that name, and says how the run ended.
 pub fn replay<F: Shelf, S: Sink>(alloc: Global, shelf: &mut F, name: &str, out: &mut S) -> Status
-    ensures ends { CommandEnds (shelves F.Shelf shelf.old shelf.new) (loads F.Shelf shelf.old shelf.new) (Some (Command.Replay name.now)) (sinks S.Sink out.old out.new) result }
+    ensures ends { CommandEnds (shelves F.Shelf shelf.old shelf.new) (loads F.Shelf shelf.old shelf.new) (Some (Invocation.Replay name.now)) (sinks S.Sink out.old out.new) result }
     ensures first_fault { (result ≡ Status.Sink) ⊎ ((result ≡ Status.Memory) ⊎ EndsAtFault (shelves F.Shelf shelf.old shelf.new) result) }
     ensures sink_fault { S.faults out.old < S.faults out.new → result ≡ Status.Sink }
     ensures files { F.file shelf.new ≡ F.file shelf.old }
@@ -66,7 +66,7 @@ pub fn replay<F: Shelf, S: Sink>(alloc: Global, shelf: &mut F, name: &str, out: 
 {
     match load(shelf, name) {
         Ok(Some(bytes)) => replay_bytes(alloc, bytes, name, out),
-        Ok(None) => finish(Outcome::no_file(alloc, name), out),
+        Ok(None) => finish(CommandOutcome::no_file(alloc, name), out),
         Err(Memory) => Status::Memory,
     }
 }

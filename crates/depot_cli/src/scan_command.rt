@@ -5,7 +5,7 @@ ghost use Rattle.depot_outside.specs.Told.{shelves, loads, HasLoaded};
 ghost use Rattle.depot_cli.specs.Runs.{EndsAtFault, Scans, ScanOf};
 
 use crate::files::load;
-use crate::outcome::Outcome;
+use crate::outcome::CommandOutcome;
 use crate::status::Status;
 use depot_base::{Key, Memory};
 use depot_outside::Shelf;
@@ -13,27 +13,27 @@ use depot_scan::Scanned;
 use std::alloc::Global;
 
 /// The file of that name is no log, printed.
-fn no_log(alloc: Global, name: &str, at: usize) -> Result<Outcome, Memory>
+fn no_log(alloc: Global, name: &str, at: usize) -> Result<CommandOutcome, Memory>
     ensures { IfOk result (λ o. o ≡ record { status = Status.Input; text = codes "input " ++ name.now ++ codes " at " ++ decimal at ++ codes "\n" }) }
 {
     let line = format!(in alloc; "input {name} at {at}\n")?;
-    Outcome::of_line(alloc, Status::Input, line.as_str())
+    CommandOutcome::of_line(alloc, Status::Input, line.as_str())
 }
 
 /// A body's parent doesn't stand before it, printed.
-fn no_parent(alloc: Global, place: usize) -> Result<Outcome, Memory>
+fn no_parent(alloc: Global, place: usize) -> Result<CommandOutcome, Memory>
     ensures { IfOk result (λ o. o ≡ record { status = Status.NotLawful; text = codes "not lawful " ++ decimal place ++ codes " 5 Missing\n" }) }
 {
     let line = format!(in alloc; "not lawful {place} 5 Missing\n")?;
-    Outcome::of_line(alloc, Status::NotLawful, line.as_str())
+    CommandOutcome::of_line(alloc, Status::NotLawful, line.as_str())
 }
 
 /// What a scan of these bytes comes to; `name` is the log's.
-fn scan_bytes(alloc: Global, log: &[u8], name: &str, key: &Key) -> Result<Outcome, Memory>
+fn scan_bytes(alloc: Global, log: &[u8], name: &str, key: &Key) -> Result<CommandOutcome, Memory>
     ensures { IfOk result (λ o. ScanOf name.now key.now log.now o.status o.text) }
 {
     match depot_scan::scan(alloc, log, key)? {
-        Scanned::Lines(text) => Ok(Outcome {
+        Scanned::Lines(text) => Ok(CommandOutcome {
             status: Status::Done,
             text,
         }),
@@ -48,7 +48,7 @@ pub fn scan<F: Shelf>(
     shelf: &mut F,
     name: &str,
     key: &Key,
-) -> Result<Outcome, Memory>
+) -> Result<CommandOutcome, Memory>
     ensures scans { IfOk result (λ o. Scans (shelves F.Shelf shelf.old shelf.new) name.now key.now o.status o.text) }
     ensures first_fault { IfOk result (λ o. EndsAtFault (shelves F.Shelf shelf.old shelf.new) o.status) }
     ensures loads { HasLoaded (loads F.Shelf shelf.old shelf.new) (name.now ∷ []) }
@@ -57,6 +57,6 @@ pub fn scan<F: Shelf>(
 {
     match load(shelf, name)? {
         Some(log) => scan_bytes(alloc, log.as_slice(), name, key),
-        None => Outcome::no_file(alloc, name),
+        None => CommandOutcome::no_file(alloc, name),
     }
 }

@@ -2,7 +2,7 @@
 ghost use Rattle.std.specs.Prelude.{◌≡◌};
 ghost use Rattle.depot_cli.specs.Statuses.{number_of_status, status_of};
 
-use depot_session::Ending;
+use depot_session::ScriptEnding;
 
 /// How a run ends.
 #[derive(Clone, Copy, Debug, PartialEq, Eq)]
@@ -35,19 +35,19 @@ pub enum Status {
 
 impl Status {
     /// How the run of a script ends, as a status.
-    pub fn of(ending: Ending) -> Status
+    pub fn of(ending: ScriptEnding) -> Status
         ensures { result ≡ status_of ending }
     {
         match ending {
-            Ending::Done => Status::Done,
-            Ending::Input => Status::Input,
-            Ending::Shelf => Status::Shelf,
-            Ending::Disk => Status::Disk,
-            Ending::Sink => Status::Sink,
-            Ending::Memory => Status::Memory,
-            Ending::Limit => Status::Limit,
-            Ending::NotLawful => Status::NotLawful,
-            Ending::Identity => Status::Identity,
+            ScriptEnding::Done => Status::Done,
+            ScriptEnding::Input => Status::Input,
+            ScriptEnding::Shelf => Status::Shelf,
+            ScriptEnding::Disk => Status::Disk,
+            ScriptEnding::Sink => Status::Sink,
+            ScriptEnding::Memory => Status::Memory,
+            ScriptEnding::Limit => Status::Limit,
+            ScriptEnding::NotLawful => Status::NotLawful,
+            ScriptEnding::Identity => Status::Identity,
         }
     }
 

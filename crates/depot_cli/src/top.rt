@@ -3,15 +3,15 @@ ghost use Rattle.std.specs.Prelude.{◌≡◌, ◌<◌, ◌⊎◌, Some};
 ghost use Rattle.depot_cli.specs.Words.{command_of};
 ghost use Rattle.depot_outside.specs.Told.{disks, shelves, sinks};
 ghost use Rattle.depot_cli.specs.Nodes.{Between, NodeCompletes, Results};
-ghost use Rattle.depot_cli.specs.Runs.{EndsAtFault, IsWell, Completes};
+ghost use Rattle.depot_cli.specs.Runs.{EndsAtFault, IsWell, CommandCompletes};
 
 use crate::audit_command::audit;
-use crate::invocation::{Command, parse};
+use crate::invocation::{Invocation, parse};
 use crate::judge_command::judge;
 use crate::key_command::key;
 use crate::load_command::summed_up;
 use crate::node_command::node;
-use crate::outcome::{Outcome, finish};
+use crate::outcome::{CommandOutcome, finish};
 use crate::replay_command::replay;
 use crate::scan_command::scan;
 use crate::status::Status;
@@ -23,7 +23,7 @@ use std::alloc::Global;
 /// Does what a command asks for, and says how the run ended.
 fn run<F: Shelf, D: Disk, S: Sink>(
     alloc: Global,
-    command: &Command,
+    command: &Invocation,
     shelf: &mut F,
     disk: &mut D,
     out: &mut S,
@@ -34,16 +34,16 @@ fn run<F: Shelf, D: Disk, S: Sink>(
     ensures disk_fault { D.faults disk.old < D.faults disk.new → (result ≡ Status.Disk) ⊎ ((result ≡ Status.Sink) ⊎ (result ≡ Status.Memory)) }
 {
     match command {
-        Command::Scan(log, key) => finish(scan(alloc, shelf, log.text(), key), out),
-        Command::Key(seed, height) => finish(key(alloc, seed, *height), out),
-        Command::Judge(roster, proof) => finish(
+        Invocation::Scan(log, key) => finish(scan(alloc, shelf, log.text(), key), out),
+        Invocation::Key(seed, height) => finish(key(alloc, seed, *height), out),
+        Invocation::Judge(roster, proof) => finish(
             judge(alloc, shelf, roster.text(), proof.text()),
             out,
         ),
-        Command::Replay(schedule) => replay(alloc, shelf, schedule.text(), out),
-        Command::Load(number) => finish(summed_up(alloc, *number), out),
-        Command::Node(words) => node(alloc, words, shelf, disk, out),
-        Command::Audit(roster, traces) => {
+        Invocation::Replay(schedule) => replay(alloc, shelf, schedule.text(), out),
+        Invocation::Load(number) => finish(summed_up(alloc, *number), out),
+        Invocation::Node(words) => node(alloc, words, shelf, disk, out),
+        Invocation::Audit(roster, traces) => {
             finish(audit(alloc, shelf, roster.text(), traces), out)
         }
     }
@@ -70,7 +70,7 @@ pub fn depot<F: Shelf, D: Disk, S: Sink>(
     ensures results { Between (Results (command_of words.now)) F.Shelf shelf.old shelf.new D.Disk disk.old disk.new S.Sink out.old out.new result }
 
     // Where no count of faults rises, each file is there and each is in its grammar, the command does what it says.
-    ensures complete { IsWell (shelves F.Shelf shelf.old shelf.new) (sinks S.Sink out.old out.new) → Completes (shelves F.Shelf shelf.old shelf.new) (command_of words.now) result }
+    ensures complete { IsWell (shelves F.Shelf shelf.old shelf.new) (sinks S.Sink out.old out.new) → CommandCompletes (shelves F.Shelf shelf.old shelf.new) (command_of words.now) result }
     ensures complete_node { NodeCompletes (disks D.Disk disk.old disk.new) (shelves F.Shelf shelf.old shelf.new) (sinks S.Sink out.old out.new) (command_of words.now) result }
 
     // Where the shelf failed, nothing else is answered.
@@ -82,7 +82,7 @@ pub fn depot<F: Shelf, D: Disk, S: Sink>(
 {
     match parse(alloc, words) {
         Ok(Some(command)) => run(alloc, &command, shelf, disk, out),
-        Ok(None) => finish(Outcome::words(alloc), out),
+        Ok(None) => finish(CommandOutcome::words(alloc), out),
         Err(Memory) => Status::Memory,
     }
 }

@@ -1,7 +1,7 @@
 //! A word of the command line.
 ghost use Rattle.std.specs.Prelude.{◌≡◌, IfOk, string_bytes};
 ghost use Rattle.std.specs.Str.{bytes_eq};
-ghost use Rattle.depot_lines.specs.Spelling.{is_name};
+ghost use Rattle.depot_lines.specs.Spelling.{is_plain_name};
 
 use depot_base::Memory;
 use depot_lines::spelling::is_name;
@@ -50,7 +50,7 @@ impl Word {
 
     /// Whether it names a file: 1 to 4,096 bytes without space or LF.
     pub fn is_name(&self) -> bool
-        ensures { result ≡ is_name self.now }
+        ensures { result ≡ is_plain_name self.now }
     {
         is_name(self.0.as_bytes())
     }

@@ -4,7 +4,7 @@ use Rattle.std.proofs.lemmas.Bool.{cases_lt}
 use Rattle.std.proofs.lemmas.Bool.Decides.{nat_tests}
 use Rattle.std.proofs.lemmas.List.Sums.{sum_by-append}
 use Rattle.depot_base.proofs.GeneralLaws.{from_pushed, to_pushed, get_last, one_or_none}
-use Rattle.depot_clocks.specs.ChainItems.{ChainItem, IsUpTo, IsAt, chain_length, number_of_chains}
+use Rattle.depot_clocks.specs.ChainItems.{ChainItem, IsUpTo, IsChainItemAt, chain_length, number_of_chains}
 use Rattle.depot_clocks.specs.KeptRows.{AreChained, IsNext}
 use Rattle.depot_clocks.proofs.ItemPaths.{standing, up_to_self, up_to_parent, up_to_more, last_has_parent}
 
@@ -75,10 +75,10 @@ parents_next items x c n item y k at low = elim (from_pushed items x item y at) 
 ]
 
 -- an item stands where it stood
-pub stands_more : (items : List ChainItem) (x : ChainItem) (item chain place : ℕ) → IsAt items item chain place → IsAt (items ++ x ∷ []) item chain place
+pub stands_more : (items : List ChainItem) (x : ChainItem) (item chain place : ℕ) → IsChainItemAt items item chain place → IsChainItemAt (items ++ x ∷ []) item chain place
 stands_more items x item chain place (y, (at, is)) = (y, (to_pushed items x item y at, is))
 
-gapless_next : (items : List ChainItem) (x : ChainItem) → AreChained items → IsNext items x → (chain place : ℕ) → place < chain_length (items ++ x ∷ []) chain → (item : ℕ) × IsAt (items ++ x ∷ []) item chain place
+gapless_next : (items : List ChainItem) (x : ChainItem) → AreChained items → IsNext items x → (chain place : ℕ) → place < chain_length (items ++ x ∷ []) chain → (item : ℕ) × IsChainItemAt (items ++ x ∷ []) item chain place
 gapless_next items x c n chain place low = elim (cases_lt place (chain_length items chain)) [
   | inl lt ↦ let r = c.gapless chain place lt in (r.0, stands_more items x r.0 chain place r.1)
   | inr ge ↦ elim (one_or_none x.chain chain) [
@@ -142,14 +142,4 @@ chained_next items x c n = record {
   started = started_next items x c n;
   counted = counted_next items x c n;
   linked = linked_next items x c n;
-}
-
-pub none_chained : AreChained []
-none_chained = record {
-  parents = λ item x k at low. absurd cc;
-  placed = λ item x at. absurd cc;
-  gapless = λ chain place low. absurd (omega arith);
-  started = λ chain low. absurd (omega arith);
-  counted = λ chain high. refl;
-  linked = λ a b x y at_a at_b same low. absurd cc;
 }

@@ -7,85 +7,43 @@ use Rattle.std.proofs.lemmas.Option.{slice_get_within}
 use Rattle.depot_lanes.specs.Lanes.{first_above}
 use Rattle.depot_lanes.proofs.LaneLaws.{first_above-Some, first_above-None, first_above-within}
 use Rattle.depot_base.proofs.GeneralLaws.{from_pushed, to_pushed, get_last, same_at}
-use Rattle.depot_clocks.specs.declared.row.Entry.{Entry}
-use Rattle.depot_clocks.specs.KeptRows.{HasEntry, HasCount, ArePut, AreRaised, AreAbove, NoneAbove, IsFirstFrom}
+use Rattle.depot_clocks.specs.declared.row.RowEntry.{RowEntry}
+use Rattle.depot_clocks.specs.KeptRows.{HasCount, AreRaised, AreAbove, NoneAbove, IsFirstFrom}
 
 -- ---- the first entries
 
 -- none of the first i entries is of the chain
-abbrev pub NoneUpTo : List Entry → ℕ → ℕ → Type 0
-NoneUpTo entries i chain = (k : ℕ) (e : Entry) → k < i → slice_get entries k ≡ Some e → e.chain ≡ chain → ⊥
-
-pub none_more : (entries : List Entry) (i chain : ℕ) (e : Entry) → NoneUpTo entries i chain → slice_get entries i ≡ Some e → (e.chain ≡ chain → ⊥) → NoneUpTo entries (i + 1) chain
-none_more entries i chain e none at other k f low at_f same = elim (cases_lt k i) [
-  | inl lt ↦ none k f lt at_f same
-  | inr ge ↦ other (ap (λ (g : Entry). g.chain) (same_at entries i k e f (omega (arith, low, ge)) at at_f) ∙ same)
-]
-
-pub none_of_all : (entries : List Entry) (i chain : ℕ) → NoneUpTo entries i chain → length entries ≤ i → HasEntry entries chain → ⊥
-none_of_all entries i chain none all has = none has.place has.entry (omega (arith, all, slice_get_within entries has.place has.entry has.at)) has.at has.of_chain
+abbrev pub NoneUpTo : List RowEntry → ℕ → ℕ → Type 0
+NoneUpTo entries i chain = (k : ℕ) (e : RowEntry) → k < i → slice_get entries k ≡ Some e → e.chain ≡ chain → ⊥
 
 -- the first i entries aren't above those of the row
-abbrev pub WithinUpTo : List Entry → ℕ → List ℕ → Type 0
-WithinUpTo entries i row = (k : ℕ) (e : Entry) → k < i → slice_get entries k ≡ Some e → e.count ≤ get_or row e.chain 0
-
-pub within_more : (entries : List Entry) (i : ℕ) (row : List ℕ) (e : Entry) → WithinUpTo entries i row → slice_get entries i ≡ Some e → e.count ≤ get_or row e.chain 0 → WithinUpTo entries (i + 1) row
-within_more entries i row e within at le k f low at_f = elim (cases_lt k i) [
-  | inl lt ↦ within k f lt at_f
-  | inr ge ↦ subst (λ (g : Entry). g.count ≤ get_or row g.chain 0) (same_at entries i k e f (omega (arith, low, ge)) at at_f) le
-]
+abbrev pub WithinUpTo : List RowEntry → ℕ → List ℕ → Type 0
+WithinUpTo entries i row = (k : ℕ) (e : RowEntry) → k < i → slice_get entries k ≡ Some e → e.count ≤ get_or row e.chain 0
 
 -- ---- entries put into a row
 
 -- the first i entries are put into a row
-abbrev pub PutUpTo : List Entry → ℕ → List ℕ → List ℕ → Type 0
+abbrev pub PutUpTo : List RowEntry → ℕ → List ℕ → List ℕ → Type 0
 PutUpTo entries i old new = (chain : ℕ) → HasCount entries chain (get_or new chain 0) ⊎ (NoneUpTo entries i chain × (get_or new chain 0 ≡ get_or old chain 0))
-
-pub put_more : (entries : List Entry) (i : ℕ) (old new : List ℕ) (e : Entry) → PutUpTo entries i old new → slice_get entries i ≡ Some e → e.chain < length new → PutUpTo entries (i + 1) old (set new e.chain e.count)
-put_more entries i old new e put at inside chain = elim (cases_order e.chain chain) [
-  | inl same ↦
-      let read : get_or (set new e.chain e.count) chain 0 ≡ e.count = subst (λ (k : ℕ). get_or (set new e.chain e.count) k 0 ≡ e.count) same (rw get_or-set_same refl) in
-      inl (record { place = i; entry = e; at = at; of_chain = same; counts = sym read })
-  | inr other ↦
-      let apart : chain ≢ e.chain = elim other [ inl lt ↦ omega arith | inr gt ↦ omega arith ] in
-      let read : get_or (set new e.chain e.count) chain 0 ≡ get_or new chain 0 = rw get_or-set_other refl in
-      elim (put chain) [
-        | inl has ↦ inl (subst (HasCount entries chain) (sym read) has)
-        | inr none ↦ inr (none_more entries i chain e none.0 at (λ same. apart (sym same)), read ∙ none.1)
-      ]
-]
-
-pub put_all : (entries : List Entry) (i : ℕ) (old new : List ℕ) → PutUpTo entries i old new → length entries ≤ i → ArePut entries old new
-put_all entries i old new put all chain = elim (put chain) [
-  | inl has ↦ inl has
-  | inr none ↦ inr (none_of_all entries i chain none.0 all, none.1)
-]
 
 -- ---- a row raised to entries
 
 -- n is m or the count of an entry of the chain, and neither m nor one of the first i entries of the chain is above it
-pub record RaisedAt (entries : List Entry) (i chain m n : ℕ) : Type 0 where
+pub record RaisedAt (entries : List RowEntry) (i chain m n : ℕ) : Type 0 where
   pub least : m ≤ n
-  pub above : (k : ℕ) (e : Entry) → k < i → slice_get entries k ≡ Some e → e.chain ≡ chain → e.count ≤ n
+  pub above : (k : ℕ) (e : RowEntry) → k < i → slice_get entries k ≡ Some e → e.chain ≡ chain → e.count ≤ n
   pub reached : (n ≡ m) ⊎ HasCount entries chain n
 
 -- a row raised to the first i entries
-abbrev pub RaisedUpTo : List Entry → ℕ → List ℕ → List ℕ → Type 0
+abbrev pub RaisedUpTo : List RowEntry → ℕ → List ℕ → List ℕ → Type 0
 RaisedUpTo entries i old new = (chain : ℕ) → RaisedAt entries i chain (get_or old chain 0) (get_or new chain 0)
 
-pub raised_none : (entries : List Entry) (old : List ℕ) → RaisedUpTo entries 0 old old
-raised_none entries old chain = record {
-  least = omega arith;
-  above = λ k e low at same. absurd (omega (arith, low));
-  reached = inl refl;
-}
-
-raised_here : (entries : List Entry) (i chain m n : ℕ) (e : Entry) → RaisedAt entries i chain m n → slice_get entries i ≡ Some e → e.chain ≡ chain → RaisedAt entries (i + 1) chain m (max n e.count)
+raised_here : (entries : List RowEntry) (i chain m n : ℕ) (e : RowEntry) → RaisedAt entries i chain m n → slice_get entries i ≡ Some e → e.chain ≡ chain → RaisedAt entries (i + 1) chain m (max n e.count)
 raised_here entries i chain m n e raised at same = record {
   least = omega (arith, raised.least);
   above = λ k f low at_f here. elim (cases_lt k i) [
     | inl lt ↦ omega (arith, raised.above k f lt at_f here)
-    | inr ge ↦ let count : f.count ≡ e.count = sym (ap (λ (g : Entry). g.count) (same_at entries i k e f (omega (arith, low, ge)) at at_f)) in omega (arith, count)
+    | inr ge ↦ let count : f.count ≡ e.count = sym (ap (λ (g : RowEntry). g.count) (same_at entries i k e f (omega (arith, low, ge)) at at_f)) in omega (arith, count)
   ];
   reached = elim (cases_lt n e.count) [
     | inl lt ↦ inr (record { place = i; entry = e; at = at; of_chain = same; counts = omega (arith, lt) })
@@ -93,17 +51,17 @@ raised_here entries i chain m n e raised at same = record {
   ];
 }
 
-raised_elsewhere : (entries : List Entry) (i chain m n : ℕ) (e : Entry) → RaisedAt entries i chain m n → slice_get entries i ≡ Some e → (e.chain ≡ chain → ⊥) → RaisedAt entries (i + 1) chain m n
+raised_elsewhere : (entries : List RowEntry) (i chain m n : ℕ) (e : RowEntry) → RaisedAt entries i chain m n → slice_get entries i ≡ Some e → (e.chain ≡ chain → ⊥) → RaisedAt entries (i + 1) chain m n
 raised_elsewhere entries i chain m n e raised at other = record {
   least = raised.least;
   above = λ k f low at_f here. elim (cases_lt k i) [
     | inl lt ↦ raised.above k f lt at_f here
-    | inr ge ↦ absurd (other (ap (λ (g : Entry). g.chain) (same_at entries i k e f (omega (arith, low, ge)) at at_f) ∙ here))
+    | inr ge ↦ absurd (other (ap (λ (g : RowEntry). g.chain) (same_at entries i k e f (omega (arith, low, ge)) at at_f) ∙ here))
   ];
   reached = raised.reached;
 }
 
-pub raised_more : (entries : List Entry) (i : ℕ) (old new : List ℕ) (e : Entry) → RaisedUpTo entries i old new → slice_get entries i ≡ Some e → e.chain < length new → RaisedUpTo entries (i + 1) old (set new e.chain (max (get_or new e.chain 0) e.count))
+pub raised_more : (entries : List RowEntry) (i : ℕ) (old new : List ℕ) (e : RowEntry) → RaisedUpTo entries i old new → slice_get entries i ≡ Some e → e.chain < length new → RaisedUpTo entries (i + 1) old (set new e.chain (max (get_or new e.chain 0) e.count))
 raised_more entries i old new e raised at inside chain =
     let value = max (get_or new e.chain 0) e.count in
     elim (cases_order e.chain chain) [
@@ -116,7 +74,7 @@ raised_more entries i old new e raised at inside chain =
           subst (RaisedAt entries (i + 1) chain (get_or old chain 0)) (sym read) (raised_elsewhere entries i chain (get_or old chain 0) (get_or new chain 0) e (raised chain) at (λ same. apart (sym same)))
     ]
 
-pub raised_all : (entries : List Entry) (i : ℕ) (old new : List ℕ) → RaisedUpTo entries i old new → length entries ≤ i → AreRaised entries old new
+pub raised_all : (entries : List RowEntry) (i : ℕ) (old new : List ℕ) → RaisedUpTo entries i old new → length entries ≤ i → AreRaised entries old new
 raised_all entries i old new raised all chain = let r = raised chain in record {
   least = r.least;
   above = λ k e at same. r.above k e (omega (arith, all, slice_get_within entries k e at)) at same;
@@ -156,11 +114,11 @@ none_from row before at len inside e k ge lt =
     subst (λ (j : ℕ). get_or row j 0 ≤ get_or before j 0) here (rw (get_or-drop at row (k - at) 0, get_or-drop at before (k - at) 0) at le)
 
 -- one entry more, and none above between
-pub above_more : (row before : List ℕ) (entries : List Entry) (at : ℕ) (e : Entry) → AreAbove row before at entries → IsFirstFrom row before at e.chain → e.count ≡ get_or row e.chain 0 → AreAbove row before (e.chain + 1) (entries ++ e ∷ [])
+pub above_more : (row before : List ℕ) (entries : List RowEntry) (at : ℕ) (e : RowEntry) → AreAbove row before at entries → IsFirstFrom row before at e.chain → e.count ≡ get_or row e.chain 0 → AreAbove row before (e.chain + 1) (entries ++ e ∷ [])
 above_more row before entries at e above place count = record {
   told = λ k f at_f. elim (from_pushed entries e k f at_f) [
     | inl h ↦ above.told k f h
-    | inr h ↦ subst (λ (g : Entry). (g.chain < length row) × (g.count ≡ get_or row g.chain 0)) h.1 (place.inside, count)
+    | inr h ↦ subst (λ (g : RowEntry). (g.chain < length row) × (g.count ≡ get_or row g.chain 0)) h.1 (place.inside, count)
   ];
   all = λ chain low higher. elim (cases_lt chain at) [
     | inl lt ↦ let r = above.all chain lt higher in record { place = r.place; entry = r.entry; at = to_pushed entries e r.place r.entry r.at; of_chain = r.of_chain }
@@ -168,15 +126,5 @@ above_more row before entries at e above place count = record {
       | inl lt ↦ absurd (omega (arith, higher, place.first chain ge lt))
       | inr le ↦ record { place = length entries; entry = e; at = get_last entries e; of_chain = omega (arith, low, le) }
     ]
-  ];
-}
-
--- none above behind
-pub above_all : (row before : List ℕ) (entries : List Entry) (at to : ℕ) → AreAbove row before at entries → NoneAbove row before at to → AreAbove row before to entries
-above_all row before entries at to above none = record {
-  told = above.told;
-  all = λ chain low higher. elim (cases_lt chain at) [
-    | inl lt ↦ above.all chain lt higher
-    | inr ge ↦ absurd (omega (arith, higher, none chain ge low))
   ];
 }

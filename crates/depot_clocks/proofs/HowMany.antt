@@ -5,12 +5,12 @@ use Rattle.std.proofs.Math.Seq.{get_or-append_seam}
 use Rattle.std.proofs.lemmas.Bool.{cases_lt}
 use Rattle.std.proofs.lemmas.List.{length-append, get_or_default}
 use Rattle.std.proofs.lemmas.Option.{same_Some}
-use Rattle.depot_clocks.specs.ChainItems.{ChainItem, IsAt, chain_length, IsCount, IsOfPast, IsTrueOf}
+use Rattle.depot_clocks.specs.ChainItems.{ChainItem, IsChainItemAt, chain_length, IsCount, IsOfPast, IsTrueOf}
 use Rattle.depot_clocks.specs.KeptRows.{AreChained}
 use Rattle.depot_clocks.proofs.ItemPaths.{standing, up_to_low}
 
 -- at each place of a chain stands one item
-one_at : (items : List ChainItem) (a b chain place : ℕ) → AreChained items → IsAt items a chain place → IsAt items b chain place → a ≡ b
+one_at : (items : List ChainItem) (a b chain place : ℕ) → AreChained items → IsChainItemAt items a chain place → IsChainItemAt items b chain place → a ≡ b
 one_at items a b chain place c is_a is_b =
     let at_a = standing items a chain place is_a in
     let at_b = standing items b chain place is_b in
@@ -20,7 +20,7 @@ one_at items a b chain place c is_a is_b =
     omega (arith, low, high)
 
 -- an item stands at one place
-one_place : (items : List ChainItem) (a chain i j : ℕ) → IsAt items a chain i → IsAt items a chain j → i ≡ j
+one_place : (items : List ChainItem) (a chain i j : ℕ) → IsChainItemAt items a chain i → IsChainItemAt items a chain j → i ≡ j
 one_place items a chain i j is_i is_j =
     let at_i = standing items a chain i is_i in
     let at_j = standing items a chain j is_j in
@@ -31,7 +31,7 @@ one_place items a chain i j is_i is_j =
 record Firsts (items : List ChainItem) (chain n : ℕ) : Type 0 where
   pub numbers : List ℕ
   pub many : length numbers ≡ n
-  pub at : (k : ℕ) → k < n → IsAt items (get_or numbers k 0) chain k
+  pub at : (k : ℕ) → k < n → IsChainItemAt items (get_or numbers k 0) chain k
 
 firsts : (items : List ChainItem) (chain n : ℕ) → AreChained items → n ≤ chain_length items chain → Firsts items chain n
 firsts items chain zero c low = record { numbers = []; many = refl; at = λ k less. absurd (omega (arith, less)) }
@@ -43,12 +43,12 @@ firsts items chain (suc n) c low =
       numbers = all;
       many = omega (arith, rest.many, length-append rest.numbers (next.0 ∷ []));
       at = λ k less. elim (cases_lt k n) [
-        | inl lt ↦ subst (λ (a : ℕ). IsAt items a chain k) (sym (get_or-append rest.numbers (next.0 ∷ []) 0 k (omega (arith, lt, rest.many)))) (rest.at k lt)
+        | inl lt ↦ subst (λ (a : ℕ). IsChainItemAt items a chain k) (sym (get_or-append rest.numbers (next.0 ∷ []) 0 k (omega (arith, lt, rest.many)))) (rest.at k lt)
         | inr ge ↦
             let here : length rest.numbers ≡ k = omega (arith, ge, less, rest.many) in
             let read : get_or all k 0 ≡ next.0 = subst (λ (j : ℕ). get_or all j 0 ≡ next.0) here (get_or-append_seam rest.numbers next.0 [] 0) in
             let k_is : n ≡ k = omega (arith, here, rest.many) in
-            subst (λ (a : ℕ). IsAt items a chain k) (sym read) (subst (IsAt items next.0 chain) k_is next.1)
+            subst (λ (a : ℕ). IsChainItemAt items a chain k) (sym read) (subst (IsChainItemAt items next.0 chain) k_is next.1)
       ];
     }
 
@@ -67,12 +67,12 @@ count_is_how_many items chain item n c count =
       only = λ a on.
           let k = on.0 in
           let here : get_or f.numbers k 0 ≡ a = get_or_default f.numbers k 0 a on.1 ∙ on.2 in
-          let at = standing items a chain k (subst (λ (b : ℕ). IsAt items b chain k) here (f.at k (omega (arith, on.1, f.many)))) in
+          let at = standing items a chain k (subst (λ (b : ℕ). IsChainItemAt items b chain k) here (f.at k (omega (arith, on.1, f.many)))) in
           record { it = at.it; at = at.at; of_chain = at.of_chain; up_to = count.only a at.it at.at at.of_chain (omega (arith, at.at_place, on.1, f.many)) };
       apart = λ i j d less inside same.
           let low : i < length f.numbers = omega (arith, less, inside) in
           let same_0 : get_or f.numbers i 0 ≡ get_or f.numbers j 0 = get_or_default f.numbers i 0 d low ∙ (same ∙ get_or_default f.numbers j d 0 inside) in
-          let at_i = subst (λ (a : ℕ). IsAt items a chain i) same_0 (f.at i (omega (arith, low, f.many))) in
+          let at_i = subst (λ (a : ℕ). IsChainItemAt items a chain i) same_0 (f.at i (omega (arith, low, f.many))) in
           let at_j = f.at j (omega (arith, inside, f.many)) in
           absurd (omega (arith, one_place items (get_or f.numbers j 0) chain i j at_i at_j, less));
       many = f.many;

@@ -3,7 +3,7 @@ use Rattle.std.proofs.Common.{◌≡◌, ℕ, zero, suc, ◌+◌, ◌<◌, ◌�
 use Rattle.std.proofs.lemmas.List.{get_or_default}
 use Rattle.std.proofs.lemmas.Option.{slice_get_within}
 use Rattle.depot_base.proofs.GeneralLaws.{from_pushed, to_pushed, get_last}
-use Rattle.depot_clocks.specs.ChainItems.{ChainItem, IsAt, IsParentOf, LeadsTo, IsUpTo}
+use Rattle.depot_clocks.specs.ChainItems.{ChainItem, IsChainItemAt, IsParentOf, LeadsTo, IsUpTo}
 use Rattle.depot_clocks.specs.KeptRows.{AreChained}
 
 -- ---- elements by their places
@@ -15,7 +15,7 @@ pub record Standing (items : List ChainItem) (item chain place : ℕ) : Type 0 w
   pub of_chain : it.chain ≡ chain
   pub at_place : it.place ≡ place
 
-pub standing : (items : List ChainItem) (item chain place : ℕ) → IsAt items item chain place → Standing items item chain place
+pub standing : (items : List ChainItem) (item chain place : ℕ) → IsChainItemAt items item chain place → Standing items item chain place
 standing items item chain place (x, (at, (of_chain, at_place))) = record { it = x; at = at; of_chain = of_chain; at_place = at_place }
 
 -- where an element that a list of numbers contains stands

@@ -3,7 +3,7 @@ use Rattle.std.proofs.Common.{◌≡◌, ℕ, zero, suc, ◌+◌, ◌<◌, ◌�
 use Rattle.std.proofs.lemmas.Bool.{cases_lt}
 use Rattle.std.proofs.lemmas.Option.{slice_get_within}
 use Rattle.depot_base.proofs.GeneralLaws.{from_pushed, get_last}
-use Rattle.depot_clocks.specs.ChainItems.{ChainItem, Precedes, IsUpTo, chain_length, number_of_chains, IsCount, CountsAll, JoinsUpTo}
+use Rattle.depot_clocks.specs.ChainItems.{ChainItem, ItemPrecedes, IsUpTo, chain_length, number_of_chains, IsCount, CountsAll, JoinsUpTo}
 use Rattle.depot_clocks.specs.KeptRows.{AreChained, IsNext}
 use Rattle.depot_clocks.proofs.ItemPaths.{standing, contained_at, contains_at, up_to_low, leads_down, up_to_parent, up_to_more, up_to_less, parent_of_last, last_has_parent, up_to_trans}
 use Rattle.depot_clocks.proofs.ChainCounts.{chain_length-more, chain_length-own, chained_next}
@@ -49,18 +49,18 @@ count_behind items chain behind item m n c leads lower higher = elim (cases_lt n
 ]
 
 -- an item precedes another exactly where it is counted and isn't that item
-pub precedes_by_count : (items : List ChainItem) (a b n : ℕ) (x : ChainItem) → AreChained items → slice_get items a ≡ Some x → IsCount items x.chain b n → (a ≡ b → ⊥) → (x.place < n → Precedes items a b) × (Precedes items a b → x.place < n)
+pub precedes_by_count : (items : List ChainItem) (a b n : ℕ) (x : ChainItem) → AreChained items → slice_get items a ≡ Some x → IsCount items x.chain b n → (a ≡ b → ⊥) → (x.place < n → ItemPrecedes items a b) × (ItemPrecedes items a b → x.place < n)
 precedes_by_count items a b n x c at count other = (
   (λ low. some_steps items a b other (count.only a x at refl low)),
   (λ p. count.counted a x at refl (suc p.0, p.1)),
 )
   where
-    some_steps : (items : List ChainItem) (a b : ℕ) → (a ≡ b → ⊥) → IsUpTo items a b → Precedes items a b
+    some_steps : (items : List ChainItem) (a b : ℕ) → (a ≡ b → ⊥) → IsUpTo items a b → ItemPrecedes items a b
     some_steps items a b other (zero, same) = absurd (other (sym same))
     some_steps items a b other (suc steps, l) = (steps, l)
 
 -- nothing precedes itself
-pub never_itself : (items : List ChainItem) (a : ℕ) → AreChained items → Precedes items a a → ⊥
+pub never_itself : (items : List ChainItem) (a : ℕ) → AreChained items → ItemPrecedes items a a → ⊥
 never_itself items a c p = let down = leads_down items (suc p.0) a a c p.1 in omega (arith, down)
 
 -- ---- with one item more
@@ -96,13 +96,6 @@ count_own items x c next =
     }
 
 -- ---- the parents' counts
-
-pub joins_none : (items : List ChainItem) (parents : List ℕ) (chain : ℕ) → JoinsUpTo items parents 0 chain 0
-joins_none items parents chain = record {
-  there = omega arith;
-  counted = λ a x k at same low u. absurd (omega (arith, low));
-  only = λ a x at same low. absurd (omega (arith, low));
-}
 
 pub joins_one : (items : List ChainItem) (parents : List ℕ) (i chain m n : ℕ) → JoinsUpTo items parents i chain m → IsCount items chain (get_or parents i 0) n → JoinsUpTo items parents (i + 1) chain (max m n)
 joins_one items parents i chain m n joins count = record {

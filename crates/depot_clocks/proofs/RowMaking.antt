@@ -9,11 +9,11 @@ use Rattle.std.proofs.lemmas.Option.{slice_get_within}
 use Rattle.depot_lanes.specs.Lanes.{greater_of_each}
 use Rattle.depot_lanes.proofs.LaneLaws.{get_or-greater, length-greater}
 use Rattle.depot_base.proofs.GeneralLaws.{from_pushed, get_last}
-use Rattle.depot_clocks.specs.ChainItems.{ChainItem, IsUpTo, number_of_chains, IsCount, JoinsUpTo, IsJoined}
-use Rattle.depot_clocks.specs.declared.row.Entry.{Entry}
+use Rattle.depot_clocks.specs.ChainItems.{ChainItem, IsUpTo, number_of_chains, IsCount, JoinsUpTo, IsRowJoined}
+use Rattle.depot_clocks.specs.declared.row.RowEntry.{RowEntry}
 use Rattle.depot_clocks.specs.declared.row.Row.{Row}
 use Rattle.depot_clocks.specs.declared.row.Row.TheVariants.{Whole, Changed}
-use Rattle.depot_clocks.specs.declared.row.Kept.{Kept}
+use Rattle.depot_clocks.specs.declared.row.KeptRow.{KeptRow}
 use Rattle.depot_clocks.specs.KeptRows.{AreChained, IsNext, IsNextRow, own_entry, HasEntry, AreAbove, IsJoinedCount, IsChangedRow, KeepsRow, KeepsItem, KeepsItems}
 use Rattle.depot_clocks.proofs.ItemPaths.{contained_at, up_to_self, up_to_parent, up_to_trans, up_to_more, last_has_parent}
 use Rattle.depot_clocks.proofs.ChainCounts.{number_of_chains-push, number_of_chains-first, number_of_chains-more, starts_next, goes_on, stands_more, chained_next}
@@ -51,7 +51,7 @@ joins_row items parents i row new len joins counts chain low =
     subst (JoinsUpTo items parents (i + 1) chain) (sym count.greater)
     (joins_one items parents i chain (get_or row chain 0) count.count (joins chain (omega (arith, low, len))) count.counts)
 
-starting_row : (items : List ChainItem) (x : ChainItem) (row : List ℕ) → AreChained items → IsNext items x → IsJoined items x.parents row → x.place ≡ 0 → IsNextRow items x (row ++ 1 ∷ [])
+starting_row : (items : List ChainItem) (x : ChainItem) (row : List ℕ) → AreChained items → IsNext items x → IsRowJoined items x.parents row → x.place ≡ 0 → IsNextRow items x (row ++ 1 ∷ [])
 starting_row items x row c next joined first =
     let own : x.chain ≡ number_of_chains items = starts_next items x c next first in
     let one : number_of_chains (items ++ x ∷ []) ≡ number_of_chains items + 1 = number_of_chains-first items x first in
@@ -73,7 +73,7 @@ starting_row items x row c next joined first =
       ];
     }
 
-later_row : (items : List ChainItem) (x : ChainItem) (row : List ℕ) → AreChained items → IsNext items x → IsJoined items x.parents row → 0 < x.place → IsNextRow items x (set row x.chain (x.place + 1))
+later_row : (items : List ChainItem) (x : ChainItem) (row : List ℕ) → AreChained items → IsNext items x → IsRowJoined items x.parents row → 0 < x.place → IsNextRow items x (set row x.chain (x.place + 1))
 later_row items x row c next joined later =
     let new = set row x.chain (x.place + 1) in
     let inside : x.chain < length row = omega (arith, goes_on items x c next later, joined.long) in
@@ -97,7 +97,7 @@ later_row items x row c next joined later =
       ];
     }
 
-pub next_row_made : (items : List ChainItem) (x : ChainItem) (row : List ℕ) → AreChained items → IsNext items x → IsJoined items x.parents row → IsNextRow items x (own_entry row x.chain x.place)
+pub next_row_made : (items : List ChainItem) (x : ChainItem) (row : List ℕ) → AreChained items → IsNext items x → IsRowJoined items x.parents row → IsNextRow items x (own_entry row x.chain x.place)
 next_row_made items x row c next joined = elim (cases_lt 0 x.place) [
   | inl later ↦ let test : eqb x.place 0 ≡ false = grind (arith, nat_tests) in rw test (later_row items x row c next joined later)
   | inr first ↦ let test : eqb x.place 0 ≡ true = grind (arith, nat_tests) in rw test (starting_row items x row c next joined (omega (arith, first)))
@@ -113,7 +113,7 @@ count_between items chain behind item m n leads lower higher le = record {
   only = λ a x at same low. lower.only a x at same (omega (arith, low, le));
 }
 
-pub next_row_changed : (items : List ChainItem) (x : ChainItem) (behind : ℕ) (row before : List ℕ) (entries : List Entry) → AreChained items → IsNext items x → IsNextRow items x row → length row ≡ number_of_chains items → Contains x.parents behind
+pub next_row_changed : (items : List ChainItem) (x : ChainItem) (behind : ℕ) (row before : List ℕ) (entries : List RowEntry) → AreChained items → IsNext items x → IsNextRow items x row → length row ≡ number_of_chains items → Contains x.parents behind
     → length before ≡ length row → ((chain : ℕ) → chain < length before → IsCount items chain behind (get_or before chain 0)) → AreAbove row before (length row) entries → IsChangedRow (items ++ x ∷ []) (length items) behind entries
 next_row_changed items x behind row before entries c next made long parent same counts above =
     let k = contained_at x.parents behind parent in
@@ -136,7 +136,7 @@ next_row_changed items x behind row before entries c next made long parent same 
       | inr past ↦ subst (IsCount items chain behind) (sym (get_or-eq_default before 0 past)) (count_past items chain behind c (omega (arith, past, long)))
     ])
 
-    not_higher : (row before : List ℕ) (entries : List Entry) (chain : ℕ) → AreAbove row before (length row) entries → (HasEntry entries chain → ⊥) → get_or row chain 0 ≤ get_or before chain 0
+    not_higher : (row before : List ℕ) (entries : List RowEntry) (chain : ℕ) → AreAbove row before (length row) entries → (HasEntry entries chain → ⊥) → get_or row chain 0 ≤ get_or before chain 0
     not_higher row before entries chain above none = elim (cases_lt (get_or before chain 0) (get_or row chain 0)) [
       | inl higher ↦ elim (cases_lt chain (length row)) [
         | inl inside ↦ absurd (none (above.all chain inside higher))
@@ -162,7 +162,7 @@ keeps_row_more items x item (Changed behind entries) c next low kept = record {
       (r.0, (count_more items x chain behind r.0 c next (omega (arith, low, kept.earlier)) r.1.0, count_more items x chain item r.0 c next low r.1.1));
 }
 
-pub keeps_next : (items : List ChainItem) (x : ChainItem) (kept : List Kept) (k : Kept) (chains : ℕ) → KeepsItems items kept chains → IsNext items x → length items < 4294967295 → k.chain ≡ x.chain → k.place ≡ x.place → KeepsRow (items ++ x ∷ []) (length items) k.row
+pub keeps_next : (items : List ChainItem) (x : ChainItem) (kept : List KeptRow) (k : KeptRow) (chains : ℕ) → KeepsItems items kept chains → IsNext items x → length items < 4294967295 → k.chain ≡ x.chain → k.place ≡ x.place → KeepsRow (items ++ x ∷ []) (length items) k.row
     → KeepsItems (items ++ x ∷ []) (kept ++ k ∷ []) (chains + cond (eqb x.place 0) 1 0)
 keeps_next items x kept k chains keeps next few chain_is place_is row = record {
   chained = chained_next items x keeps.chained next;

@@ -19,8 +19,8 @@ LeadsTo items zero from to = from ≡ to
 LeadsTo items (suc steps) from to = (p : ℕ) × (IsParentOf items p from × LeadsTo items steps p to)
 
 -- one step or more lead from b to a
-abbrev pub Precedes : List ChainItem → ℕ → ℕ → Type 0
-Precedes items a b = (steps : ℕ) × LeadsTo items (suc steps) b a
+abbrev pub ItemPrecedes : List ChainItem → ℕ → ℕ → Type 0
+ItemPrecedes items a b = (steps : ℕ) × LeadsTo items (suc steps) b a
 
 -- a is b or precedes it
 abbrev pub IsUpTo : List ChainItem → ℕ → ℕ → Type 0
@@ -29,8 +29,8 @@ IsUpTo items a b = (steps : ℕ) × LeadsTo items steps b a
 -- ---- chains
 
 -- the item stands at this place of this chain
-abbrev pub IsAt : List ChainItem → ℕ → ℕ → ℕ → Type 0
-IsAt items item chain place = (x : ChainItem) × ((slice_get items item ≡ Some x) × ((x.chain ≡ chain) × (x.place ≡ place)))
+abbrev pub IsChainItemAt : List ChainItem → ℕ → ℕ → ℕ → Type 0
+IsChainItemAt items item chain place = (x : ChainItem) × ((slice_get items item ≡ Some x) × ((x.chain ≡ chain) × (x.place ≡ place)))
 
 -- how many items a chain has
 abbrev pub chain_length : List ChainItem → ℕ → ℕ
@@ -42,7 +42,7 @@ number_of_chains items = count_by (λ x. x.place == 0) items
 
 -- past its chain's first place, the item before it in the chain is a parent
 abbrev pub IsLinked : List ChainItem → ℕ → ℕ → List ℕ → Type 0
-IsLinked items chain place parents = 0 < place → (p : ℕ) × (IsAt items p chain (place - 1) × Contains parents p)
+IsLinked items chain place parents = 0 < place → (p : ℕ) × (IsChainItemAt items p chain (place - 1) × Contains parents p)
 
 -- ---- rows
 
@@ -59,7 +59,7 @@ pub record JoinsUpTo (items : List ChainItem) (parts : List ℕ) (i chain n : �
   pub only : (a : ℕ) (x : ChainItem) → slice_get items a ≡ Some x → x.chain ≡ chain → x.place < n → (k : ℕ) × ((k < i) × IsUpTo items a (slice_index parts k))
 
 -- the joined row of some items: an entry for each chain, that counts those of its items that are one of these or precede one
-pub record IsJoined (items : List ChainItem) (parts row : List ℕ) : Type 0 where
+pub record IsRowJoined (items : List ChainItem) (parts row : List ℕ) : Type 0 where
   pub long : length row ≡ number_of_chains items
   pub joins : (chain : ℕ) → chain < length row → JoinsUpTo items parts (length parts) chain (slice_index row chain)
 

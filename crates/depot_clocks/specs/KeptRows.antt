@@ -1,10 +1,10 @@
 -- What is kept of items in chains.
 use Rattle.std.specs.Prelude.{◌≡◌, ◌<◌, ◌≤◌, ◌^◌, ℕ, List, length, [], ◌∷◌, ◌++◌, ◌+◌, ◌==◌, max, slice_set, if◌then◌else◌, Some, ◌⊎◌, slice_get, slice_index}
-use Rattle.depot_clocks.specs.ChainItems.{ChainItem, IsUpTo, IsAt, IsLinked, chain_length, number_of_chains, IsCount}
-use Rattle.depot_clocks.specs.declared.row.Entry.{Entry}
+use Rattle.depot_clocks.specs.ChainItems.{ChainItem, IsUpTo, IsChainItemAt, IsLinked, chain_length, number_of_chains, IsCount}
+use Rattle.depot_clocks.specs.declared.row.RowEntry.{RowEntry}
 use Rattle.depot_clocks.specs.declared.row.Row.{Row}
 use Rattle.depot_clocks.specs.declared.row.Row.TheVariants.{Whole, Changed}
-use Rattle.depot_clocks.specs.declared.row.Kept.{Kept}
+use Rattle.depot_clocks.specs.declared.row.KeptRow.{KeptRow}
 
 -- ---- items that fit
 
@@ -12,7 +12,7 @@ use Rattle.depot_clocks.specs.declared.row.Kept.{Kept}
 pub record AreChained (items : List ChainItem) : Type 0 where
   pub parents : (item : ℕ) (x : ChainItem) (k : ℕ) → slice_get items item ≡ Some x → k < length x.parents → slice_index x.parents k < item
   pub placed : (item : ℕ) (x : ChainItem) → slice_get items item ≡ Some x → x.place < chain_length items x.chain
-  pub gapless : (chain place : ℕ) → place < chain_length items chain → (item : ℕ) × IsAt items item chain place
+  pub gapless : (chain place : ℕ) → place < chain_length items chain → (item : ℕ) × IsChainItemAt items item chain place
   pub started : (chain : ℕ) → chain < number_of_chains items → 0 < chain_length items chain
   pub counted : (chain : ℕ) → number_of_chains items ≤ chain → chain_length items chain ≡ 0
   pub linked : (a b : ℕ) (x y : ChainItem) → slice_get items a ≡ Some x → slice_get items b ≡ Some y → x.chain ≡ y.chain → x.place ≤ y.place → IsUpTo items a b
@@ -36,45 +36,45 @@ abbrev pub own_entry : List ℕ → ℕ → ℕ → List ℕ
 own_entry row chain place = if place == 0 then row ++ 1 ∷ [] else slice_set row chain (place + 1)
 
 -- one of the entries is of the chain
-pub record HasEntry (entries : List Entry) (chain : ℕ) : Type 0 where
+pub record HasEntry (entries : List RowEntry) (chain : ℕ) : Type 0 where
   pub place : ℕ
-  pub entry : Entry
+  pub entry : RowEntry
   pub at : slice_get entries place ≡ Some entry
   pub of_chain : entry.chain ≡ chain
 
 -- an entry says of the chain that it counts n
-pub record HasCount (entries : List Entry) (chain n : ℕ) : Type 0 where
+pub record HasCount (entries : List RowEntry) (chain n : ℕ) : Type 0 where
   pub place : ℕ
-  pub entry : Entry
+  pub entry : RowEntry
   pub at : slice_get entries place ≡ Some entry
   pub of_chain : entry.chain ≡ chain
   pub counts : entry.count ≡ n
 
 -- each of the entries is of a chain below this number
-abbrev pub AreInside : List Entry → ℕ → Type 0
-AreInside entries chains = (k : ℕ) (e : Entry) → slice_get entries k ≡ Some e → e.chain < chains
+abbrev pub AreOfChains : List RowEntry → ℕ → Type 0
+AreOfChains entries chains = (k : ℕ) (e : RowEntry) → slice_get entries k ≡ Some e → e.chain < chains
 
 -- a row with these entries put into it
-abbrev pub ArePut : List Entry → List ℕ → List ℕ → Type 0
+abbrev pub ArePut : List RowEntry → List ℕ → List ℕ → Type 0
 ArePut entries old new = (chain : ℕ) → HasCount entries chain (slice_index new chain) ⊎ ((HasEntry entries chain → ⊥) × (slice_index new chain ≡ slice_index old chain))
 
 -- n is m or the count of an entry of the chain, and neither m nor an entry of the chain is above it
-pub record IsRaised (entries : List Entry) (chain m n : ℕ) : Type 0 where
+pub record IsRaised (entries : List RowEntry) (chain m n : ℕ) : Type 0 where
   pub least : m ≤ n
-  pub above : (k : ℕ) (e : Entry) → slice_get entries k ≡ Some e → e.chain ≡ chain → e.count ≤ n
+  pub above : (k : ℕ) (e : RowEntry) → slice_get entries k ≡ Some e → e.chain ≡ chain → e.count ≤ n
   pub reached : (n ≡ m) ⊎ HasCount entries chain n
 
 -- a row, raised to these entries
-abbrev pub AreRaised : List Entry → List ℕ → List ℕ → Type 0
+abbrev pub AreRaised : List RowEntry → List ℕ → List ℕ → Type 0
 AreRaised entries old new = (chain : ℕ) → IsRaised entries chain (slice_index old chain) (slice_index new chain)
 
 -- no entry is above that of the row
-abbrev pub AreWithin : List Entry → List ℕ → Type 0
-AreWithin entries row = (k : ℕ) (e : Entry) → slice_get entries k ≡ Some e → e.count ≤ slice_index row e.chain
+abbrev pub AreEntriesWithin : List RowEntry → List ℕ → Type 0
+AreEntriesWithin entries row = (k : ℕ) (e : RowEntry) → slice_get entries k ≡ Some e → e.count ≤ slice_index row e.chain
 
 -- the entries of a row before this chain that are above those of another, and no others
-pub record AreAbove (row before : List ℕ) (to : ℕ) (entries : List Entry) : Type 0 where
-  pub told : (k : ℕ) (e : Entry) → slice_get entries k ≡ Some e → (e.chain < length row) × (e.count ≡ slice_index row e.chain)
+pub record AreAbove (row before : List ℕ) (to : ℕ) (entries : List RowEntry) : Type 0 where
+  pub told : (k : ℕ) (e : RowEntry) → slice_get entries k ≡ Some e → (e.chain < length row) × (e.count ≡ slice_index row e.chain)
   pub all : (chain : ℕ) → chain < to → slice_index before chain < slice_index row chain → HasEntry entries chain
 
 -- a row isn't above another at any place from low to below high
@@ -98,11 +98,11 @@ pub record IsWholeRow (items : List ChainItem) (item : ℕ) (row : List ℕ) : T
   pub counts : (chain : ℕ) → IsCount items chain item (slice_index row chain)
 
 -- the row of the item is that of another that it leads to, but for these entries
-pub record IsChangedRow (items : List ChainItem) (item behind : ℕ) (entries : List Entry) : Type 0 where
+pub record IsChangedRow (items : List ChainItem) (item behind : ℕ) (entries : List RowEntry) : Type 0 where
   pub earlier : behind < item
   pub leads : IsUpTo items behind item
-  pub inside : (k : ℕ) (e : Entry) → slice_get entries k ≡ Some e → e.chain < number_of_chains items
-  pub counts : (k : ℕ) (e : Entry) → slice_get entries k ≡ Some e → IsCount items e.chain item e.count
+  pub inside : (k : ℕ) (e : RowEntry) → slice_get entries k ≡ Some e → e.chain < number_of_chains items
+  pub counts : (k : ℕ) (e : RowEntry) → slice_get entries k ≡ Some e → IsCount items e.chain item e.count
   pub same : (chain : ℕ) → (HasEntry entries chain → ⊥) → (n : ℕ) × (IsCount items chain behind n × IsCount items chain item n)
 
 -- what is kept of the item's row
@@ -111,15 +111,15 @@ KeepsRow items item (Whole row) = IsWholeRow items item row.items
 KeepsRow items item (Changed behind entries) = IsChangedRow items item behind entries.items
 
 -- what is kept of the item
-pub record KeepsItem (items : List ChainItem) (item : ℕ) (kept : Kept) : Type 0 where
-  pub spot : IsAt items item kept.chain kept.place
+pub record KeepsItem (items : List ChainItem) (item : ℕ) (kept : KeptRow) : Type 0 where
+  pub spot : IsChainItemAt items item kept.chain kept.place
   pub row : KeepsRow items item kept.row
 
 -- what is kept of all items
-pub record KeepsItems (items : List ChainItem) (kept : List Kept) (chains : ℕ) : Type 0 where
+pub record KeepsItems (items : List ChainItem) (kept : List KeptRow) (chains : ℕ) : Type 0 where
   pub chained : AreChained items
   pub as_many : length kept ≡ length items
-  pub each : (item : ℕ) (k : Kept) → slice_get kept item ≡ Some k → KeepsItem items item k
+  pub each : (item : ℕ) (k : KeptRow) → slice_get kept item ≡ Some k → KeepsItem items item k
   pub numbered : chains ≡ number_of_chains items
   pub few : length items < 2 ^ 32
 

@@ -1,11 +1,11 @@
 //! The clocks, and what they keep of each item.
 ghost use Rattle.std.specs.Prelude.{◌≡◌, ◌<◌, ◌≤◌, ◌+◌, ◌↔◌, ℕ, [], ◌∷◌, ◌++◌, length, IsTrue, IfOk, OnOk, OnErr, All, EachIndex, Contains, IfSome, ◌-◌, slice_index};
 ghost use Rattle.depot_clocks.specs.KeptRows.{AreChained, IsNext, IsNextRow, IsChangedFrom, IsJoinedCount, KeepsRow};
-ghost use Rattle.depot_clocks.specs.ChainItems.{Precedes, IsAt, chain_length, number_of_chains, IsLinked, IsOfPast, IsTrueOf, IsCount, CountsAll, IsWithin, IsJoined};
+ghost use Rattle.depot_clocks.specs.ChainItems.{ItemPrecedes, IsChainItemAt, chain_length, number_of_chains, IsLinked, IsOfPast, IsTrueOf, IsCount, CountsAll, IsWithin, IsRowJoined};
 
 use crate::added::Added;
 use crate::row::{
-    Kept, Row, are_within, count_among, entries_above, entry_at, join_row, put_entries, put_own,
+    KeptRow, Row, are_within, count_among, entries_above, entry_at, join_row, put_entries, put_own,
     put_row, raise_entries,
 };
 use depot_base::{Memory, Steps};
@@ -20,7 +20,7 @@ const WHOLE: u32 = 32;
 /// Items in chains, numbered from 0 in the order in which they were added, and which of them precedes which.
 #[derive(Debug, Drop)]
 pub struct Clocks {
-    kept: Vec<Kept>,
+    kept: Vec<KeptRow>,
     chains: u32,
     /// The joined row that was kept last, if no item was added since.
     joined: Option<Joined>,
@@ -36,14 +36,14 @@ struct Joined {
 
 impl Model for Clocks {
     ghost use Rattle.std.specs.Prelude.{List, IfSome};
-    ghost use Rattle.depot_clocks.specs.ChainItems.{ChainItem, IsJoined};
+    ghost use Rattle.depot_clocks.specs.ChainItems.{ChainItem, IsRowJoined};
     ghost use Rattle.depot_clocks.specs.KeptRows.{KeepsItems};
 
     ghost Value = { List ChainItem };
 
     ghost view = { λ c. c.added.items };
 
-    ghost invariant = { λ c. KeepsItems c.added.items c.kept.items c.chains × IfSome c.joined (λ j. IsJoined c.added.items j.items.items j.row.items) };
+    ghost invariant = { λ c. KeepsItems c.added.items c.kept.items c.chains × IfSome c.joined (λ j. IsRowJoined c.added.items j.items.items j.row.items) };
 }
 
 impl Clocks {
@@ -74,14 +74,14 @@ impl Clocks {
     {
         let row = self.next_row(chain, place, parents)?;
         let row = self.kept_row(chain, place, parents, row)?;
-        self.keep(Kept { chain, place, row }, parents)
+        self.keep(KeptRow { chain, place, row }, parents)
     }
 
     /// Whether the item `a` precedes the item `b`: a path of parents leads from `b` to `a`. It takes one step and no memory.
     pub fn before<L: Ledger>(&self, a: u32, b: u32, steps: &mut Steps<L>) -> bool
         requires a { a < length self.now }
         requires b { b < length self.now }
-        ensures answer { IsTrue result ↔ Precedes self.now a b }
+        ensures answer { IsTrue result ↔ ItemPrecedes self.now a b }
         ensures cost { steps.new ≡ steps.old + 1 }
     {
         steps.tick();
@@ -150,7 +150,7 @@ impl Clocks {
     /// The rows of these items, joined: at each chain how many of its items are one of these or precede one.
     pub fn joined(&self, items: &[u32]) -> Result<Vec<u32>, Memory>
         requires { All (λ p. p < length self.now) items.now }
-        ensures joined { IfOk result (λ row. IsJoined self.now items.now row.items) }
+        ensures joined { IfOk result (λ row. IsRowJoined self.now items.now row.items) }
     {
         let mut row = vec![in *self.kept.allocator(); 0u32; self.chains as usize]?;
         for item in items {
@@ -162,7 +162,7 @@ impl Clocks {
     /// Keeps the joined row of these items till an item is added: if that has them as its parents, their rows aren't joined
     /// again. It takes no memory.
     pub fn keep_joined(&mut self, items: Vec<u32>, row: Vec<u32>)
-        requires { IsJoined self.old items.items row.items }
+        requires { IsRowJoined self.old items.items row.items }
         ensures { self.new ≡ self.old }
     {
         self.joined = Some(Joined { items, row });
@@ -172,7 +172,7 @@ impl Clocks {
     /// items is told beside it.
     fn take_joined(&mut self, items: &[u32]) -> Result<Vec<u32>, Memory>
         requires { All (λ p. p < length self.old) items.now }
-        ensures joined { IfOk result (λ row. IsJoined self.old items.now row.items) }
+        ensures joined { IfOk result (λ row. IsRowJoined self.old items.now row.items) }
         ensures chained { AreChained self.old }
         ensures same { self.new ≡ self.old }
     {
@@ -227,7 +227,7 @@ impl Clocks {
     fn behind(&self, chain: u32, place: u32, parents: &[u32]) -> Option<u32>
         requires { All (λ p. p < length self.now) parents.now }
         ensures parent { IfSome result (Contains parents.now) }
-        ensures place { IfSome result (λ item. IsAt self.now item chain (place - 1)) }
+        ensures place { IfSome result (λ item. IsChainItemAt self.now item chain (place - 1)) }
     {
         let before = place.checked_sub(1)?;
         for parent in parents {
@@ -273,7 +273,7 @@ impl Clocks {
     }
 
     /// Keeps the next item, which has these parents.
-    fn keep(&mut self, kept: Kept, parents: &[u32]) -> Result<(), Memory>
+    fn keep(&mut self, kept: KeptRow, parents: &[u32]) -> Result<(), Memory>
         requires few { length self.old < 4294967295 }
         requires next { IsNext self.old (record { chain = kept.chain; place = kept.place; parents = parents.now }) }
         requires row { KeepsRow (self.old ++ record { chain = kept.chain; place = kept.place; parents = parents.now } ∷ []) (length self.old) kept.row }

@@ -1,6 +1,6 @@
 //! What is kept of an item, and what is done with its row.
 ghost use Rattle.std.specs.Prelude.{◌≡◌, ◌≤◌, ◌<◌, ◌↔◌, ℕ, length, max, slice_index, IsTrue, IfOk, IfSome, IfNone, OnOk, vec_len};
-ghost use Rattle.depot_clocks.specs.KeptRows.{HasEntry, HasCount, AreInside, ArePut, AreRaised, AreWithin, AreAbove, own_entry, NoneAbove, IsFirstFrom};
+ghost use Rattle.depot_clocks.specs.KeptRows.{HasEntry, HasCount, AreOfChains, ArePut, AreRaised, AreEntriesWithin, AreAbove, own_entry, NoneAbove, IsFirstFrom};
 
 use depot_base::Memory;
 use depot_lanes::{first_above, max_into};
@@ -8,7 +8,7 @@ use std::alloc::Global;
 
 /// An entry of a row.
 #[derive(Clone, Copy, Debug)]
-pub struct Entry {
+pub struct RowEntry {
     /// The chain.
     pub chain: u32,
     /// How many of its items are the row's item or precede it.
@@ -25,13 +25,13 @@ pub enum Row {
         /// The item before it in its chain.
         behind: u32,
         /// The entries that differ, in rising order of the chains.
-        entries: Vec<Entry>,
+        entries: Vec<RowEntry>,
     },
 }
 
 /// What is kept of an item.
 #[derive(Debug, Drop)]
-pub struct Kept {
+pub struct KeptRow {
     /// Its chain.
     pub chain: u32,
     /// How many items of the chain stand before it.
@@ -41,7 +41,7 @@ pub struct Kept {
 }
 
 /// The count that the entries tell of a chain, if they do.
-pub fn count_among(entries: &[Entry], chain: u32) -> Option<u32>
+pub fn count_among(entries: &[RowEntry], chain: u32) -> Option<u32>
     ensures some { IfSome result (HasCount entries.now chain) }
     ensures none { IfNone result (HasEntry entries.now chain → ⊥) }
 {
@@ -54,9 +54,9 @@ pub fn count_among(entries: &[Entry], chain: u32) -> Option<u32>
 }
 
 /// Whether no entry is above that of a row that has their chains.
-pub fn are_within(entries: &[Entry], row: &[u32]) -> bool
-    requires { AreInside entries.now (length row.now) }
-    ensures { IsTrue result ↔ AreWithin entries.now row.now }
+pub fn are_within(entries: &[RowEntry], row: &[u32]) -> bool
+    requires { AreOfChains entries.now (length row.now) }
+    ensures { IsTrue result ↔ AreEntriesWithin entries.now row.now }
 {
     for entry in entries {
         if row[entry.chain as usize] < entry.count {
@@ -67,8 +67,8 @@ pub fn are_within(entries: &[Entry], row: &[u32]) -> bool
 }
 
 /// Puts the entries into a row that has their chains.
-pub fn put_entries(row: &mut [u32], entries: &[Entry])
-    requires { AreInside entries.now (length row.old) }
+pub fn put_entries(row: &mut [u32], entries: &[RowEntry])
+    requires { AreOfChains entries.now (length row.old) }
     ensures { ArePut entries.now row.old row.new }
 {
     for entry in entries {
@@ -94,8 +94,8 @@ pub fn join_row(row: &mut [u32], with: &[u32])
 }
 
 /// Makes each entry of a row that one of these is above that one.
-pub fn raise_entries(row: &mut [u32], entries: &[Entry])
-    requires { AreInside entries.now (length row.old) }
+pub fn raise_entries(row: &mut [u32], entries: &[RowEntry])
+    requires { AreOfChains entries.now (length row.old) }
     ensures { AreRaised entries.now row.old row.new }
 {
     for entry in entries {
@@ -127,7 +127,7 @@ pub fn put_own(row: &mut Vec<u32>, chain: u32, place: u32) -> Result<(), Memory>
 }
 
 /// The entries of a row that are above those of another of its length, in rising order of the chains.
-pub fn entries_above(alloc: Global, row: &[u32], before: &[u32]) -> Result<Vec<Entry>, Memory>
+pub fn entries_above(alloc: Global, row: &[u32], before: &[u32]) -> Result<Vec<RowEntry>, Memory>
     requires len { length row.now ≡ length before.now }
     requires few { length row.now < 4294967296 }
     ensures { IfOk result (λ v. AreAbove row.now before.now (length row.now) v.items) }
@@ -135,7 +135,7 @@ pub fn entries_above(alloc: Global, row: &[u32], before: &[u32]) -> Result<Vec<E
     let mut entries = Vec::new(alloc);
     let mut at = 0;
     while let Some(chain) = above_from(row, before, at) {
-        entries.push(Entry {
+        entries.push(RowEntry {
             chain: chain as u32,
             count: row[chain],
         })?;

@@ -17,7 +17,7 @@ use Rattle.depot_model.specs.Checks.{Setting, Given, answer_to, growth_by, growt
 use Rattle.depot_model.specs.Lawful.{IsLawful, is_empty}
 use Rattle.depot_model.specs.Limits.{IsCutShort}
 use Rattle.depot_model.specs.Room.{full_by}
-use Rattle.depot_model.specs.Taking.{OfGiven, IsAnswered, IsFull, IsBroken, Takes}
+use Rattle.depot_model.specs.Taking.{OfGiven, IsAnswered, IsFull, IsCutByDisk, Takes}
 use Rattle.depot_laws.specs.Given.{HasText}
 use Rattle.depot_laws.proofs.Growing.{grown_is_lawful}
 use Rattle.depot_readings.specs.NewRecords.{MayGrow}
@@ -129,14 +129,14 @@ no_room f give here J text (Err c) new then full (v, (fits, (is, d))) none = (v,
 
 -- the disk cut what was decided short
 given_broken : {V : Type 0} (f : Closed V) (give : V → Given) (here : Setting) (J : List Record) (text : List ℕ) (answer : Result Taken Check) (new then : List Record)
-    → OfGiven f give text (λ x. IsDecided here J x answer new) → full_by here.me J new ≡ None → IsCutShort J new then → OfGiven f give text (λ x. IsBroken here J x then)
+    → OfGiven f give text (λ x. IsDecided here J x answer new) → full_by here.me J new ≡ None → IsCutShort J new then → OfGiven f give text (λ x. IsCutByDisk here J x then)
 given_broken f give here J text answer new then (v, (fits, (is, d))) room cut = (v, (fits, (is, record { room = ap (full_by here.me J) d.grows ∙ room; cut = subst (λ (rs : List Record). IsCutShort J rs then) (sym d.grows) cut })))
 
 none_cut : (J new then : List Record) → new ≡ [] → IsCutShort J new then → ⊥
 none_cut J new then none cut = omega (arith, cut.fewer, ap length none)
 
 broken : {V : Type 0} (f : Closed V) (give : V → Given) (here : Setting) (J : List Record) (text : List ℕ) (answer : Result Taken Check) (new then : List Record)
-    → Decides f give here J text answer new → full_by here.me J new ≡ None → IsCutShort J new then → OfGiven f give text (λ x. IsBroken here J x then)
+    → Decides f give here J text answer new → full_by here.me J new ≡ None → IsCutShort J new then → OfGiven f give text (λ x. IsCutByDisk here J x then)
 broken f give here J text (Ok taken) new then g room cut = given_broken f give here J text (Ok taken) new then g room cut
 broken f give here J text (Err (check.IllFormed at)) new then d room cut = absurd (none_cut J new then d.1 cut)
 broken f give here J text (Err c) new then g room cut = given_broken f give here J text (Err c) new then g room cut

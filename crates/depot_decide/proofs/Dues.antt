@@ -28,7 +28,6 @@ use Rattle.depot_fork.specs.declared.Found.{Found}
 use Rattle.depot_accept.specs.CheckResults.{AreDue, IsNew, IsChecked}
 use Rattle.depot_accept.specs.StateView.{View, IsStateOf}
 use Rattle.depot_accept.specs.declared.answer.CheckError.{CheckError}
-use Rattle.depot_accept.specs.declared.answer.CheckError.TheVariants as failed
 use Rattle.depot_accept.specs.declared.answer.Pass.{Pass}
 use Rattle.depot_accept.specs.declared.answer.Pass.TheVariants as pass
 use Rattle.depot_decide.specs.Deciding.{IsDecided, IsDueBy}
@@ -124,13 +123,6 @@ found_contradicts v here s found kept at (J, (state, due)) = due_contradicts her
 pub due_by_found : {S : Type 0} (v : View S) (s : Signed) (found : Found) (kept : Signed) (p : Proof) → slice_get v.foreign found.index ≡ Some kept → p ≡ proof_of found.kind kept s → (J : List Record) → IsStateOf J v → AreDue J s (Some found) (Conviction p ∷ [])
 due_by_found v s found kept p at is = λ J state. (kept, (ap (λ (fs : List Signed). slice_get fs found.index) state.foreign ∙ at, ap (λ (q : Proof). Conviction q ∷ []) is))
 
--- a conviction that is due is this one
-same_due : (J : List Record) (s : Signed) (found : Found) (p : Proof) (due : List Record) → AreDue J s (Some found) due → AreDue J s (Some found) (Conviction p ∷ []) → due ≡ Conviction p ∷ []
-same_due J s found p due (kept, (at, is)) (other, (at_too, is_too)) =
-    let both : Some kept ≡ Some other = sym at ∙ at_too in
-    let same : kept ≡ other = cc in
-    is ∙ ap (λ (k : Signed). Conviction (proof_of found.kind k s) ∷ []) same ∙ sym is_too
-
 -- what the checks say, as it was found to be
 pub checked_as : {S : Type 0} (here : Setting) (v : View S) (s : Signed) (r x : Result Pass CheckError) → r ≡ x → (J : List Record) × (IsStateOf J v × IsChecked here J s r) → (J : List Record) × (IsStateOf J v × IsChecked here J s x)
 checked_as here v s r x is (J, (state, checked)) = (J, (state, subst (IsChecked here J s) is checked))
@@ -142,39 +134,7 @@ voucher_is_new here v s (J, (state, checked)) = (J, (state, checked.1.1))
 pub update_is_new : {S : Type 0} (here : Setting) (v : View S) (s : Signed) (found : Option Found) (items : _) → (J : List Record) × (IsStateOf J v × IsChecked here J s (Ok (pass.Update found items))) → (J : List Record) × (IsStateOf J v × IsNew here J s found)
 update_is_new here v s found items (J, (state, checked)) = (J, (state, checked.1))
 
--- what is due for a new statement, or for one that is refused, stands first in what the journal grows by
-pub new_is_due : {S : Type 0} (here : Setting) (v : View S) (s : Signed) (found : Found) → (J : List Record) × (IsStateOf J v × IsNew here J s (Some found)) → (J : List Record) × (IsStateOf J v × IsDueBy here J s found)
-new_is_due here v s found (J, (state, new)) = (
-  J,
-  (
-    state,
-    record {
-      kept = new.by.0;
-      more = Foreign s ∷ [];
-      known = new.by.1.0;
-      first = new.grows ∙ ap (λ (rs : List Record). rs ++ Foreign s ∷ []) new.by.1.1;
-    },
-  ),
-)
-
-pub refused_is_due : {S : Type 0} (here : Setting) (v : View S) (s : Signed) (found : Found) (c : Check) → (J : List Record) × (IsStateOf J v × IsChecked here J s (Err (failed.Refused c (Some found)))) → (J : List Record) × (IsStateOf J v × IsDueBy here J s found)
-refused_is_due here v s found c (J, (state, (answer, by))) = (J, (state, record { kept = by.0; more = []; known = by.1.0; first = by.1.1 }))
-
 -- ---- what is decided
-
--- of a new statement
-pub plainly_new : (here : Setting) (J : List Record) (s : Signed) → IsNew here J s None → IsDecided here J (given_statement s) (Ok New) (Foreign s ∷ [])
-plainly_new here J s new = record { is = new.answer; grows = new.grows ∙ ap (λ (rs : List Record). rs ++ Foreign s ∷ []) new.by }
-
-pub convicting_new : (here : Setting) (J : List Record) (s : Signed) (found : Found) (p : Proof) → AreDue J s (Some found) (Conviction p ∷ []) → IsNew here J s (Some found) → IsDecided here J (given_statement s) (Ok New) (Conviction p ∷ Foreign s ∷ [])
-convicting_new here J s found p due new = record { is = new.answer; grows = new.grows ∙ ap (λ (rs : List Record). rs ++ Foreign s ∷ []) (same_due J s found p new.due new.by due) }
-
--- of one that is refused
-pub plainly_refused : (here : Setting) (J : List Record) (s : Signed) (c : Check) → IsChecked here J s (Err (failed.Refused c None)) → IsDecided here J (given_statement s) (Err c) []
-plainly_refused here J s c (answer, by) = record { is = answer; grows = by }
-
-pub convicting_refused : (here : Setting) (J : List Record) (s : Signed) (found : Found) (c : Check) (p : Proof) → AreDue J s (Some found) (Conviction p ∷ []) → IsChecked here J s (Err (failed.Refused c (Some found))) → IsDecided here J (given_statement s) (Err c) (Conviction p ∷ [])
-convicting_refused here J s found c p due (answer, by) = record { is = answer; grows = same_due J s found p (growth here J (given_statement s)) by due }
 
 -- of one that is known
 pub decided_known : (here : Setting) (J : List Record) (s : Signed) → IsChecked here J s (Ok pass.Known) → IsDecided here J (given_statement s) (Ok Known) []

@@ -11,6 +11,7 @@ mod ForeignIds
 mod VoucherGroups
 pub mod VoucherPlans
 mod RecordParts
+mod RowsOfNew
 mod RecordChecks
 mod PutValues
 mod RecordFaultExamples

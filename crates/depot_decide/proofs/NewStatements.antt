@@ -53,6 +53,16 @@ only_added J (given_proof p) s (inr never) = absurd never
 only_added J (given_value v) s (inl is) = absurd cc
 only_added J (given_value v) s (inr never) = absurd never
 
+-- so a journal grows by no statement of another but the one that is given
+only_by : (J : List Record) (x : Given) (answer : Result Taken Check) (s : Signed) → IsIn (Foreign s) (growth_by J x answer) → x ≡ given_statement s
+only_by J x (Ok Known) s never = absurd never
+only_by J x (Ok New) s on = only_added J x s on
+only_by J x (Err c) s on = absurd (none_exposed J x c s on)
+
+pub only_given : (here : Setting) (J : List Record) (x : Given) (s : Signed) → IsIn (Foreign s) (growth here J x) → x ≡ given_statement s
+unfolding growth
+only_given here J x s on = only_by J x (answer_to here J x) s on
+
 new_by : (here : Setting) (J : List Record) (x : Given) (answer : Result Taken Check) → answer_to here J x ≡ answer → (s : Signed) → IsIn (Foreign s) (growth_by J x answer) → answer_to here J (given_statement s) ≡ Ok New
 new_by here J x (Ok Known) is s never = absurd never
 new_by here J x (Ok New) is s on = subst (λ (y : Given). answer_to here J y ≡ Ok New) (only_added J x s on) is

@@ -14,12 +14,11 @@ use Rattle.depot_model.specs.Journal.{own}
 use Rattle.depot_model.specs.Lawful.{IsLawful, is_empty}
 use Rattle.depot_model.specs.Lists.{IsIn}
 use Rattle.depot_model.specs.Own.{next_own, next_with, write_of, values_of, IsFresh, leaf_count}
-use Rattle.depot_model.specs.Records.{IsRecord, text_of_record}
+use Rattle.depot_model.specs.Records.{IsRecord, text_of_record, IsTextOf}
 use Rattle.depot_model.specs.Room.{full_by}
 use Rattle.depot_model.specs.Texts.{id_of_update}
 use Rattle.depot_laws.proofs.OwnTexts.{own_record_fits, own_put_is_lawful}
 use Rattle.depot_readings.specs.NewRecords.{MayGrow}
-use Rattle.depot_readings.specs.RecordTexts.{IsTextOf}
 use Rattle.depot_model.specs.Limits.{limit_of_own, limit_of_put, IsCutShort}
 use Rattle.depot_model.specs.Limits as limits
 use Rattle.depot_model.proofs.LimitLaws.{limit_spent, limit_tips, limit_collides, limit_full, limit_none}
@@ -35,9 +34,6 @@ use Rattle.depot_decide.specs.declared.plan_errors.NextError.{NextError}
 use Rattle.depot_decide.specs.declared.plan_errors.NextError.TheVariants as next
 
 -- ---- leaves
-
-abbrev HasLeaves : Setting → List Record → Type 0
-HasLeaves here J = length (own J) ≤ leaf_count here.listed here.me
 
 -- the limit of a put is that of its update
 limit_is : (here : Setting) (J : List Record) (changes : List Change) → limit_of_put here J changes ≡ limit_of_own here J (next_own here.me J changes) (put_records here J changes)

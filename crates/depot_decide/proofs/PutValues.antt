@@ -18,9 +18,6 @@ pub record AreLeft (ws : List Write) (vs : List (List ℕ)) (left : List Write) 
   pub lengths : map (λ v. length v) rest ≡ sizes_of left
   pub hashes : have_hashes ws vs ≡ have_hashes left rest
 
-pub all_left : (ws : List Write) (vs : List (List ℕ)) → map (λ v. length v) vs ≡ sizes_of ws → AreLeft ws vs ws vs
-all_left ws vs lengths = record { lengths = lengths; hashes = refl }
-
 -- ---- one write
 
 -- what is left begins with the next

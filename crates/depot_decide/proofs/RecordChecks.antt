@@ -20,11 +20,11 @@ use Rattle.depot_model.specs.Journal.{accepted, foreign, is_foreign, is_vouched,
 use Rattle.depot_model.specs.Lawful.{MayFollow, MayPut, MayVouch}
 use Rattle.depot_model.proofs.Members.{all_at, all_from}
 use Rattle.depot_model.specs.Own.{next_own, next_with, write_of, changes_of, IsFresh, leaf_count}
-use Rattle.depot_model.specs.RecordFaults.{given_by, IsAtPlace}
+use Rattle.depot_model.specs.RecordFaults.{taken_by_record, IsAtPlace}
 use Rattle.depot_model.specs.Texts.{id_of_update}
 use Rattle.depot_laws.proofs.Nexts.{next_of, own_writes}
 use Rattle.depot_decide.specs.Deciding.{IsDecided}
-use Rattle.depot_decide.specs.ReadRecords.{IsGood, IsChecked, TakesNew, HasManyEntries, fault_of}
+use Rattle.depot_decide.specs.ReadRecords.{IsGoodRecord, IsRecordChecked, TakesNew, HasManyEntries, record_fault_of}
 use Rattle.depot_decide.specs.declared.record_check.Fit.{Fit}
 use Rattle.depot_decide.specs.declared.record_check.ReadError.{ReadError}
 use Rattle.depot_decide.specs.declared.record_check.ReadError.TheVariants as refused
@@ -37,29 +37,29 @@ unfolding growth
 grows_new here J x answer new d is = sym d.grows ∙ ap (growth_by J x) (d.is ∙ is)
 
 -- a value that is new may follow
-good_value : (here : Setting) (J : List Record) (value : List ℕ) (answer : Result Taken Check) (decided new : List Record) → IsDecided here J (given_value value) answer decided → (answer ≡ Ok New) × (new ≡ decided) → IsGood here J (Held value) new
+good_value : (here : Setting) (J : List Record) (value : List ℕ) (answer : Result Taken Check) (decided new : List Record) → IsDecided here J (given_value value) answer decided → (answer ≡ Ok New) × (new ≡ decided) → IsGoodRecord here J (Held value) new
 unfolding added
 good_value here J value answer decided new d taken = record { alone = taken.1 ∙ grows_new here J (given_value value) answer decided d taken.0; may = d.is ∙ taken.0 }
 
 -- and so may the conviction by a proof that is new
-good_proof : (here : Setting) (J : List Record) (p : Proof) (answer : Result Taken Check) (decided new : List Record) → IsDecided here J (given_proof p) answer decided → (answer ≡ Ok New) × (new ≡ decided) → IsGood here J (Conviction p) new
+good_proof : (here : Setting) (J : List Record) (p : Proof) (answer : Result Taken Check) (decided new : List Record) → IsDecided here J (given_proof p) answer decided → (answer ≡ Ok New) × (new ≡ decided) → IsGoodRecord here J (Conviction p) new
 unfolding added
 good_proof here J p answer decided new d taken = record { alone = taken.1 ∙ grows_new here J (given_proof p) answer decided d taken.0; may = d.is ∙ taken.0 }
 
 -- nothing is wrong with what is new
-pub takes_new : (answer : Result Taken Check) (decided : List Record) (fit : Fit) → fault_of answer ≡ None → fit.growth ≡ decided → TakesNew answer decided (Ok fit)
+pub takes_new : (answer : Result Taken Check) (decided : List Record) (fit : Fit) → record_fault_of answer ≡ None → fit.growth ≡ decided → TakesNew answer decided (Ok fit)
 takes_new (Ok New) decided fit none same = (refl, same)
 takes_new (Ok Known) decided fit none same = absurd cc
 takes_new (Err c) decided fit none same = absurd cc
 
 -- and something with all else
-pub takes_none : (answer : Result Taken Check) (decided : List Record) (f : RecordFault) → fault_of answer ≡ Some f → TakesNew answer decided (Err (refused.Fault f))
+pub takes_none : (answer : Result Taken Check) (decided : List Record) (f : RecordFault) → record_fault_of answer ≡ Some f → TakesNew answer decided (Err (refused.Fault f))
 takes_none (Ok New) decided f some = absurd cc
 takes_none (Ok Known) decided f some = let is : fault.Idle ≡ f = cc in subst (λ (x : RecordFault). TakesNew (Ok Known) decided (Err (refused.Fault x))) is refl
 takes_none (Err c) decided f some = let is : fault.Refused c ≡ f = cc in subst (λ (x : RecordFault). TakesNew (Err c) decided (Err (refused.Fault x))) is refl
 
 -- what wasn't new is refused, or was known
-pub not_new : (here : Setting) (J : List Record) (r : Record) (x : Given) (answer : Result Taken Check) (new : List Record) (e : ReadError) → IsAtPlace J r → given_by r ≡ Some x → IsDecided here J x answer new → TakesNew answer new (Err e) → IsChecked here J r (Err e)
+pub not_new : (here : Setting) (J : List Record) (r : Record) (x : Given) (answer : Result Taken Check) (new : List Record) (e : ReadError) → IsAtPlace J r → taken_by_record r ≡ Some x → IsDecided here J x answer new → TakesNew answer new (Err e) → IsRecordChecked here J r (Err e)
 not_new here J r x answer new refused.Memory place took d n = tt
 not_new here J r x answer new (refused.Fault fault.Idle) place took d n = (place, (x, (took, d.is ∙ n)))
 not_new here J r x answer new (refused.Fault (fault.Refused c)) place took d n = (place, (x, (took, d.is ∙ n)))
@@ -67,15 +67,15 @@ not_new here J r x answer new e place took d n = absurd n
 
 -- a value of others
 pub checked_value : (here : Setting) (J : List Record) (value bytes : List ℕ) (answer : Result Taken Check) (decided : List Record) (result : Result Fit ReadError) → IsAtPlace J (Held value) → bytes ≡ value → IsDecided here J (given_value bytes) answer decided → TakesNew answer decided result
-    → IsChecked here J (Held value) result
+    → IsRecordChecked here J (Held value) result
 checked_value here J value bytes answer decided result place same d taken = by_result result (subst (λ (v : List ℕ). IsDecided here J (given_value v) answer decided) same d) taken where
-  by_result : (result : Result Fit ReadError) → IsDecided here J (given_value value) answer decided → TakesNew answer decided result → IsChecked here J (Held value) result
+  by_result : (result : Result Fit ReadError) → IsDecided here J (given_value value) answer decided → TakesNew answer decided result → IsRecordChecked here J (Held value) result
   by_result (Ok fit) d taken = good_value here J value answer decided fit.growth d taken
   by_result (Err e) d taken = not_new here J (Held value) (given_value value) answer decided e place refl d taken
 
 -- a conviction
 pub checked_proof : (here : Setting) (J : List Record) (p : Proof) (answer : Result Taken Check) (decided : List Record) (result : Result Fit ReadError) → IsAtPlace J (Conviction p) → IsDecided here J (given_proof p) answer decided → TakesNew answer decided result
-    → IsChecked here J (Conviction p) result
+    → IsRecordChecked here J (Conviction p) result
 checked_proof here J p answer decided (Ok fit) place d taken = good_proof here J p answer decided fit.growth d taken
 checked_proof here J p answer decided (Err e) place d taken = not_new here J (Conviction p) (given_proof p) answer decided e place refl d taken
 
@@ -89,7 +89,7 @@ unfolding added
 alone_added J s short = only_last (cond (is_vouched J s.statement) (due J s (opponent (foreign J) s.statement)) []) (Foreign s) short
 
 -- a statement that is new may follow, where the journal grows by one record
-pub good_statement : (here : Setting) (J : List Record) (s : Signed) (answer : Result Taken Check) (decided new : List Record) → IsDecided here J (given_statement s) answer decided → (answer ≡ Ok New) × (new ≡ decided) → length new ≤ 1 → IsGood here J (Foreign s) new
+pub good_statement : (here : Setting) (J : List Record) (s : Signed) (answer : Result Taken Check) (decided new : List Record) → IsDecided here J (given_statement s) answer decided → (answer ≡ Ok New) × (new ≡ decided) → length new ≤ 1 → IsGoodRecord here J (Foreign s) new
 good_statement here J s answer decided new d taken short =
     let grown : new ≡ added J (given_statement s) = taken.1 ∙ grows_new here J (given_statement s) answer decided d taken.0 in
     let one : new ≡ Foreign s ∷ [] = grown ∙ alone_added J s (subst (λ (rs : List Record). length rs ≤ 1) grown short) in
@@ -119,21 +119,21 @@ made_of {here = here} {J = J} {u = u} {values = values} may = own_writes here.me
 
 -- it may not where the values aren't those of its writes
 pub other_values : (here : Setting) (J : List Record) (u : Update) (values : List (List ℕ)) (told : Bool) → IsAtPlace J (OwnPut u values) → IsTrue told ↔ (u.writes ≡ map write_of (changes_of u.writes values)) → told ≡ false
-    → IsChecked here J (OwnPut u values) (Err (refused.Fault fault.NotNext))
+    → IsRecordChecked here J (OwnPut u values) (Err (refused.Fault fault.NotNext))
 other_values here J u values told place is none = (place, λ may. both_ways told none (is.1 (made_of may)))
 
 -- nor where another update with its writes comes next
 pub other_next : (here : Setting) (J : List Record) (u next : Update) (ws : List Write) (values : List (List ℕ)) (told : Bool) → IsAtPlace J (OwnPut u values) → IsTrue told ↔ (u ≡ next) → told ≡ false → next ≡ next_with here.me J ws → ws ≡ u.writes
-    → IsChecked here J (OwnPut u values) (Err (refused.Fault fault.NotNext))
+    → IsRecordChecked here J (OwnPut u values) (Err (refused.Fault fault.NotNext))
 other_next here J u next ws values told place same none is copied =
     (place, λ may. both_ways told none (same.1 (next_of may ∙ ap (next_with here.me J) (sym copied) ∙ sym is)))
 
 -- nor where its id isn't fresh
-pub stale_id : (here : Setting) (J : List Record) (u : Update) (values : List (List ℕ)) (id : List ℕ) (told : Bool) → IsAtPlace J (OwnPut u values) → id ≡ id_of_update u → IsTrue told ↔ IsFresh J id → told ≡ false → IsChecked here J (OwnPut u values) (Err (refused.Fault fault.NotNext))
+pub stale_id : (here : Setting) (J : List Record) (u : Update) (values : List (List ℕ)) (id : List ℕ) (told : Bool) → IsAtPlace J (OwnPut u values) → id ≡ id_of_update u → IsTrue told ↔ IsFresh J id → told ≡ false → IsRecordChecked here J (OwnPut u values) (Err (refused.Fault fault.NotNext))
 stale_id here J u values id told place named is none = (place, λ may. both_ways told none (is.1 (subst (λ (h : List ℕ). IsFresh J h) (sym named) may.fresh)))
 
 -- nor where it would have too many entries
-pub wide_put : (here : Setting) (J : List Record) (u : Update) (ws : List Write) (values : List (List ℕ)) (e : ReadError) → IsAtPlace J (OwnPut u values) → ws ≡ u.writes → HasManyEntries (next_with here.me J ws) e → IsChecked here J (OwnPut u values) (Err e)
+pub wide_put : (here : Setting) (J : List Record) (u : Update) (ws : List Write) (values : List (List ℕ)) (e : ReadError) → IsAtPlace J (OwnPut u values) → ws ≡ u.writes → HasManyEntries (next_with here.me J ws) e → IsRecordChecked here J (OwnPut u values) (Err e)
 wide_put here J u ws values refused.Memory place copied wide = tt
 wide_put here J u ws values (refused.Fault fault.NotNext) place copied wide =
     (place, λ may. (let deps = ap (λ (x : Update). length x.deps) (next_of may) in omega (arith, may.tips, wide, deps)))

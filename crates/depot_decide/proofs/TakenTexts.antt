@@ -1,26 +1,24 @@
 -- Texts that are taken one behind the other, each the record that may follow there.
-use Rattle.std.proofs.Common.{◌≡◌, ℕ, ◌+◌, ◌<◌, ◌≤◌, Bool, true, List, [], ◌∷◌, ◌++◌, length, map, take, drop, get_or, Option, Some, None, refl, sym, ap, subst, ◌∙◌, append_assoc, inl, inr}
+use Rattle.std.proofs.Common.{◌≡◌, ℕ, ◌+◌, ◌<◌, ◌≤◌, Bool, true, List, [], ◌∷◌, ◌++◌, length, map, take, drop, get_or, Option, Some, None, refl, sym, ap, subst, ◌∙◌, append_assoc}
 use Rattle.std.specs.Prelude.{is_none}
 use Rattle.std.proofs.lemmas.List.{map-append, take_all, take-append-drop}
 use Rattle.depot_base.specs.declared.check.Full.{Full}
 use Rattle.depot_base.specs.declared.key.RosterEntry.{RosterEntry}
 use Rattle.depot_base.specs.declared.record.Record.{Record}
-use Rattle.depot_base.specs.declared.record.Record.TheVariants.{Foreign}
 use Rattle.depot_model.specs.declared.record_fault.RecordFault.{RecordFault}
 use Rattle.depot_model.specs.declared.record_fault.RecordFault.TheVariants as fault
 use Rattle.depot_model.specs.Checks.{Setting}
 use Rattle.depot_model.specs.Journal.{is_convicted}
-use Rattle.depot_model.specs.Lawful.{IsAllowed, IsLawful, MayFollow}
+use Rattle.depot_model.specs.Lawful.{IsAllowed, IsLawful}
 use Rattle.depot_model.specs.RecordFaults.{IsFault, AreTextsOf, HaveFaultAt}
 use Rattle.depot_model.specs.Records.{text_of_record}
 use Rattle.depot_model.specs.Room.{full_by}
 use Rattle.depot_model.specs.Roster.{Verifies}
 use Rattle.depot_base.proofs.GeneralLaws.{take_next}
 use Rattle.depot_accept.specs.StateView.{View, IsStateOf}
-use Rattle.depot_laws.proofs.Splits.{lawful_none, lawful_push}
+use Rattle.depot_laws.proofs.Splits.{lawful_push}
 use Rattle.depot_readings.specs.ReadingsView.{Known, standing}
-use Rattle.depot_readings.specs.NewRecords.{AreNew}
-use Rattle.depot_decide.specs.ReadRecords.{IsFitFrom, IsReadFrom}
+use Rattle.depot_decide.specs.ReadRecords.{IsFitFrom}
 use Rattle.depot_decide.specs.TextFaults.{IsTakenFrom}
 
 -- ---- no records
@@ -41,22 +39,6 @@ room_allowed here J text new f room = record {
   room = subst (λ (rs : List Record). full_by here.me J rs ≡ None) f.alone room;
 }
 
-alone_is_new : (here : Setting) (J : List Record) (r : Record) → MayFollow here J r → AreNew here J (r ∷ [])
-alone_is_new here J r may s (inl same) = let followed : MayFollow here J (Foreign s) = subst (λ (x : Record). MayFollow here J x) same may in followed.0
-alone_is_new here J r may s (inr never) = absurd never
-
--- a statement of another that may follow is new
-pub fit_is_new : (here : Setting) (J : List Record) (text : List ℕ) (new : List Record) → IsFitFrom here J text new → AreNew here J new
-fit_is_new here J text new f = subst (λ (rs : List Record). AreNew here J rs) (sym f.alone) (alone_is_new here J f.one f.may)
-
--- it is read where there is room for it
-pub fit_is_read : (here : Setting) (J : List Record) (text : List ℕ) (new : List Record) → IsFitFrom here J text new → full_by here.me J new ≡ None → IsReadFrom here J text new
-fit_is_read here J text new f room = record { one = f.one; alone = f.alone; is = f.is; allowed = room_allowed here J text new f room }
-
--- and has no room where there is none
-pub fit_lacks_room : (here : Setting) (J : List Record) (text : List ℕ) (new : List Record) → IsFitFrom here J text new → (full_by here.me J new ≡ None → ⊥) → IsFault here J text fault.NoRoom
-fit_lacks_room here J text new f full = (f.one, (f.fits, (f.is, (f.place, (f.may, λ room. full (subst (λ (rs : List Record). full_by here.me J rs ≡ None) (sym f.alone) room))))))
-
 pub room_left : (o : Option Full) (told : Bool) → told ≡ is_none o → told ≡ true → o ≡ None
 room_left None told is left = refl
 room_left (Some full) told is left = absurd cc
@@ -65,27 +47,12 @@ room_left (Some full) told is left = absurd cc
 pub fit_is_lawful : (here : Setting) (J : List Record) (text : List ℕ) (new : List Record) → IsLawful here J → IsFitFrom here J text new → full_by here.me J new ≡ None → IsLawful here (J ++ new)
 fit_is_lawful here J text new l f room = subst (λ (rs : List Record). IsLawful here (J ++ rs)) (sym f.alone) (lawful_push here J f.one l (room_allowed here J text new f room))
 
--- it is taken where the journal has grown by it
-pub read_is_taken : (here : Setting) (J : List Record) (text : List ℕ) (new after : List Record) → IsReadFrom here J text new → after ≡ J ++ new → IsTakenFrom here J text after
-read_is_taken here J text new after r grown = record {
-  one = r.one;
-  is = r.is;
-  allowed = r.allowed;
-  grown = grown ∙ ap (λ (rs : List Record). J ++ rs) r.alone;
-}
-
 -- ---- the way through the texts
 
 -- the records are those of these texts, and lawful
 pub record AreTaken (here : Setting) (texts : List (List ℕ)) (J : List Record) : Type 0 where
   pub lawful : IsLawful here J
   pub are : texts ≡ map text_of_record J
-
-pub taking_begins : (here : Setting) (J : List Record) → J ≡ [] → AreTaken here [] J
-taking_begins here J none = record {
-  lawful = subst (λ (rs : List Record). IsLawful here rs) (sym none) (lawful_none here);
-  are = ap (λ (rs : List Record). map text_of_record rs) (sym none);
-}
 
 -- with one more
 pub taking_goes_on : (here there : Setting) (texts : List (List ℕ)) (text : List ℕ) (J after : List Record) → there ≡ here → AreTaken here texts J → IsTakenFrom there J text after → AreTaken here (texts ++ text ∷ []) after
@@ -104,9 +71,6 @@ taking_goes_on here there texts text J after same t n = record {
 pub record IsTaking (here : Setting) (verifies : Verifies) (texts : List (List ℕ)) (v : Known) : Type 0 where
   pub taken : AreTaken here texts v.records
   pub stands : standing verifies v ≡ here
-
-pub readings_begin : (here : Setting) (verifies : Verifies) (v : Known) → v.records ≡ [] → standing verifies v ≡ here → IsTaking here verifies [] v
-readings_begin here verifies v none stands = record { taken = taking_begins here v.records none; stands = stands }
 
 -- with one more
 pub readings_go_on : (here : Setting) (verifies : Verifies) (texts : List (List ℕ)) (i : ℕ) (text : List ℕ) (old new : Known) → i < length texts → text ≡ get_or texts i text → IsTaking here verifies (take i texts) old

@@ -1,11 +1,10 @@
 -- What a node decides of a value.
-use Rattle.std.proofs.Common.{◌≡◌, ℕ, ◌<◌, ◌≤◌, Bool, true, false, cond, ◌||◌, List, [], ◌∷◌, length, Option, Some, None, Result, Ok, Err, Bor, refl, sym, ap, subst, ◌∙◌}
+use Rattle.std.proofs.Common.{◌≡◌, ℕ, ◌<◌, ◌≤◌, Bool, true, false, cond, ◌||◌, List, [], ◌∷◌, length, Option, Some, None, Result, Ok, Err, Bor, refl, sym, ap, ◌∙◌}
 use Rattle.std.specs.List.{list_any}
 use Rattle.std.specs.Option.{is_some, option_copied}
 use Rattle.std.specs.Str.{bytes_eq}
 use Rattle.sha2.specs.Sha256.{sha256}
 use Rattle.depot_base.specs.Closed.{rest_of}
-use Rattle.depot_base.specs.Sized.{IsValue}
 use Rattle.depot_base.specs.declared.check.Check.{Check}
 use Rattle.depot_base.specs.declared.check.Check.TheVariants as check
 use Rattle.depot_base.specs.declared.record.Record.{Record}
@@ -14,8 +13,6 @@ use Rattle.depot_model.specs.declared.taken.Taken.{Taken}
 use Rattle.depot_model.specs.declared.taken.Taken.TheVariants.{New, Known}
 use Rattle.depot_model.specs.Checks.{Setting, given_value, first_failed_check, is_known, answer_to, added}
 use Rattle.depot_model.specs.Journal.{accepted, held, value_with, holds_hash, is_wanted}
-use Rattle.depot_model.specs.Records.{IsRecord}
-use Rattle.depot_laws.proofs.LawfulRecords.{IsRecord-Held}
 use Rattle.depot_decide.specs.Deciding.{IsDecided, DecidesValue}
 use Rattle.depot_decide.proofs.Decided.{decided_by, decides_given}
 
@@ -72,10 +69,6 @@ value_unwanted here J v h hash free unwanted =
 pub value_new : (here : Setting) (J : List Record) (v made : List ℕ) → made ≡ v → holds_hash J (sha256 v) ≡ false → is_wanted (accepted J) (sha256 v) (length v) ≡ true → IsDecided here J (given_value v) (Ok New) (Held made ∷ [])
 unfolding added
 value_new here J v made same free wanted = decided_by here J (given_value v) (Ok New) (Held made ∷ []) (when_wanted here J v free wanted) (ap (λ (x : List ℕ). Held x ∷ []) (sym same))
-
--- its record has a text
-pub made_is_record : (v made : List ℕ) → made ≡ v → IsValue v → IsRecord (Held made)
-made_is_record v made same fits = IsRecord-Held made (subst IsValue (sym same) fits)
 
 -- ---- its text
 

@@ -7,8 +7,9 @@ use Rattle.depot_base.specs.declared.check.Full.{Full}
 use Rattle.depot_base.specs.declared.check.Check.TheVariants as check
 use Rattle.depot_base.specs.declared.proof.Proof.{Proof}
 use Rattle.depot_base.specs.declared.record.Record.{Record}
-use Rattle.depot_base.specs.declared.record.Record.TheVariants.{Conviction}
+use Rattle.depot_base.specs.declared.record.Record.TheVariants.{Foreign, Conviction}
 use Rattle.depot_base.specs.declared.statement.Signed.{Signed}
+use Rattle.depot_base.specs.declared.statement.Statement.TheVariants as statements
 use Rattle.depot_base.specs.declared.update.Update.{Update}
 use Rattle.depot_model.specs.declared.taken.Taken.{Taken}
 use Rattle.depot_model.specs.declared.taken.Taken.TheVariants.{New}
@@ -16,8 +17,11 @@ use Rattle.depot_model.specs.declared.taken.TakeError.{TakeError}
 use Rattle.depot_model.specs.declared.taken.TakeError.TheVariants as refused
 use Rattle.depot_model.specs.Checks.{Setting, Given, given_statement, given_proof, given_value, answer_to, growth}
 use Rattle.depot_model.specs.Conviction.{proof_of}
+use Rattle.depot_model.specs.Items.{AreItemsOf}
 use Rattle.depot_model.specs.Journal.{foreign}
 use Rattle.depot_model.specs.Limits.{IsCutShort}
+use Rattle.depot_model.specs.Lists.{IsIn}
+use Rattle.depot_model.specs.Order.{parents}
 use Rattle.depot_model.specs.Room.{full_by}
 use Rattle.depot_model.specs.Roster.{Verifies}
 use Rattle.depot_model.specs.Taking.{OfGiven}
@@ -68,6 +72,17 @@ abbrev pub AreJoined : List Update → Option Parents → Type 0
 AreJoined us None = Unit {0}
 AreJoined us (Some p) = IsJoinedRow us p.items.items p.row.items
 
+-- An update comes with the row of its parents: with the items at which they stand, and their joined row.
+pub record ComesWithRow (us : List Update) (u : Update) (given : Option Parents) : Type 0 where
+  pub behind : Parents
+  pub is : given ≡ Some behind
+  pub items : AreItemsOf us (parents u) behind.items.items
+  pub row : IsJoinedRow us behind.items.items behind.row.items
+
+-- so does each update of another among these records
+abbrev pub ComeWithRow : List Update → List Record → Option Parents → Type 0
+ComeWithRow us new given = (s : Signed) (u : Update) → IsIn (Foreign s) new → s.statement ≡ statements.Update u → ComesWithRow us u given
+
 -- ---- by a state, whatever journal it is the state of
 
 abbrev pub DecidesByState : {S : Type 0} → Verifies → View S → Given → Result Taken Check → List Record → Type 0
@@ -92,9 +107,9 @@ abbrev pub HadNoRoom : ℕ → List Record → List Record → Full → List Rec
 HadNoRoom me J new full after = (full_by me J new ≡ Some full) × (after ≡ J)
 
 -- the answer as it is given, a failed check as a refusal
-abbrev pub Answered : Result Taken Check → Result Taken TakeError → Type 0
-Answered (Ok taken) result = result ≡ Ok taken
-Answered (Err c) result = result ≡ Err (refused.Refused c)
+abbrev pub AnswersAs : Result Taken Check → Result Taken TakeError → Type 0
+AnswersAs (Ok taken) result = result ≡ Ok taken
+AnswersAs (Err c) result = result ≡ Err (refused.Refused c)
 
 -- A decision is carried out: its growth is appended where there is room, and its answer given.
 abbrev pub IsCarriedOut : ℕ → List Record → Result Taken Check → List Record → Result Taken TakeError → List Record → Type 0

@@ -17,15 +17,15 @@ use Rattle.depot_decide.specs.declared.record_check.ReadError.{ReadError}
 use Rattle.depot_decide.specs.declared.record_check.ReadError.TheVariants as refused
 
 -- these are the record, which may follow but for the room
-pub record IsGood (here : Setting) (J : List Record) (r : Record) (new : List Record) : Type 0 where
+pub record IsGoodRecord (here : Setting) (J : List Record) (r : Record) (new : List Record) : Type 0 where
   pub alone : new ≡ r ∷ []
   pub may : MayFollow here J r
 
 -- what is found of a record that stands at its place: it may follow, or this is wrong with it; Memory may stand in place of each answer
-abbrev pub IsChecked : Setting → List Record → Record → Result Fit ReadError → Type 0
-IsChecked here J r (Ok fit) = IsGood here J r fit.growth
-IsChecked here J r (Err refused.Memory) = Unit {0}
-IsChecked here J r (Err (refused.Fault f)) = IsFaultOf here J r f
+abbrev pub IsRecordChecked : Setting → List Record → Record → Result Fit ReadError → Type 0
+IsRecordChecked here J r (Ok fit) = IsGoodRecord here J r fit.growth
+IsRecordChecked here J r (Err refused.Memory) = Unit {0}
+IsRecordChecked here J r (Err (refused.Fault f)) = IsFaultOf here J r f
 
 -- these are the record of a text, which is allowed but for the room
 pub record IsFitFrom (here : Setting) (J : List Record) (text : List ℕ) (new : List Record) : Type 0 where
@@ -56,10 +56,10 @@ IsReadAs here J text (Err refused.Memory) = Unit {0}
 IsReadAs here J text (Err (refused.Fault f)) = IsFault here J text f
 
 -- what is wrong with a record that is known, or that a check refuses; nothing with a new one
-abbrev pub fault_of : Result Taken Check → Option RecordFault
-fault_of (Ok New) = None
-fault_of (Ok Known) = Some fault.Idle
-fault_of (Err c) = Some (fault.Refused c)
+abbrev pub record_fault_of : Result Taken Check → Option RecordFault
+record_fault_of (Ok New) = None
+record_fault_of (Ok Known) = Some fault.Idle
+record_fault_of (Err c) = Some (fault.Refused c)
 
 -- what was decided is new, and the journal grows by it; or it is known, or a check refuses it
 abbrev pub TakesNew : Result Taken Check → List Record → Result Fit ReadError → Type 0

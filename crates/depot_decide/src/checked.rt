@@ -5,12 +5,14 @@
 ghost use Rattle.std.specs.Prelude.{◌≡◌, List, [], ◌∷◌, Ok, Err, IfOk, Some};
 ghost use Rattle.depot_base.specs.declared.record.Record.{Record};
 ghost use Rattle.depot_base.specs.declared.record.Record.TheVariants.{Conviction};
+ghost use Rattle.depot_base.specs.declared.statement.Statement.TheVariants as statements;
+ghost use Rattle.depot_base.specs.declared.update.Update.{Update};
 ghost use Rattle.depot_model.specs.declared.taken.Taken.TheVariants.{New};
 ghost use Rattle.depot_model.specs.Texts.{IsSigned, IsProof, id_of_statement, text_of_signed};
 ghost use Rattle.depot_accept.specs.CheckResults.{IsNew, IsChecked, AreDue};
 ghost use Rattle.depot_accept.specs.StateView.{IsStateOf, setting};
 ghost use Rattle.depot_accept.specs.declared.answer.CheckError.TheVariants as failed;
-ghost use Rattle.depot_decide.specs.Deciding.{AreJoined, DecidesChecked, DecidesNew, IsDueBy};
+ghost use Rattle.depot_decide.specs.Deciding.{AreJoined, ComeWithRow, ComesWithRow, DecidesChecked, DecidesNew, IsDueBy};
 
 use crate::decision::Decision;
 use depot_accept::{CheckError, Found, Parents, Pass, State};
@@ -35,6 +37,7 @@ pub fn decide_checked<S: Scheme>(
     requires checked { (J : List Record) × (IsStateOf J state.now × IsChecked (setting S.verifies state.now) J signed checked) }
     ensures decided { IfOk result (λ d. DecidesChecked S.verifies state.now signed checked d.answer d.growth) }
     ensures joined { IfOk result (λ d. AreJoined state.now.accepted d.parents) }
+    ensures row { IfOk result (λ d. ComeWithRow state.now.accepted d.growth d.parents) }
 {
     match checked {
         Ok(Pass::Known) => Ok(Decision::of(Ok(Taken::Known))),
@@ -64,9 +67,11 @@ fn accept<S: Scheme>(
     requires text { text.now ≡ text_of_signed signed }
     requires id { id ≡ id_of_statement signed.statement }
     requires joined { AreJoined state.now.accepted parents }
+    requires row { (u : Update) → signed.statement ≡ statements.Update u → ComesWithRow state.now.accepted u parents }
     requires new { (J : List Record) × (IsStateOf J state.now × IsNew (setting S.verifies state.now) J signed found) }
     ensures decided { IfOk result (λ d. DecidesNew S.verifies state.now signed found d.answer d.growth) }
     ensures joined { IfOk result (λ d. AreJoined state.now.accepted d.parents) }
+    ensures row { IfOk result (λ d. ComeWithRow state.now.accepted d.growth d.parents) }
 {
     let items = items_of(alloc, &parents)?;
     let growth = growth_of_new(alloc, state, signed, id, text, items, found)?;
@@ -123,6 +128,7 @@ fn refuse<S: Scheme>(
     requires failed { (J : List Record) × (IsStateOf J state.now × IsChecked (setting S.verifies state.now) J signed.now (Err (failed.Refused check against))) }
     ensures decided { IfOk result (λ d. DecidesChecked S.verifies state.now signed.now (Err (failed.Refused check against)) d.answer d.growth) }
     ensures joined { IfOk result (λ d. AreJoined state.now.accepted d.parents) }
+    ensures row { IfOk result (λ d. ComeWithRow state.now.accepted d.growth d.parents) }
 {
     match against {
         None => Ok(Decision::of(Err(check))),

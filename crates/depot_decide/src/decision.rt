@@ -1,6 +1,6 @@
 //! What a node decides of what it is given.
 ghost use Rattle.std.specs.Prelude.{◌≡◌, [], None};
-ghost use Rattle.depot_decide.specs.Deciding.{Answered};
+ghost use Rattle.depot_decide.specs.Deciding.{AnswersAs};
 
 use depot_accept::Parents;
 use depot_base::Check;
@@ -34,7 +34,7 @@ impl Decision {
 
 /// The answer of a decision as a node gives it: a failed check is a refusal. It takes no memory.
 pub fn answered(answer: Result<Taken, Check>) -> Result<Taken, TakeError>
-    ensures { Answered answer result }
+    ensures { AnswersAs answer result }
 {
     match answer {
         Ok(taken) => Ok(taken),

@@ -10,10 +10,10 @@ ghost use Rattle.depot_model.specs.Own.{next_with, write_of, changes_of};
 ghost use Rattle.depot_model.specs.RecordFaults.{IsAtPlace};
 ghost use Rattle.depot_model.specs.Texts.{hash_of_roster, id_of_update};
 ghost use Rattle.depot_readings.specs.ReadingsView.{standing};
-ghost use Rattle.depot_readings.specs.RecordTexts.{IsTextOf};
+ghost use Rattle.depot_model.specs.Records.{IsTextOf};
 ghost use Rattle.depot_decide.specs.declared.record_check.ReadError.TheVariants as refused;
 ghost use Rattle.depot_decide.specs.Deciding.{AreJoined};
-ghost use Rattle.depot_decide.specs.ReadRecords.{IsChecked, IsFitAs, IsReadAs, TakesNew, HasManyEntries, fault_of};
+ghost use Rattle.depot_decide.specs.ReadRecords.{IsRecordChecked, IsFitAs, IsReadAs, TakesNew, HasManyEntries, record_fault_of};
 
 use crate::decision::Decision;
 use crate::plan_errors::NextError;
@@ -118,7 +118,7 @@ fn check_item<S: Scheme>(
 ) -> Result<Fit, ReadError>
     requires place { IsAtPlace readings.now.records item }
     requires text { IsTextOf item text.now }
-    ensures checked { IsChecked (standing S.verifies readings.now) readings.now.records item result }
+    ensures checked { IsRecordChecked (standing S.verifies readings.now) readings.now.records item result }
     ensures joined { IfOk result (λ fit. AreJoined (accepted readings.now.records) fit.parents) }
 {
     match item {
@@ -139,7 +139,7 @@ fn check_birth<S: Scheme>(
 ) -> Result<Fit, ReadError>
     requires place { IsAtPlace readings.now.records (Birth node roster) }
     requires text { (text : List ℕ) × IsTextOf (Birth node roster) text }
-    ensures checked { IsChecked (standing S.verifies readings.now) readings.now.records (Birth node roster) result }
+    ensures checked { IsRecordChecked (standing S.verifies readings.now) readings.now.records (Birth node roster) result }
     ensures joined { IfOk result (λ fit. AreJoined (accepted readings.now.records) fit.parents) }
 {
     if !is_own_birth(readings, node, &roster) {
@@ -168,7 +168,7 @@ fn check_put<S: Scheme>(
 ) -> Result<Fit, ReadError>
     requires place { IsAtPlace readings.now.records (OwnPut update values) }
     requires text { IsTextOf (OwnPut update values) text.now }
-    ensures checked { IsChecked (standing S.verifies readings.now) readings.now.records (OwnPut update values) result }
+    ensures checked { IsRecordChecked (standing S.verifies readings.now) readings.now.records (OwnPut update values) result }
     ensures joined { IfOk result (λ fit. AreJoined (accepted readings.now.records) fit.parents) }
 {
     let id = id_in_own_put(text);
@@ -192,7 +192,7 @@ fn parents_of_put<S: Scheme>(
     requires id { id.now ≡ id_of_update update.now }
     requires lengths { map (λ v. length v) values.now ≡ sizes_of update.now.writes }
     ensures may { IfOk result (λ _. MayFollow (standing S.verifies readings.now) readings.now.records (OwnPut update.now values.now)) }
-    ensures refused { IfErr result (λ e. IsChecked (standing S.verifies readings.now) readings.now.records (OwnPut update.now values.now) (Err e)) }
+    ensures refused { IfErr result (λ e. IsRecordChecked (standing S.verifies readings.now) readings.now.records (OwnPut update.now values.now) (Err e)) }
 {
     if !has_leaf(readings, readings.totals().own) {
         return Err(ReadError::Fault(RecordFault::NotNext));
@@ -257,7 +257,7 @@ fn check_voucher<S: Scheme>(
 ) -> Result<Fit, ReadError>
     requires place { IsAtPlace readings.now.records (OwnVoucher voucher) }
     requires text { IsTextOf (OwnVoucher voucher) text.now }
-    ensures checked { IsChecked (standing S.verifies readings.now) readings.now.records (OwnVoucher voucher) result }
+    ensures checked { IsRecordChecked (standing S.verifies readings.now) readings.now.records (OwnVoucher voucher) result }
     ensures joined { IfOk result (λ fit. AreJoined (accepted readings.now.records) fit.parents) }
 {
     if !may_vouch(readings, &voucher) {
@@ -303,7 +303,7 @@ fn check_foreign<S: Scheme>(
 ) -> Result<Fit, ReadError>
     requires place { IsAtPlace readings.now.records (Foreign signed) }
     requires text { IsTextOf (Foreign signed) text.now }
-    ensures checked { IsChecked (standing S.verifies readings.now) readings.now.records (Foreign signed) result }
+    ensures checked { IsRecordChecked (standing S.verifies readings.now) readings.now.records (Foreign signed) result }
     ensures joined { IfOk result (λ fit. AreJoined (accepted readings.now.records) fit.parents) }
 {
     let decision = decide_signed(alloc, readings, signed, behind_tag(text))?;
@@ -324,7 +324,7 @@ fn check_conviction<S: Scheme>(
 ) -> Result<Fit, ReadError>
     requires place { IsAtPlace readings.now.records (Conviction proof) }
     requires text { IsTextOf (Conviction proof) text.now }
-    ensures checked { IsChecked (standing S.verifies readings.now) readings.now.records (Conviction proof) result }
+    ensures checked { IsRecordChecked (standing S.verifies readings.now) readings.now.records (Conviction proof) result }
     ensures joined { IfOk result (λ fit. AreJoined (accepted readings.now.records) fit.parents) }
 {
     let decision = decide_decoded(alloc, readings, proof, behind_tag(text))?;
@@ -338,7 +338,7 @@ fn check_held<S: Scheme>(
     value: Value,
 ) -> Result<Fit, ReadError>
     requires place { IsAtPlace readings.now.records (Held value) }
-    ensures checked { IsChecked (standing S.verifies readings.now) readings.now.records (Held value) result }
+    ensures checked { IsRecordChecked (standing S.verifies readings.now) readings.now.records (Held value) result }
     ensures joined { IfOk result (λ fit. AreJoined (accepted readings.now.records) fit.parents) }
 {
     let decision = decide_short(alloc, readings, value.bytes())?;
@@ -367,7 +367,7 @@ fn fit_of_new(decision: Decision) -> Result<Fit, ReadError>
 
 /// What is wrong with a record by what is answered to it, if it isn't new.
 fn fault_of(answer: &Result<Taken, Check>) -> Option<RecordFault>
-    ensures { result ≡ fault_of answer.now }
+    ensures { result ≡ record_fault_of answer.now }
 {
     match answer {
         Ok(Taken::New) => None,

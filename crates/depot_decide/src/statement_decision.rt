@@ -4,7 +4,7 @@ ghost use Rattle.depot_model.specs.Checks.{given_statement};
 ghost use Rattle.depot_model.specs.Journal.{accepted};
 ghost use Rattle.depot_model.specs.Texts.{IsSigned, text_of_signed};
 ghost use Rattle.depot_readings.specs.ReadingsView.{standing};
-ghost use Rattle.depot_decide.specs.Deciding.{AreJoined, DecidesStatement, IsDecided};
+ghost use Rattle.depot_decide.specs.Deciding.{AreJoined, ComeWithRow, DecidesStatement, IsDecided};
 
 use crate::checked::decide_checked;
 use crate::decision::Decision;
@@ -22,6 +22,7 @@ pub fn decide_statement<S: Scheme>(
 ) -> Result<Decision, Memory>
     ensures decided { IfOk result (λ d. DecidesStatement (standing S.verifies readings.now) readings.now.records text.now d.answer d.growth) }
     ensures joined { IfOk result (λ d. AreJoined (accepted readings.now.records) d.parents) }
+    ensures row { IfOk result (λ d. ComeWithRow (accepted readings.now.records) d.growth d.parents) }
 {
     match decode_signed(alloc, text) {
         Ok(signed) => decide_signed(alloc, readings, signed, text),
@@ -41,6 +42,7 @@ pub fn decide_signed<S: Scheme>(
     requires text { text.now ≡ text_of_signed signed }
     ensures decided { IfOk result (λ d. IsDecided (standing S.verifies readings.now) readings.now.records (given_statement signed) d.answer d.growth) }
     ensures joined { IfOk result (λ d. AreJoined (accepted readings.now.records) d.parents) }
+    ensures row { IfOk result (λ d. ComeWithRow (accepted readings.now.records) d.growth d.parents) }
 {
     let id = hash_of(signed.body.as_slice());
     let state = readings.state();

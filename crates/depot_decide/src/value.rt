@@ -8,7 +8,7 @@ ghost use Rattle.depot_decide.specs.Deciding.{AreJoined, DecidesValue, IsDecided
 
 use crate::decision::Decision;
 use depot_base::limits::MOST_VALUE;
-use depot_base::{Check, Memory, Value};
+use depot_base::{Bytes, Check, Memory, Value};
 use depot_model::{Scheme, Taken, hash_of};
 use depot_readings::{Growth, Readings};
 use std::alloc::Global;
@@ -46,9 +46,7 @@ pub fn decide_short<S: Scheme>(
     if !readings.is_wanted(&hash, bytes.len() as u32) {
         return Ok(Decision::of(Err(Check::Unwanted(hash))));
     }
-    let Ok(value) = Value::new(alloc, bytes) else {
-        return Err(Memory);
-    };
+    let value = Value::from_bytes(Bytes::from_slice(alloc, bytes)?);
     Ok(Decision {
         answer: Ok(Taken::New),
         growth: Growth::held(value, hash),

@@ -4,12 +4,12 @@ use Rattle.std.specs.Int.{w32, from_be_bytes}
 use Rattle.std.proofs.lemmas.Bool.{cond-false, cond-true, ltb-true, le-ltb, lt-ltb, and_left}
 use Rattle.std.proofs.lemmas.List.{length-append}
 use Rattle.depot_model.specs.Checks.{Setting}
-use Rattle.depot_model.specs.Frames.{FrameAt, whole_frame, open_frame, no_frame, is_tag, least_length, most_length, may_be_within, is_no_flag, goes_astray, framed, frame_at}
+use Rattle.depot_model.specs.Frames.{FrameAt, whole_frame, open_frame, no_frame, is_tag, least_length, most_length, may_be_within, is_no_flag, goes_astray, payload_in, frame_at}
 use Rattle.depot_model.specs.Feeding.{Feeding, ill_formed, closed_by, fed, fed_byte, fed_at, is_over}
 use Rattle.depot_model.proofs.OpenLaws.{not_astray, still_short, behind_four, cleared, bounds}
 use Rattle.depot_model.proofs.FeedLaws.{fed_in_pieces, frame_alike, one_byte}
 use Rattle.depot_laws.proofs.Feeds.{closed_stays}
-use Rattle.depot_frames.specs.FrameHeads.{most_frame, missing}
+use Rattle.depot_frames.specs.FrameHeads.{most_frame, bytes_missing}
 
 -- what stands in a buffer stands in bytes that are the same
 pub stands_in : (buffer bytes : List ℕ) (at : FrameAt) → buffer ≡ bytes → frame_at buffer ≡ at → frame_at bytes ≡ at
@@ -20,8 +20,8 @@ stands_in buffer bytes at same e = ap frame_at (sym same) ∙ e
 abbrev worth_of : ℕ → ℕ → ℕ → ℕ → ℕ
 worth_of x y z w = from_be_bytes w32 (x ∷ y ∷ z ∷ w ∷ [])
 
-far : (t x y z w : ℕ) (r : List ℕ) → missing (t ∷ x ∷ y ∷ z ∷ w ∷ r) ≡ worth_of x y z w - length r
-unfolding missing
+far : (t x y z w : ℕ) (r : List ℕ) → bytes_missing (t ∷ x ∷ y ∷ z ∷ w ∷ r) ≡ worth_of x y z w - length r
+unfolding bytes_missing
 far t x y z w r = chosen (ltb (length (t ∷ x ∷ y ∷ z ∷ w ∷ r)) 5) (le-ltb _ _ (omega arith)) where
   chosen : (b : Bool) → b ≡ false → cond b 1 ((5 + worth_of x y z w) - length (t ∷ x ∷ y ∷ z ∷ w ∷ r)) ≡ worth_of x y z w - length r
   chosen true e = absurd cc
@@ -38,11 +38,11 @@ headed : (t x y z w : ℕ) (r : List ℕ) → frame_at (t ∷ x ∷ y ∷ z ∷ 
 unfolding frame_at
 headed t x y z w r told =
     let l : List ℕ = x ∷ y ∷ z ∷ w ∷ r in
-    let one = not_astray (not (is_tag t) || goes_astray t (x ∷ y ∷ z ∷ w ∷ []) r) (cond (ltb (length l) 4) open_frame (framed t (worth_of x y z w) r)) told in
+    let one = not_astray (not (is_tag t) || goes_astray t (x ∷ y ∷ z ∷ w ∷ []) r) (cond (ltb (length l) 4) open_frame (payload_in t (worth_of x y z w) r)) told in
     let a = cleared (is_tag t) (goes_astray t (x ∷ y ∷ z ∷ w ∷ []) r) one.0 in
     let b = cleared (may_be_within (least_length t) (most_length t) (x ∷ y ∷ z ∷ w ∷ [])) ((t == 4) && is_no_flag r) a.1 in
     let enough : ltb (length l) 4 ≡ false = le-ltb _ _ (omega arith) in
-    let short = still_short (ltb (length r) (worth_of x y z w)) (record { tag = t; payload = take (worth_of x y z w) r }) (behind_four (ltb (length l) 4) (framed t (worth_of x y z w) r) enough one.1) in
+    let short = still_short (ltb (length r) (worth_of x y z w)) (record { tag = t; payload = take (worth_of x y z w) r }) (behind_four (ltb (length l) 4) (payload_in t (worth_of x y z w) r) enough one.1) in
     record { tag = a.0; within = b.0; flag = b.1; short = ltb-true _ _ short }
 
 -- its length is at most 131,072
@@ -81,13 +81,13 @@ still_framed t x y z w r s h other lt =
 -- where more than one byte is missing, one more leaves the frame open, and one fewer is missing
 pub record StaysOpen (b : List ℕ) (v : ℕ) : Type 0 where
   pub told : frame_at (b ++ v ∷ []) ≡ open_frame
-  pub left : missing b ≡ suc (missing (b ++ v ∷ []))
+  pub left : bytes_missing b ≡ suc (bytes_missing (b ++ v ∷ []))
 
-short_head : (b : List ℕ) → length b < 5 → missing b ≡ 1
-unfolding missing
+short_head : (b : List ℕ) → length b < 5 → bytes_missing b ≡ 1
+unfolding bytes_missing
 short_head b lt = cond-true (ltb (length b) 5) 1 _ (lt-ltb _ _ lt)
 
-pub stays_open : (b : List ℕ) (v : ℕ) → frame_at b ≡ open_frame → 1 < missing b → StaysOpen b v
+pub stays_open : (b : List ℕ) (v : ℕ) → frame_at b ≡ open_frame → 1 < bytes_missing b → StaysOpen b v
 stays_open [] v told some = absurd (omega (arith, some, short_head [] (omega arith)))
 stays_open (t ∷ []) v told some = absurd (omega (arith, some, short_head (t ∷ []) (omega arith)))
 stays_open (t ∷ x ∷ []) v told some = absurd (omega (arith, some, short_head (t ∷ x ∷ []) (omega arith)))
@@ -109,8 +109,8 @@ stays_open (t ∷ x ∷ y ∷ z ∷ w ∷ r) v told some = by_tag (t == 4) refl 
 
 -- some byte is missing, and with what is missing a frame has at most 131,077 bytes
 pub record IsInReach (b : List ℕ) : Type 0 where
-  pub some : 0 < missing b
-  pub most : length b + missing b ≤ most_frame
+  pub some : 0 < bytes_missing b
+  pub most : length b + bytes_missing b ≤ most_frame
 
 in_front : (b : List ℕ) → length b < 5 → IsInReach b
 in_front b lt = record { some = omega (arith, short_head b lt); most = omega (arith, short_head b lt) }
@@ -135,11 +135,11 @@ fed_at_alike here s p bytes no_frame = refl
 fed_at_alike here s p bytes (whole_frame f) = frame_alike here (length bytes) f s p
 
 -- A chunk of no more than the missing bytes is fed in one go: what stands with its last byte decides.
-pub chunk_is_fed : (here : Setting) (s : Feeding) (c : List ℕ) → is_some s.closed ≡ false → is_over s ≡ false → frame_at s.begun ≡ open_frame → 0 < length c → length c ≤ missing s.begun
+pub chunk_is_fed : (here : Setting) (s : Feeding) (c : List ℕ) → is_some s.closed ≡ false → is_over s ≡ false → frame_at s.begun ≡ open_frame → 0 < length c → length c ≤ bytes_missing s.begun
     → fed here s c ≡ fed_at here s (s.begun ++ c) (frame_at (s.begun ++ c))
 unfolding fed
 chunk_is_fed here s c going on told some le = chunk s.begun c told some le where
-  chunk : (p c : List ℕ) → frame_at p ≡ open_frame → 0 < length c → length c ≤ missing p → fed here (record s { begun = p }) c ≡ fed_at here s (p ++ c) (frame_at (p ++ c))
+  chunk : (p c : List ℕ) → frame_at p ≡ open_frame → 0 < length c → length c ≤ bytes_missing p → fed here (record s { begun = p }) c ≡ fed_at here s (p ++ c) (frame_at (p ++ c))
   chunk p [] told some le = absurd (omega (arith, some))
   chunk p (x ∷ []) told some le = one_byte here (record s { begun = p }) x going on ∙ fed_at_alike here s p (p ++ x ∷ []) (frame_at (p ++ x ∷ []))
   chunk p (x ∷ y ∷ q) told some le =

@@ -1,5 +1,5 @@
 -- What a node is left as while bytes are fed to it.
-use Rattle.std.proofs.Common.{◌≡◌, ◌↔◌, ℕ, true, false, List, [], ◌++◌, append_assoc, Result, Ok, refl, sym, ap, subst, ◌∙◌}
+use Rattle.std.proofs.Common.{◌≡◌, ◌↔◌, ℕ, true, false, List, [], ◌++◌, append_assoc, Result, Ok, sym, ap, subst, ◌∙◌}
 use Rattle.std.specs.Prelude.{IsErrOf}
 use Rattle.std.proofs.lemmas.List.{append-nil}
 use Rattle.depot_base.specs.Calls.{Made}
@@ -14,7 +14,7 @@ use Rattle.depot_model.proofs.FeedGrowth.{feed_grows}
 use Rattle.depot_feeds.specs.declared.feed_error.FeedError.{FeedError}
 use Rattle.depot_feeds.specs.declared.feed_error.FeedError.TheVariants as error
 use Rattle.depot_feeds.specs.Lasting.{IsLawfulCall}
-use Rattle.depot_feeds.specs.NodeCalls.{IsFeedCall, IsFrameCall, says_disk}
+use Rattle.depot_feeds.specs.NodeCalls.{IsFeedCall, IsFrameCall}
 use Rattle.depot_feeds.proofs.FeedRecords.{taken_brings, chunk_brings}
 use Rattle.depot_model.proofs.JournalCallLaws.{never_stopped, runs_on}
 use Rattle.depot_feeds.proofs.LawfulCalls.{idle_on, joined_on, renamed_on}
@@ -25,9 +25,9 @@ module _ {N : Type 0} (g : Ghosts N) where
   pub nothing_fed : {X : Type 0} {result : Result X FeedError} → ((n : N) (file : List ℕ) → g.left_since n (g.moment n) file → g.may_leave n file) → ((n : N) → g.after n [] n)
       → (s : Feeding) (bytes : List ℕ) (n : N) → s.journal ≡ g.records n → IsLawful (g.stands n) (g.records n) → IsStable (journal_of g) n → (IsErrOf result error.Stopped ↔ (g.stopped n ≡ true)) → (IsErrOf result error.Disk → ⊥)
       → IsFeedCall g s bytes n n result
-  nothing_fed {result = result} only_now none s bytes n same lawful stable answered well =
+  nothing_fed only_now none s bytes n same lawful stable answered well =
       let brings = feed_grows (g.stands n) s bytes in
-      record { appends = brings.more; brings = brings.is ∙ ap (λ (J : List Record). J ++ brings.more) same; left = idle_on g only_now none (says_disk result) n brings.more lawful stable answered well }
+      record { appends = brings.more; brings = brings.is ∙ ap (λ (J : List Record). J ++ brings.more) same; left = idle_on g only_now none n brings.more lawful stable answered well }
 
   -- the bytes take one frame
   pub frame_fed : {X : Type 0} {result : Result X FeedError} → (s now : Feeding) (bytes : List ℕ) (count : ℕ) (f : Frame) (old new : N)
@@ -40,11 +40,11 @@ module _ {N : Type 0} (g : Ghosts N) where
   pub record IsLeftWith (old new : N) : Type 0 where
     pub more : List Record
     pub grown : g.records new ≡ g.records old ++ more
-    pub left : IsLawfulCall g old new more ⊥ ⊥ false
+    pub left : IsLawfulCall g old new more ⊥ ⊥
 
   pub none_left : ((n : N) (file : List ℕ) → g.left_since n (g.moment n) file → g.may_leave n file) → ((n : N) → g.after n [] n)
       → (n : N) → IsLawful (g.stands n) (g.records n) → IsStable (journal_of g) n → g.stopped n ≡ false → IsLeftWith n n
-  none_left only_now none n lawful stable runs = record { more = []; grown = sym (append-nil (g.records n)); left = idle_on g only_now none false n [] lawful stable (never_stopped (g.stopped n) runs (λ never. never)) (λ never. never) }
+  none_left only_now none n lawful stable runs = record { more = []; grown = sym (append-nil (g.records n)); left = idle_on g only_now none n [] lawful stable (never_stopped (g.stopped n) runs (λ never. never)) (λ never. never) }
 
   -- a node that was left so runs
   pub runs_left : (old new : N) → g.stopped old ≡ false → IsLeftWith old new → g.stopped new ≡ false
@@ -59,8 +59,8 @@ module _ {N : Type 0} (g : Ghosts N) where
         record {
           more = a ++ b;
           grown = grown ∙ call.brings ∙ ap (λ (K : List Record). K ++ b) so_far.grown ∙ append_assoc (g.records old) a b;
-          left = subst (λ (x : List Record). IsLawfulCall g old new x ⊥ ⊥ false) (append-nil (a ++ b))
-              (joined_on g join old mid new a b [] ran (λ f. f) so_far.grown so_far.left (renamed_on g mid new b (λ is. absurd cc, λ f. absurd f) (λ is. absurd cc, λ f. absurd f) refl call.left));
+          left = subst (λ (x : List Record). IsLawfulCall g old new x ⊥ ⊥) (append-nil (a ++ b))
+              (joined_on g join old mid new a b [] ran (λ f. f) so_far.grown so_far.left (renamed_on g mid new b (λ is. absurd cc, λ f. absurd f) (λ is. absurd cc, λ f. absurd f) call.left));
         }
 
     -- a chunk fails, and the bytes behind it bring nothing
@@ -76,5 +76,5 @@ module _ {N : Type 0} (g : Ghosts N) where
   all_fed s now bytes rest old new none u same l = record {
     appends = l.more;
     brings = ap (λ (b : List ℕ). (fed (g.stands old) s b).journal) (u.parts ∙ ap (λ (b : List ℕ). u.done ++ b) none ∙ append-nil u.done) ∙ ap (λ (x : Feeding). x.journal) u.is ∙ same ∙ l.grown;
-    left = renamed_on g old new l.more (λ f. absurd f, λ is. absurd cc) (λ f. absurd f, λ is. absurd cc) refl l.left;
+    left = renamed_on g old new l.more (λ f. absurd f, λ is. absurd cc) (λ f. absurd f, λ is. absurd cc) l.left;
   }

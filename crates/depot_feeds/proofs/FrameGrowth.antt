@@ -25,7 +25,7 @@ use Rattle.depot_laws.specs.Given.{HasText}
 use Rattle.depot_laws.proofs.Growing.{grown_is_lawful}
 use Rattle.depot_laws.proofs.LawfulFeeds.{given_has_text}
 use Rattle.depot_laws.proofs.TrueReceipts.{growth_puts_none, silent_is_true}
-use Rattle.depot_feeds.specs.NodeCalls.{Answers, as_feed_answer, frame_of, says_disk, IsFrameCall}
+use Rattle.depot_feeds.specs.NodeCalls.{AnswersForOutcome, as_feed_answer, frame_of, IsFrameCall}
 use Rattle.depot_feeds.specs.Lasting.{IsToAppend, LastsIn}
 use Rattle.depot_feeds.specs.Pieces.{brought_by}
 use Rattle.depot_feeds.specs.declared.feed_error.FeedError.TheVariants as error
@@ -65,13 +65,13 @@ frame_puts_none here J f = outcome_puts_none here J (given_by f)
 -- ---- it was appended, or a front of it
 
 -- what is appended where this is the outcome, and memory sufficed
-outcome_part : (o : Outcome) (J then : List Record) (r : Result Taken TakeError) → (IsErrOf r refused.Stopped → ⊥) → (IsErrOf r refused.Memory → ⊥) → Answers o J (as_feed_answer r) then → IsPart J (appended_by o) then (says_disk (as_feed_answer r))
-outcome_part o J then (Ok taken) runs room a = all_of J (appended_by o) then false (a.grown ∙ ap (λ (x : Outcome). J ++ appended_by x) (sym a.is))
-outcome_part o J then (Err (refused.Refused c)) runs room a = all_of J (appended_by o) then false (a.grown ∙ ap (λ (x : Outcome). J ++ appended_by x) (sym a.is))
+outcome_part : (o : Outcome) (J then : List Record) (r : Result Taken TakeError) → (IsErrOf r refused.Stopped → ⊥) → (IsErrOf r refused.Memory → ⊥) → AnswersForOutcome o J (as_feed_answer r) then → IsPart J (appended_by o) then (IsErrOf (as_feed_answer r) error.Disk)
+outcome_part o J then (Ok taken) runs room a = all_of J (appended_by o) then _ (a.grown ∙ ap (λ (x : Outcome). J ++ appended_by x) (sym a.is))
+outcome_part o J then (Err (refused.Refused c)) runs room a = all_of J (appended_by o) then _ (a.grown ∙ ap (λ (x : Outcome). J ++ appended_by x) (sym a.is))
 outcome_part o J then (Err refused.Memory) runs room a = absurd (room refl)
-outcome_part o J then (Err refused.Disk) runs room a = cut_of J (appended_by o) then (subst (λ (x : Outcome). IsCutShort J (appended_by x) then) (sym a.is) a.cut)
+outcome_part o J then (Err refused.Disk) runs room a = cut_of J (appended_by o) then _ refl (subst (λ (x : Outcome). IsCutShort J (appended_by x) then) (sym a.is) a.cut)
 outcome_part o J then (Err refused.Stopped) runs room a = absurd (runs refl)
-outcome_part o J then (Err (refused.Full what)) runs room a = all_of J (appended_by o) then false (a.1 ∙ sym (append-nil J) ∙ ap (λ (x : Outcome). J ++ appended_by x) (sym a.0))
+outcome_part o J then (Err (refused.Full what)) runs room a = all_of J (appended_by o) then _ (a.1 ∙ sym (append-nil J) ∙ ap (λ (x : Outcome). J ++ appended_by x) (sym a.0))
 
 -- ---- the three sorts of frames that are given
 
@@ -113,29 +113,29 @@ same_answer r = ((λ is. ap as_feed_answer is, disk r), (λ is. ap as_feed_answe
 
 module _ {N : Type 0} (g : Ghosts N) (f : Frame) (old new : N) (given : f.tag ≤ 3) (lawful : IsLawful (g.stands old) (g.records old)) (some : is_empty (g.records old) ≡ false) (bytes : IsBytes f.payload) where
   -- the frame was to bring what it brings, and memory sufficed
-  brought_in : (r : Result Taken TakeError) → (IsErrOf r refused.Stopped → ⊥) → Answers (take_frame (g.stands old) (g.records old) f) (g.records old) (as_feed_answer r) (g.records new) → (IsErrOf r refused.Memory → ⊥)
-      → Lasts (journal_of g) old new (brought_by (g.stands old) (g.records old) f) → LastsIn g (says_disk (as_feed_answer r)) old new
+  brought_in : (r : Result Taken TakeError) → (IsErrOf r refused.Stopped → ⊥) → AnswersForOutcome (take_frame (g.stands old) (g.records old) f) (g.records old) (as_feed_answer r) (g.records new) → (IsErrOf r refused.Memory → ⊥)
+      → Lasts (journal_of g) old new (brought_by (g.stands old) (g.records old) f) → LastsIn g (IsErrOf (as_feed_answer r) error.Disk) old new
   brought_in r runs answers room lasts = record {
     appends = brought_by (g.stands old) (g.records old) f;
-    is = subst (λ (x : List Record). IsToAppend (g.stands old) (g.records old) x (g.records new) (says_disk (as_feed_answer r))) (given_brings (g.stands old) (g.records old) f given)
-        (to_append (g.stands old) (g.records old) _ (g.records new) (says_disk (as_feed_answer r)) (frame_is_lawful (g.stands old) (g.records old) f lawful some bytes)
+    is = subst (λ (x : List Record). IsToAppend (g.stands old) (g.records old) x (g.records new) (IsErrOf (as_feed_answer r) error.Disk)) (given_brings (g.stands old) (g.records old) f given)
+        (to_append (g.stands old) (g.records old) _ (g.records new) (IsErrOf (as_feed_answer r) error.Disk) (frame_is_lawful (g.stands old) (g.records old) f lawful some bytes)
         (silent_is_true (g.records old) _ (frame_puts_none (g.stands old) (g.records old) f)) (outcome_part (take_frame (g.stands old) (g.records old) f) (g.records old) (g.records new) r runs room answers));
     lasts = lasts;
   }
 
   -- a frame was given: it was to bring what it brings, or, where memory was wanting, nothing
-  given_in : (r : Result Taken TakeError) → (IsErrOf r refused.Stopped → ⊥) → Answers (take_frame (g.stands old) (g.records old) f) (g.records old) (as_feed_answer r) (g.records new)
-      → Lasts (journal_of g) old new (brought_by (g.stands old) (g.records old) f) → (IsErrOf r refused.Memory → Lasts (journal_of g) old new []) → LastsIn g (says_disk (as_feed_answer r)) old new
+  given_in : (r : Result Taken TakeError) → (IsErrOf r refused.Stopped → ⊥) → AnswersForOutcome (take_frame (g.stands old) (g.records old) f) (g.records old) (as_feed_answer r) (g.records new)
+      → Lasts (journal_of g) old new (brought_by (g.stands old) (g.records old) f) → (IsErrOf r refused.Memory → Lasts (journal_of g) old new []) → LastsIn g (IsErrOf (as_feed_answer r) error.Disk) old new
   given_in (Ok taken) runs answers lasts idle = brought_in (Ok taken) runs answers (λ e. cc) lasts
   given_in (Err (refused.Refused c)) runs answers lasts idle = brought_in (Err (refused.Refused c)) runs answers (λ e. cc) lasts
-  given_in (Err refused.Memory) runs answers lasts idle = none_in g false old new lawful answers (idle refl)
+  given_in (Err refused.Memory) runs answers lasts idle = none_in g _ old new lawful answers (idle refl)
   given_in (Err refused.Disk) runs answers lasts idle = brought_in (Err refused.Disk) runs answers (λ e. cc) lasts
   given_in (Err refused.Stopped) runs answers lasts idle = absurd (runs refl)
   given_in (Err (refused.Full what)) runs answers lasts idle = brought_in (Err (refused.Full what)) runs answers (λ e. cc) lasts
 
   -- the node took what the frame gives
   pub given_call : (form : Form) (r : Result Taken TakeError) → g.stopped old ≡ false → growth_of_text (g.stands old) (g.records old) form f.payload ≡ brought_by (g.stands old) (g.records old) f
-      → Answers (take_frame (g.stands old) (g.records old) f) (g.records old) (as_feed_answer r) (g.records new) → IsTakeCall g form old new f.payload r → IsFrameCall g f old new (as_feed_answer r)
+      → AnswersForOutcome (take_frame (g.stands old) (g.records old) f) (g.records old) (as_feed_answer r) (g.records new) → IsTakeCall g form old new f.payload r → IsFrameCall g f old new (as_feed_answer r)
   given_call form r ran grows answers call =
       let to : IsJournalCall (journal_of g) old new (brought_by (g.stands old) (g.records old) f) (IsErrOf r refused.Stopped) (IsErrOf r refused.Disk) (IsErrOf r refused.Memory) =
       subst (λ (x : List Record). IsJournalCall (journal_of g) old new x (IsErrOf r refused.Stopped) (IsErrOf r refused.Disk) (IsErrOf r refused.Memory)) grows call.journal in

@@ -18,9 +18,9 @@ use Rattle.depot_feeds.specs.declared.feed_error.FeedError.{FeedError}
 use Rattle.depot_feeds.specs.declared.feed_error.FeedError.TheVariants as error
 use Rattle.depot_feeds.specs.declared.tally.Tally.{Tally}
 use Rattle.depot_feeds.specs.Pieces.{at_work}
-use Rattle.depot_feeds.specs.NodeCalls.{stream_by, as_feed_answer, frame_of, Answers, TakesFrame}
+use Rattle.depot_feeds.specs.NodeCalls.{stream_by, as_feed_answer, frame_of, AnswersForOutcome, TakesFrame}
 
-answers_told : (o : Outcome) (J : List Record) (r : Result Taken TakeError) (then : List Record) → Tells o J r then → Answers o J (as_feed_answer r) then
+answers_told : (o : Outcome) (J : List Record) (r : Result Taken TakeError) (then : List Record) → Tells o J r then → AnswersForOutcome o J (as_feed_answer r) then
 answers_told o J (Ok taken) then t = t
 answers_told o J (Err refused.Memory) then t = t
 answers_told o J (Err refused.Disk) then t = t
@@ -30,13 +30,13 @@ answers_told o J (Err (refused.Refused c)) then t = t
 
 -- ---- the three sorts of frames that are given
 
-pub proof_answers : (here : Setting) (J : List Record) (payload : List ℕ) (r : Result Taken TakeError) (then : List Record) → TakesProof here J payload r then → Answers (take_frame here J (frame_of tag.Proof payload)) J (as_feed_answer r) then
+pub proof_answers : (here : Setting) (J : List Record) (payload : List ℕ) (r : Result Taken TakeError) (then : List Record) → TakesProof here J payload r then → AnswersForOutcome (take_frame here J (frame_of tag.Proof payload)) J (as_feed_answer r) then
 proof_answers here J payload r then t = answers_told _ J r then (proof_frame_tells here J payload r then t)
 
-pub statement_answers : (here : Setting) (J : List Record) (payload : List ℕ) (r : Result Taken TakeError) (then : List Record) → TakesStatement here J payload r then → Answers (take_frame here J (frame_of tag.Statement payload)) J (as_feed_answer r) then
+pub statement_answers : (here : Setting) (J : List Record) (payload : List ℕ) (r : Result Taken TakeError) (then : List Record) → TakesStatement here J payload r then → AnswersForOutcome (take_frame here J (frame_of tag.Statement payload)) J (as_feed_answer r) then
 statement_answers here J payload r then t = answers_told _ J r then (statement_frame_tells here J payload r then t)
 
-pub value_answers : (here : Setting) (J : List Record) (payload : List ℕ) (r : Result Taken TakeError) (then : List Record) → TakesValue here J payload r then → Answers (take_frame here J (frame_of tag.Value payload)) J (as_feed_answer r) then
+pub value_answers : (here : Setting) (J : List Record) (payload : List ℕ) (r : Result Taken TakeError) (then : List Record) → TakesValue here J payload r then → AnswersForOutcome (take_frame here J (frame_of tag.Value payload)) J (as_feed_answer r) then
 value_answers here J payload r then t = answers_told _ J r then (value_frame_tells here J payload r then t)
 
 -- ---- a frame is counted
@@ -75,7 +75,7 @@ counted_is_fed here n f s now answer then le told is = is ∙ sym (given_is_fed 
 
 -- an error leaves the tally as it was
 pub error_leaves : (here : Setting) (n : ℕ) (f : Frame) (t after : Tally) (J then : List Record) (e : FeedError)
-    → f.tag ≤ 3 → stream_by after [] true ≡ stream_by t [] true → Answers (take_frame here J f) J (Err e) then → TakesFrame here n f t J (Err e) after then
+    → f.tag ≤ 3 → stream_by after [] true ≡ stream_by t [] true → AnswersForOutcome (take_frame here J f) J (Err e) then → TakesFrame here n f t J (Err e) after then
 error_leaves here n f t after J then error.Memory le same a = (same, a)
 error_leaves here n f t after J then error.Disk le same a = (same, a)
 error_leaves here n f t after J then error.Stopped le same a = (same, a)

@@ -12,7 +12,7 @@ use Rattle.depot_model.proofs.FeedLaws.{fed_in_pieces, frame_alike}
 use Rattle.depot_feeds.specs.declared.feed_error.FeedError.{FeedError}
 use Rattle.depot_feeds.specs.declared.feed_error.FeedError.TheVariants as error
 use Rattle.depot_feeds.specs.declared.tally.Tally.{Tally}
-use Rattle.depot_frames.specs.FrameHeads.{missing}
+use Rattle.depot_frames.specs.FrameHeads.{bytes_missing}
 use Rattle.depot_feeds.specs.Pieces.{Stream, stream_of, at_work, shut, AreOf, Feeds}
 use Rattle.depot_feeds.specs.NodeCalls.{stream_by, stream_after, TakesFrame}
 use Rattle.depot_feeds.proofs.ChunkLaws.{stays_open, chunk_is_fed, closed_before, over_is_fed}
@@ -107,7 +107,7 @@ unfolding fed
 chunk_is_dropped here t after begun c J then same is = record { front = []; rest = c; parts = refl; going = refl; stream = same; journal = is }
 
 -- the chunk leaves the frame open
-pub chunk_is_open : (here : Setting) (t : Tally) (begun c : List ℕ) (J : List Record) → is_over (at_work (stream_by t begun false) J) ≡ false → frame_at begun ≡ open_frame → 0 < length c → length c ≤ missing begun
+pub chunk_is_open : (here : Setting) (t : Tally) (begun c : List ℕ) (J : List Record) → is_over (at_work (stream_by t begun false) J) ≡ false → frame_at begun ≡ open_frame → 0 < length c → length c ≤ bytes_missing begun
     → frame_at (begun ++ c) ≡ open_frame → Feeds here (at_work (stream_by t begun false) J) c (Ok tt) (stream_by t (begun ++ c) false) J
 chunk_is_open here t begun c J on told some le at =
     let s = at_work (stream_by t begun false) J in
@@ -115,7 +115,7 @@ chunk_is_open here t begun c J on told some le at =
     (ap (λ (r : Feeding). r.closed) is, record { stream = sym (ap (λ (r : Feeding). stream_of r) is); journal = sym (ap (λ (r : Feeding). r.journal) is) })
 
 -- no frame begins so
-pub chunk_is_ill : (here : Setting) (t : Tally) (begun c : List ℕ) (J : List Record) → is_over (at_work (stream_by t begun false) J) ≡ false → frame_at begun ≡ open_frame → 0 < length c → length c ≤ missing begun
+pub chunk_is_ill : (here : Setting) (t : Tally) (begun c : List ℕ) (J : List Record) → is_over (at_work (stream_by t begun false) J) ≡ false → frame_at begun ≡ open_frame → 0 < length c → length c ≤ bytes_missing begun
     → frame_at (begun ++ c) ≡ no_frame → Feeds here (at_work (stream_by t begun false) J) c (Err (error.IllFormed t.start)) (stream_by t [] true) J
 chunk_is_ill here t begun c J on told some le at =
     let s = at_work (stream_by t begun false) J in
@@ -136,19 +136,19 @@ split_last (x ∷ []) some = record { front = []; byte = x; parts = refl }
 split_last (x ∷ y ∷ c) some = let s = split_last (y ∷ c) (omega arith) in record { front = x ∷ s.front; byte = s.byte; parts = ap (λ (t : List ℕ). x ∷ t) s.parts }
 
 -- fewer bytes than are missing leave a frame open
-pub front_is_open : (p c : List ℕ) → frame_at p ≡ open_frame → length c < missing p → frame_at (p ++ c) ≡ open_frame
+pub front_is_open : (p c : List ℕ) → frame_at p ≡ open_frame → length c < bytes_missing p → frame_at (p ++ c) ≡ open_frame
 front_is_open p [] told lt = ap frame_at (append-nil p) ∙ told
 front_is_open p (x ∷ c) told lt =
     let o = stays_open p x told (omega (arith, lt)) in
     ap frame_at (sym (append_assoc p (x ∷ []) c)) ∙ front_is_open (p ++ x ∷ []) c o.told (omega (arith, lt, o.left))
 
-front_is_fed : (here : Setting) (s : Feeding) (c : List ℕ) → is_some s.closed ≡ false → is_over s ≡ false → frame_at s.begun ≡ open_frame → length c < missing s.begun → fed here s c ≡ record s { begun = s.begun ++ c }
+front_is_fed : (here : Setting) (s : Feeding) (c : List ℕ) → is_some s.closed ≡ false → is_over s ≡ false → frame_at s.begun ≡ open_frame → length c < bytes_missing s.begun → fed here s c ≡ record s { begun = s.begun ++ c }
 unfolding fed
 front_is_fed here s [] going on told lt = ap (λ (t : List ℕ). record s { begun = t }) (sym (append-nil s.begun))
 front_is_fed here s (x ∷ c) going on told lt = chunk_is_fed here s (x ∷ c) going on told (omega arith) (omega (arith, lt)) ∙ ap (fed_at here s (s.begun ++ x ∷ c)) (front_is_open s.begun (x ∷ c) told lt)
 
 -- the chunk whose last byte makes a whole frame takes that frame
-pub frame_is_fed : (here : Setting) (t : Tally) (begun c : List ℕ) (J : List Record) (f : Frame) → is_over (at_work (stream_by t begun false) J) ≡ false → frame_at begun ≡ open_frame → 0 < length c → length c ≤ missing begun
+pub frame_is_fed : (here : Setting) (t : Tally) (begun c : List ℕ) (J : List Record) (f : Frame) → is_over (at_work (stream_by t begun false) J) ≡ false → frame_at begun ≡ open_frame → 0 < length c → length c ≤ bytes_missing begun
     → frame_at (begun ++ c) ≡ whole_frame f → fed here (at_work (stream_by t begun false) J) c ≡ fed_frame here (length (begun ++ c)) f (at_work (stream_by t [] false) J)
 frame_is_fed here t begun c J f on told some le at =
     chunk_is_fed here (at_work (stream_by t begun false) J) c refl on told some le
@@ -157,7 +157,7 @@ frame_is_fed here t begun c J f on told some le at =
 
 -- what becomes of the chunk whose last byte makes a whole frame
 pub chunk_is_taken : (here : Setting) (t after : Tally) (begun c : List ℕ) (J then : List Record) (f : Frame) (r : Result (Unit {0}) FeedError)
-    → is_over (at_work (stream_by t begun false) J) ≡ false → frame_at begun ≡ open_frame → 0 < length c → length c ≤ missing begun
+    → is_over (at_work (stream_by t begun false) J) ≡ false → frame_at begun ≡ open_frame → 0 < length c → length c ≤ bytes_missing begun
     → frame_at (begun ++ c) ≡ whole_frame f → TakesFrame here (length (begun ++ c)) f t J r after then
     → Feeds here (at_work (stream_by t begun false) J) c r (stream_after r after []) then
 chunk_is_taken here t after begun c J then f (Ok done) on told some le at k =
@@ -167,7 +167,7 @@ chunk_is_taken here t after begun c J then f (Err error.Memory) on told some le 
 chunk_is_taken here t after begun c J then f (Err error.Disk) on told some le at k =
     let l = split_last c some in
     let s = at_work (stream_by t begun false) J in
-    let shorter : length l.front < missing begun = omega (arith, le, ap length l.parts, length-append l.front (l.byte ∷ [])) in
+    let shorter : length l.front < bytes_missing begun = omega (arith, le, ap length l.parts, length-append l.front (l.byte ∷ [])) in
     let is : fed here s l.front ≡ record s { begun = begun ++ l.front } = front_is_fed here s l.front refl on told shorter in
     let moved : (P : Feeding → Type 0) → P (record s { begun = begun ++ l.front }) → P (fed here s l.front) = λ P p. subst P (sym is) p in
     record {

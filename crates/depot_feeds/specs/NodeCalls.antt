@@ -42,13 +42,6 @@ pub record IsTally (t : Tally) : Type 0 where
   pub counted : t.accepted + t.known ≤ t.frames
   pub behind : t.start ≤ t.frames * most_frame
 
--- ---- an error
-
--- the answer says that the disk failed
-abbrev pub says_disk : {X : Type 0} → Result X FeedError → Bool
-says_disk (Err error.Disk) = true
-says_disk other = false
-
 -- ---- an answer
 
 -- what a feed makes of an answer: one that is counted, or an error that closes it
@@ -61,13 +54,13 @@ as_feed_answer (Err refused.Stopped) = Err error.Stopped
 as_feed_answer (Err (refused.Full what)) = Err (error.Full what)
 
 -- what a call answers where this is the outcome
-abbrev pub Answers : Outcome → List Record → Result (Result Taken Check) FeedError → List Record → Type 0
-Answers o J (Ok answer) then = IsTold o J answer then
-Answers o J (Err error.Memory) then = then ≡ J
-Answers o J (Err error.Disk) then = IsBrokenOff o J then
-Answers o J (Err error.Stopped) then = then ≡ J
-Answers o J (Err (error.Full what)) then = (o ≡ no_room what) × (then ≡ J)
-Answers o J (Err (error.IllFormed at)) then = ⊥
+abbrev pub AnswersForOutcome : Outcome → List Record → Result (Result Taken Check) FeedError → List Record → Type 0
+AnswersForOutcome o J (Ok answer) then = IsTold o J answer then
+AnswersForOutcome o J (Err error.Memory) then = then ≡ J
+AnswersForOutcome o J (Err error.Disk) then = IsBrokenOff o J then
+AnswersForOutcome o J (Err error.Stopped) then = then ≡ J
+AnswersForOutcome o J (Err (error.Full what)) then = (o ≡ no_room what) × (then ≡ J)
+AnswersForOutcome o J (Err (error.IllFormed at)) then = ⊥
 
 -- ---- a frame
 
@@ -90,11 +83,11 @@ frame_of tag payload = record { tag = frame_byte tag; payload = payload }
 abbrev pub IsFrameCall : {N X : Type 0} → Ghosts N → Frame → N → N → Result X FeedError → Type 0
 IsFrameCall g f old new result =
     IsLawfulCall g old new (brought_by (g.stands old) (g.records old) f)
-    (IsErrOf result error.Stopped) (IsErrOf result error.Disk) (says_disk result)
+    (IsErrOf result error.Stopped) (IsErrOf result error.Disk)
 
 -- What a call that feeds bytes to a feed at work leaves of a node: it was to append all the records that the bytes bring where nothing
 -- fails.
 pub record IsFeedCall {N X : Type 0} (g : Ghosts N) (s : Feeding) (bytes : List ℕ) (old new : N) (result : Result X FeedError) : Type 0 where
   pub appends : List Record
   pub brings : (fed (g.stands old) s bytes).journal ≡ g.records old ++ appends
-  pub left : IsLawfulCall g old new appends (IsErrOf result error.Stopped) (IsErrOf result error.Disk) (says_disk result)
+  pub left : IsLawfulCall g old new appends (IsErrOf result error.Stopped) (IsErrOf result error.Disk)

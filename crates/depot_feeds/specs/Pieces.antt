@@ -47,8 +47,8 @@ abbrev pub shut : Stream → Stream
 shut s = record s { begun = []; closed = true }
 
 -- what became of the frames of a stream
-abbrev pub told_of : Stream → Report
-told_of s = record { accepted = s.accepted; known = s.known; refused = s.refused; ending = if s.closed then ending.Closed else ending_by s.ended s.begun }
+abbrev pub report_of_stream : Stream → Report
+report_of_stream s = record { accepted = s.accepted; known = s.known; refused = s.refused; ending = if s.closed then ending.Closed else ending_by s.ended s.begun }
 
 -- ---- a piece
 

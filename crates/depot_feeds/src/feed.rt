@@ -4,15 +4,15 @@ ghost use Rattle.depot_base.specs.declared.limits.TheConstants.{MOST_PAYLOAD};
 ghost use Rattle.depot_model.specs.Frames.{frame_at, open_frame};
 ghost use Rattle.depot_model.specs.JournalCalls.{IsStable};
 ghost use Rattle.depot_model.specs.Replicas.{journal_of};
-ghost use Rattle.depot_frames.specs.FrameHeads.{missing};
-ghost use Rattle.depot_feeds.specs.Pieces.{Feeds, at_work, no_stream, told_of};
+ghost use Rattle.depot_frames.specs.FrameHeads.{bytes_missing};
+ghost use Rattle.depot_feeds.specs.Pieces.{Feeds, at_work, no_stream, report_of_stream};
 ghost use Rattle.depot_feeds.specs.NodeCalls.{feeding_by, stream_by, stream_after, IsTally, IsFeedCall};
 
 use crate::feed_error::FeedError;
 use crate::tally::Tally;
 use depot_base::Memory;
 use depot_base::limits::MOST_PAYLOAD;
-use depot_frames::{Standing, missing, stands};
+use depot_frames::{FrameStart, frame_start, missing};
 use depot_model::{Ending, Refusals, Replica, Report};
 use std::alloc::Global;
 use std::marker::Model;
@@ -52,7 +52,7 @@ fn feed_chunk<R: Replica>(
     requires tally { IsTally tally.old }
     requires begun { frame_at begun.old.items ≡ open_frame }
     requires some { 0 < length chunk.now }
-    requires short { length chunk.now ≤ missing begun.old.items }
+    requires short { length chunk.now ≤ bytes_missing begun.old.items }
     requires running { R.stopped node.old ≡ false }
     requires stable { IsStable (journal_of R.NodeState) node.old }
     ensures feeds { Feeds (R.stands node.old) (feeding_by tally.old begun.old.items (R.records node.old)) chunk.now result (stream_after result tally.new begun.new.items) (R.records node.new) }
@@ -65,10 +65,10 @@ fn feed_chunk<R: Replica>(
     }
     begun.extend_from_slice(chunk)?;
     let frame = begun.as_slice();
-    match stands(frame) {
-        Standing::Open => return Ok(()),
-        Standing::Nothing => return Err(FeedError::IllFormed(tally.start)),
-        Standing::Whole { tag, payload } => tally.take(node, tag, payload, frame.len())?,
+    match frame_start(frame) {
+        FrameStart::Open => return Ok(()),
+        FrameStart::Nothing => return Err(FeedError::IllFormed(tally.start)),
+        FrameStart::Whole { tag, payload } => tally.take(node, tag, payload, frame.len())?,
     }
     begun.clear();
     Ok(())
@@ -153,7 +153,7 @@ impl Feed {
 
     /// What became of the frames of the stream. It takes no memory.
     pub fn end(self) -> Report
-        ensures { result ≡ told_of self }
+        ensures { result ≡ report_of_stream self }
     {
         let ending = if self.closed {
             Ending::Closed

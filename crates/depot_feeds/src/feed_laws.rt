@@ -4,7 +4,7 @@ ghost use Rattle.depot_base.specs.declared.record.Record.{Record};
 ghost use Rattle.depot_model.specs.Checks.{Setting};
 ghost use Rattle.depot_model.specs.Feeding.{Feeding, report_of};
 ghost use Rattle.depot_feeds.specs.declared.feed_error.FeedError.{FeedError};
-ghost use Rattle.depot_feeds.specs.Pieces.{Stream, Feeds, FeedsBoth, stream_of, at_work, told_of};
+ghost use Rattle.depot_feeds.specs.Pieces.{Stream, Feeds, FeedsBoth, stream_of, at_work, report_of_stream};
 
 /// Two pieces, one after the other and with nothing between, make of a stream and a journal what both together would, whatever the
 /// second is answered but Stopped: so it doesn't matter how a stream was cut.
@@ -15,6 +15,6 @@ pub fn pieces_are_one()
 /// What a feed keeps is enough: it tells the report of the feed at work, and with the journal of its node it is the feed at work, as
 /// long as that isn't closed.
 pub fn streams_tell_all()
-    ensures report { (s : Feeding) → told_of (stream_of s) ≡ report_of s }
+    ensures report { (s : Feeding) → report_of_stream (stream_of s) ≡ report_of s }
     ensures whole { (s : Feeding) → s.closed ≡ None → at_work (stream_of s) s.journal ≡ s }
 {}

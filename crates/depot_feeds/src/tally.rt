@@ -8,7 +8,7 @@ ghost use Rattle.depot_model.specs.JournalCalls.{IsStable};
 ghost use Rattle.depot_model.specs.Replicas.{journal_of};
 ghost use Rattle.depot_frames.specs.FrameHeads.{most_frame};
 ghost use Rattle.depot_feeds.specs.Pieces.{at_work, no_stream};
-ghost use Rattle.depot_feeds.specs.NodeCalls.{stream_by, IsTally, as_feed_answer, frame_of, Answers, TakesFrame, IsFrameCall};
+ghost use Rattle.depot_feeds.specs.NodeCalls.{stream_by, IsTally, as_feed_answer, frame_of, AnswersForOutcome, TakesFrame, IsFrameCall};
 
 use crate::feed_error::FeedError;
 use depot_base::limits::MOST_FRAMES;
@@ -56,7 +56,7 @@ fn give<R: Replica>(
     requires tag { tag ≢ FrameTag.End }
     requires running { R.stopped node.old ≡ false }
     requires stable { IsStable (journal_of R.NodeState) node.old }
-    ensures answers { Answers (take_frame (R.stands node.old) (R.records node.old) (frame_of tag payload.now)) (R.records node.old) result (R.records node.new) }
+    ensures answers { AnswersForOutcome (take_frame (R.stands node.old) (R.records node.old) (frame_of tag payload.now)) (R.records node.old) result (R.records node.new) }
     ensures call { IsFrameCall R.NodeState (frame_of tag payload.now) node.old node.new result }
 {
     match tag {

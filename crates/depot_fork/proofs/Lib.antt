@@ -1,4 +1,5 @@
 pub mod KindLaws
+pub mod SettledLaws
 pub mod HeadLaws
 pub mod LinkLaws
 pub mod MarkLaws

@@ -8,15 +8,15 @@ use Rattle.std.proofs.lemmas.Bool.Decides.{nat_tests}
 use Rattle.std.proofs.lemmas.Slice.Eq.{bytes_eq-Decides}
 use Rattle.depot_model.proofs.Elements.{get_front}
 use Rattle.depot_base.proofs.GeneralLaws.{get_last}
-use Rattle.depot_fork.specs.declared.marks.Mark.{Mark}
-use Rattle.depot_fork.specs.declared.marks.Mark.TheVariants as marks
+use Rattle.depot_fork.specs.declared.marks.StatementMark.{StatementMark}
+use Rattle.depot_fork.specs.declared.marks.StatementMark.TheVariants as marks
 use Rattle.depot_fork.specs.declared.table.Link.{Link}
-use Rattle.depot_fork.specs.Links.{same_mark, LeadsBelow, LeadBack, AreLinked, IsLinkedFrom, is_link, with_place, places_from}
+use Rattle.depot_fork.specs.Links.{same_mark, LeadsBelow, LeadBack, AreLinked, IsLinkedFrom, is_link, link_places, places_from}
 
 -- ---- marks
 
 -- marks that are found equal are one
-pub one_mark : (m k : Mark) → same_mark m k ≡ true → m ≡ k
+pub one_mark : (m k : StatementMark) → same_mark m k ≡ true → m ≡ k
 one_mark (marks.Number w n) (marks.Number v l) e =
     let parts = and_parts (eqb w v) (eqb n l) e in
     let writers : w ≡ v = eqb-true w v parts.0 in
@@ -104,7 +104,7 @@ below_or_last : (i n : ℕ) → i < suc n → (i < n) ⊎ (i ≡ n)
 below_or_last i n low = grind arith
 
 -- by what the links behind give
-with_same : (o : Option Link) (f g : Option ℕ → List ℕ) → ((x : Option ℕ) → f x ≡ g x) → with_place o f ≡ with_place o g
+with_same : (o : Option Link) (f g : Option ℕ → List ℕ) → ((x : Option ℕ) → f x ≡ g x) → link_places o f ≡ link_places o g
 with_same None f g same = refl
 with_same (Some l) f g same = ap (λ (ps : List ℕ). l.place ∷ ps) (same l.before)
 
@@ -115,10 +115,10 @@ from_pushed links l zero low link = refl
 from_pushed links l (suc n) low link = by_test (is_link n link) (from_pushed links l n (omega arith))
   where
     by_test : (b : Bool) → ((x : Option ℕ) → places_from (links ++ l ∷ []) n x ≡ places_from links n x) →
-        cond b (with_place (slice_get (links ++ l ∷ []) n) (places_from (links ++ l ∷ []) n)) (places_from (links ++ l ∷ []) n link)
-        ≡ cond b (with_place (slice_get links n) (places_from links n)) (places_from links n link)
+        cond b (link_places (slice_get (links ++ l ∷ []) n) (places_from (links ++ l ∷ []) n)) (places_from (links ++ l ∷ []) n link)
+        ≡ cond b (link_places (slice_get links n) (places_from links n)) (places_from links n link)
     by_test true below =
-        ap (λ (o : Option Link). with_place o (places_from (links ++ l ∷ []) n)) (get_front links (l ∷ []) n (omega arith))
+        ap (λ (o : Option Link). link_places o (places_from (links ++ l ∷ []) n)) (get_front links (l ∷ []) n (omega arith))
         ∙ with_same (slice_get links n) (places_from (links ++ l ∷ []) n) (places_from links n) below
     by_test false below = below link
 
@@ -135,11 +135,11 @@ one_longer : (links : List Link) (l : Link) → length (links ++ l ∷ []) ≡ s
 one_longer links l = simp length-append (omega arith)
 
 -- a link becomes the newest of a mark, and the others stay
-abbrev Puts : (Mark → Option ℕ) → (Mark → Option ℕ) → Mark → ℕ → Type 0
-Puts newest new mark n = (other : Mark) → new other ≡ (if same_mark mark other then Some n else newest other)
+abbrev Puts : (StatementMark → Option ℕ) → (StatementMark → Option ℕ) → StatementMark → ℕ → Type 0
+Puts newest new mark n = (other : StatementMark) → new other ≡ (if same_mark mark other then Some n else newest other)
 
 -- what is listed after one more under a mark
-pub listed_more : (newest new : Mark → Option ℕ) (links : List Link) (mark : Mark) (l : Link) → AreLinked newest links → l.before ≡ newest mark → Puts newest new mark (length links) → (other : Mark) →
+pub listed_more : (newest new : StatementMark → Option ℕ) (links : List Link) (mark : StatementMark) (l : Link) → AreLinked newest links → l.before ≡ newest mark → Puts newest new mark (length links) → (other : StatementMark) →
     places_from (links ++ l ∷ []) (length (links ++ l ∷ [])) (new other)
     ≡ (if same_mark mark other then l.place ∷ places_from links (length links) (newest other) else places_from links (length links) (newest other))
 listed_more newest new links mark l linked before updates other =
@@ -157,14 +157,14 @@ listed_more newest new links mark l linked before updates other =
     by_test false e = from_old links l (newest other) (linked.heads other)
 
 -- the links are in order after one more
-pub linked_more : (newest new : Mark → Option ℕ) (links : List Link) (mark : Mark) (l : Link) → AreLinked newest links → l.before ≡ newest mark → Puts newest new mark (length links) → AreLinked new (links ++ l ∷ [])
+pub linked_more : (newest new : StatementMark → Option ℕ) (links : List Link) (mark : StatementMark) (l : Link) → AreLinked newest links → l.before ≡ newest mark → Puts newest new mark (length links) → AreLinked new (links ++ l ∷ [])
 linked_more newest new links mark l linked before updates = record { heads = heads; back = back }
   where
     by_test : (b : Bool) (old : Option ℕ) → LeadsBelow (length links) old → LeadsBelow (suc (length links)) (cond b (Some (length links)) old)
     by_test true old low = itself_below (length links)
     by_test false old low = λ i e. let less : i < length links = low i e in omega arith
 
-    heads : (other : Mark) → LeadsBelow (length (links ++ l ∷ [])) (new other)
+    heads : (other : StatementMark) → LeadsBelow (length (links ++ l ∷ [])) (new other)
     heads = λ other.
         let P : ℕ → Type 0 = λ (n : ℕ). LeadsBelow n (new other) in
         subst P (sym (one_longer links l)) (subst (LeadsBelow (suc (length links))) (sym (updates other)) (by_test (same_mark mark other) (newest other) (linked.heads other)))
@@ -180,26 +180,26 @@ linked_more newest new links mark l linked before updates = record { heads = hea
     back = λ i k at. let within : i < length (links ++ l ∷ []) = slice_get_within (links ++ l ∷ []) i k at in let size = one_longer links l in by_place i k at (below_or_last i (length links) (omega arith))
 
 -- the newest link of a mark is the one that was pushed
-pub points_to : (newest new : Mark → Option ℕ) (mark : Mark) (place : ℕ) (links : List Link) → place ≡ length links → Puts newest new mark place → Puts newest new mark (length links)
+pub points_to : (newest new : StatementMark → Option ℕ) (mark : StatementMark) (place : ℕ) (links : List Link) → place ≡ length links → Puts newest new mark place → Puts newest new mark (length links)
 points_to newest new mark place links same puts = subst (λ (n : ℕ). Puts newest new mark n) same puts
 
 -- ---- the same entries and links
 
 -- list the same places
-pub listed_same : (newest new : Mark → Option ℕ) (links more : List Link) → ((mark : Mark) → new mark ≡ newest mark) → more ≡ links → (mark : Mark) → places_from more (length more) (new mark) ≡ places_from links (length links) (newest mark)
+pub listed_same : (newest new : StatementMark → Option ℕ) (links more : List Link) → ((mark : StatementMark) → new mark ≡ newest mark) → more ≡ links → (mark : StatementMark) → places_from more (length more) (new mark) ≡ places_from links (length links) (newest mark)
 listed_same newest new links more same also mark = rw (same mark, also) refl
 
 -- are in order
-pub linked_same : (newest new : Mark → Option ℕ) (links more : List Link) → AreLinked newest links → ((mark : Mark) → new mark ≡ newest mark) → more ≡ links → AreLinked new more
+pub linked_same : (newest new : StatementMark → Option ℕ) (links more : List Link) → AreLinked newest links → ((mark : StatementMark) → new mark ≡ newest mark) → more ≡ links → AreLinked new more
 linked_same newest new links more linked same also = rw also (record { heads = λ mark. rw (same mark) (linked.heads mark); back = linked.back })
 
 -- none are listed where there is no link
-pub none_listed : (newest : Mark → Option ℕ) (links : List Link) → ((mark : Mark) → newest mark ≡ None) → links ≡ [] → (mark : Mark) → places_from links (length links) (newest mark) ≡ []
+pub none_listed : (newest : StatementMark → Option ℕ) (links : List Link) → ((mark : StatementMark) → newest mark ≡ None) → links ≡ [] → (mark : StatementMark) → places_from links (length links) (newest mark) ≡ []
 unfolding places_from
 none_listed newest links empty none mark = rw none refl
 
 -- nothing is in order
-pub none_linked : (newest : Mark → Option ℕ) (links : List Link) → ((mark : Mark) → newest mark ≡ None) → links ≡ [] → AreLinked newest links
+pub none_linked : (newest : StatementMark → Option ℕ) (links : List Link) → ((mark : StatementMark) → newest mark ≡ None) → links ≡ [] → AreLinked newest links
 none_linked newest links empty none = rw none (record { heads = λ mark. rw (empty mark) (λ i e. absurd cc); back = λ i l at. absurd cc })
 
 pub ruleset link_laws = (listed_same, linked_same, none_listed, none_linked)

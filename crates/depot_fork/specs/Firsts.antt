@@ -5,17 +5,17 @@ use Rattle.depot_base.specs.declared.statement.Statement.{Statement}
 use Rattle.depot_model.specs.Lists.{IsIn}
 use Rattle.depot_model.specs.Contradictions.{kind_of}
 use Rattle.depot_fork.specs.declared.Found.{Found}
-use Rattle.depot_fork.specs.declared.kept_entry.Entry.{Entry}
+use Rattle.depot_fork.specs.declared.kept_entry.KeptEntry.{KeptEntry}
 
 -- that of the two which was kept first
-abbrev pub earlier_of : Option Found → Option Found → Option Found
-earlier_of None b = b
-earlier_of (Some x) None = Some x
-earlier_of (Some x) (Some y) = if nat_lt y.index x.index then Some y else Some x
+abbrev pub kept_first : Option Found → Option Found → Option Found
+kept_first None b = b
+kept_first (Some x) None = Some x
+kept_first (Some x) (Some y) = if nat_lt y.index x.index then Some y else Some x
 
 -- the entry at the place that was found contradicts the statement in that kind
-pub record IsAt (es : List Entry) (s : Statement) (found : Found) : Type 0 where
-  pub entry : Entry
+pub record IsContradictedAt (es : List KeptEntry) (s : Statement) (found : Found) : Type 0 where
+  pub entry : KeptEntry
   pub at : slice_get es found.index ≡ Some entry
   pub kind : kind_of entry.signed.statement s ≡ Some found.kind
 
@@ -25,6 +25,6 @@ IsBefore place None = Unit {0}
 IsBefore place (Some found) = place < found.index
 
 -- What was found contradicts the statement, and no entry at one of these places before it does.
-pub record IsFirstOf (es : List Entry) (places : List ℕ) (s : Statement) (found : Option Found) : Type 0 where
-  pub here : (f : Found) → found ≡ Some f → IsAt es s f
-  pub before : (place : ℕ) (e : Entry) → IsIn place places → IsBefore place found → slice_get es place ≡ Some e → kind_of e.signed.statement s ≡ None
+pub record IsFirstOf (es : List KeptEntry) (places : List ℕ) (s : Statement) (found : Option Found) : Type 0 where
+  pub here : (f : Found) → found ≡ Some f → IsContradictedAt es s f
+  pub before : (place : ℕ) (e : KeptEntry) → IsIn place places → IsBefore place found → slice_get es place ≡ Some e → kind_of e.signed.statement s ≡ None

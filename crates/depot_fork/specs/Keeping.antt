@@ -1,20 +1,20 @@
 -- What is kept beside the signed statements.
-use Rattle.std.specs.Prelude.{◌≡◌, ℕ, ◌+◌, List, [], ◌∷◌, Bool, if◌then◌else◌}
+use Rattle.std.specs.Prelude.{◌≡◌, ◌≤◌, ℕ, ◌+◌, ◌*◌, List, [], ◌∷◌, length, Bool, if◌then◌else◌}
 use Rattle.std.specs.List.{AllByRecursion}
-use Rattle.depot_fork.specs.declared.kept_entry.Entry.{Entry}
-use Rattle.depot_fork.specs.declared.marks.Mark.{Mark}
-use Rattle.depot_fork.specs.declared.table.Table.{Table}
+use Rattle.depot_fork.specs.declared.kept_entry.KeptEntry.{KeptEntry}
+use Rattle.depot_fork.specs.declared.marks.StatementMark.{StatementMark}
+use Rattle.depot_fork.specs.declared.table.PlaceTable.{PlaceTable}
 use Rattle.depot_fork.specs.StatementMarks.{has_mark}
-use Rattle.depot_fork.specs.Table.{listed}
+use Rattle.depot_fork.specs.Table.{link_count, places_with_mark}
 use Rattle.depot_model.specs.Texts.{IsSigned, id_of_statement}
 
 -- the id is that of the statement, whose text is the body
-pub record IsEntry (e : Entry) : Type 0 where
+pub record IsEntry (e : KeptEntry) : Type 0 where
   pub signed : IsSigned e.signed
   pub id : e.id ≡ id_of_statement e.signed.statement
 
 -- of each, the same
-abbrev pub AreEntries : List Entry → Type 0
+abbrev pub AreEntries : List KeptEntry → Type 0
 AreEntries es = AllByRecursion IsEntry es
 
 -- the places, from this one on, of those that pass a test, the newest first, before some that are there
@@ -23,14 +23,15 @@ places_before test place [] there = there
 places_before test place (x ∷ xs) there = places_before test (place + 1) xs (if test x then place ∷ there else there)
 
 -- whether an entry has a mark
-abbrev pub is_under : Mark → Entry → Bool
+abbrev pub is_under : StatementMark → KeptEntry → Bool
 is_under mark e = has_mark e.signed.statement e.id mark
 
 -- the places of the entries that have a mark, the newest first
-unfoldable pub places_under : Mark → List Entry → List ℕ
+unfoldable pub places_under : StatementMark → List KeptEntry → List ℕ
 places_under mark es = places_before (is_under mark) 0 es []
 
 -- Just the places of the entries with a mark are listed under it, so that going through them costs no more than they do.
-pub record IsKeeping (es : List Entry) (table : Table) : Type 0 where
+pub record IsKeeping (es : List KeptEntry) (table : PlaceTable) : Type 0 where
   pub entries : AreEntries es
-  pub listed : (mark : Mark) → listed table mark ≡ places_under mark es
+  pub listed : (mark : StatementMark) → places_with_mark table mark ≡ places_under mark es
+  pub few : link_count table ≤ 3 * length es

@@ -4,6 +4,7 @@ pub mod Links
 pub mod Table
 pub mod PlacesLeft
 pub mod StatementMarks
+pub mod Settled
 pub mod Heads
 pub mod Keeping
 pub mod Firsts

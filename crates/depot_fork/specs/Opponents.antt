@@ -9,7 +9,7 @@ use Rattle.depot_model.specs.Contradictions.{kind_of}
 use Rattle.depot_model.specs.Checks.{opponent}
 
 -- what is seen: the signed statements in the order in which they were kept, and how many more have their memory
-pub record Kept : Type 0 where
+pub record KeptSigned : Type 0 where
   pub kept : List Signed
   pub room : ℕ
 

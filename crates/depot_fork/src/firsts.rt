@@ -2,27 +2,27 @@
 ghost use Rattle.std.specs.Prelude.{◌≡◌, ◌<◌, [], ◌∷◌, length};
 ghost use Rattle.depot_model.specs.Texts.{IsStatement, id_of_statement};
 ghost use Rattle.depot_fork.specs.Keeping.{IsKeeping, AreEntries};
-ghost use Rattle.depot_fork.specs.Firsts.{IsFirstOf, earlier_of};
-ghost use Rattle.depot_fork.specs.Table.{listed};
+ghost use Rattle.depot_fork.specs.Firsts.{IsFirstOf, kept_first};
+ghost use Rattle.depot_fork.specs.Table.{places_with_mark};
 
 use crate::Found;
-use crate::kept_entry::Entry;
-use crate::marks::Mark;
-use crate::table::Table;
+use crate::kept_entry::KeptEntry;
+use crate::marks::StatementMark;
+use crate::table::PlaceTable;
 use depot_base::{Hash32, Statement};
 
 /// The first of those under a mark.
 pub(crate) fn first_under(
-    mark: &Mark,
-    entries: &[Entry],
-    table: &Table,
+    mark: &StatementMark,
+    entries: &[KeptEntry],
+    table: &PlaceTable,
     statement: &Statement,
     id: &Hash32,
 ) -> Option<Found>
     requires keeping { IsKeeping entries.now table.now }
     requires text { IsStatement statement.now }
     requires id { id.now ≡ id_of_statement statement.now }
-    ensures { IsFirstOf entries.now (listed table.now mark.now) statement.now result }
+    ensures { IsFirstOf entries.now (places_with_mark table.now mark.now) statement.now result }
 {
     let mut first = None;
     for place in table.places(mark) {
@@ -34,7 +34,7 @@ pub(crate) fn first_under(
 /// The one at a place.
 fn contradiction_at(
     place: u32,
-    entries: &[Entry],
+    entries: &[KeptEntry],
     statement: &Statement,
     id: &Hash32,
 ) -> Option<Found>
@@ -50,7 +50,7 @@ fn contradiction_at(
 
 /// That of the two which was kept first.
 pub(crate) fn earlier(a: Option<Found>, b: Option<Found>) -> Option<Found>
-    ensures { result ≡ earlier_of a b }
+    ensures { result ≡ kept_first a b }
 {
     match (a, b) {
         (None, _) => b,

@@ -1,14 +1,14 @@
 //! The newest link of each mark.
 ghost use Rattle.std.specs.Prelude.{◌≡◌, ℕ, ◌<◌, ◌≤◌, ◌+◌, Some, None, IsOk, OnOk, OnErr, if◌then◌else◌};
-ghost use Rattle.std.specs.BTreeMap.{get};
-ghost use Rattle.depot_fork.specs.declared.marks.Mark.{Mark};
+ghost use Rattle.depot_fork.specs.declared.marks.StatementMark.{StatementMark};
 ghost use Rattle.depot_fork.specs.Links.{same_mark};
-ghost use Rattle.depot_fork.specs.Heads.{mark_cmp, newest_of};
+ghost use Rattle.depot_fork.specs.Heads.{newest_of};
+ghost use Rattle.depot_fork.specs.Settled.{settled};
 
-use crate::marks::Mark;
+use crate::marks::StatementMark;
+use crate::settled::Settled;
 use depot_base::Memory;
 use std::alloc::Global;
-use std::collections::BTreeMap;
 
 /// The number of the newest link of each mark. Strangers pick the marks, so none is hashed: a look-up takes logarithmic
 /// time, whatever they are.
@@ -22,13 +22,11 @@ pub(crate) struct Heads {
     fresh: Vec<Fresh>,
 }
 
-type Settled = BTreeMap<Mark, usize>;
-
 /// A link that isn't in the map yet.
 #[derive(Clone, Copy)]
 struct Fresh {
-    mark: Mark,
-    link: usize,
+    mark: StatementMark,
+    link: u32,
 }
 
 impl Heads {
@@ -37,20 +35,20 @@ impl Heads {
     /// No link of any mark. It takes no memory.
     #[tactic(auto, unfolding(crate::specs::Heads::head))]
     pub(crate) fn new(alloc: Global) -> Heads
-        ensures { (mark : Mark) → head result mark ≡ None }
+        ensures { (mark : StatementMark) → head result mark ≡ None }
     {
         Heads {
-            settled: BTreeMap::new(alloc),
+            settled: Settled::new(alloc),
             fresh: Vec::new(alloc),
         }
     }
 
     /// The newest link of a mark, if it has one.
     #[tactic(auto, using(crate::proofs::HeadLaws::head_laws), unfolding(crate::specs::Heads::head))]
-    pub(crate) fn get(&self, mark: &Mark) -> Option<usize>
+    pub(crate) fn get(&self, mark: &StatementMark) -> Option<u32>
         ensures { result ≡ head self.now mark.now }
     {
-        let mut newest = self.settled.get(mark).copied();
+        let mut newest = self.settled.get(mark);
         for fresh in self.fresh.as_slice() {
             newest = newest_with(fresh, mark, newest);
         }
@@ -60,7 +58,7 @@ impl Heads {
     /// Finds the memory for so many links more.
     #[tactic(auto, using(crate::proofs::HeadLaws::head_laws), unfolding(crate::specs::Heads::head, crate::specs::Heads::spare_heads))]
     pub(crate) fn reserve(&mut self, count: usize) -> Result<(), Memory>
-        ensures same { (mark : Mark) → head self.new mark ≡ head self.old mark }
+        ensures same { (mark : StatementMark) → head self.new mark ≡ head self.old mark }
         ensures ok { OnOk result (count ≤ spare_heads self.new) }
         ensures known { count ≤ spare_heads self.old → IsOk result }
     {
@@ -75,7 +73,7 @@ impl Heads {
     /// Puts the links that aren't in the map yet into it.
     #[tactic(auto, using(crate::proofs::HeadLaws::head_laws), unfolding(crate::specs::Heads::head))]
     fn settle(&mut self) -> Result<(), Memory>
-        ensures { (mark : Mark) → head self.new mark ≡ head self.old mark }
+        ensures { (mark : StatementMark) → head self.new mark ≡ head self.old mark }
     {
         settle_all(&mut self.settled, self.fresh.as_slice())?;
         self.fresh.clear();
@@ -84,9 +82,9 @@ impl Heads {
 
     /// Makes a link the newest of its mark. There is room for it.
     #[tactic(auto, using(crate::proofs::HeadLaws::head_laws), unfolding(crate::specs::Heads::head, crate::specs::Heads::spare_heads))]
-    pub(crate) fn add(&mut self, mark: Mark, link: usize)
+    pub(crate) fn add(&mut self, mark: StatementMark, link: u32)
         requires { 0 < spare_heads self.old }
-        ensures head { (other : Mark) → head self.new other ≡ (if same_mark mark other then Some link else head self.old other) }
+        ensures head { (other : StatementMark) → head self.new other ≡ (if same_mark mark other then Some link else head self.old other) }
         ensures room { spare_heads self.old ≤ spare_heads self.new + 1 }
     {
         self.fresh.push_reserved(Fresh { mark, link });
@@ -94,7 +92,7 @@ impl Heads {
 }
 
 /// The newest link of a mark, where one more link is behind the one before.
-fn newest_with(fresh: &Fresh, mark: &Mark, before: Option<usize>) -> Option<usize>
+fn newest_with(fresh: &Fresh, mark: &StatementMark, before: Option<u32>) -> Option<u32>
     ensures { result ≡ (if same_mark fresh.now.mark mark.now then Some fresh.now.link else before) }
 {
     if fresh.mark == *mark {
@@ -106,12 +104,12 @@ fn newest_with(fresh: &Fresh, mark: &Mark, before: Option<usize>) -> Option<usiz
 
 /// Puts links into a map, each in place of an older one. Where memory runs out, some may be there: with all of them before
 /// it, the map still gives the same.
-fn settle_all(settled: &mut Settled, fresh: &[Fresh]) -> Result<(), Memory>
-    ensures ok { OnOk result ((mark : Mark) → get mark_cmp settled.new mark ≡ newest_of (get mark_cmp settled.old mark) fresh.now mark) }
-    ensures err { OnErr result ((mark : Mark) → newest_of (get mark_cmp settled.new mark) fresh.now mark ≡ newest_of (get mark_cmp settled.old mark) fresh.now mark) }
+fn settle_all(map: &mut Settled, fresh: &[Fresh]) -> Result<(), Memory>
+    ensures ok { OnOk result ((mark : StatementMark) → settled map.new mark ≡ newest_of (settled map.old mark) fresh.now mark) }
+    ensures err { OnErr result ((mark : StatementMark) → newest_of (settled map.new mark) fresh.now mark ≡ newest_of (settled map.old mark) fresh.now mark) }
 {
     for one in fresh {
-        settled.insert(one.mark, one.link)?;
+        map.insert(one.mark, one.link)?;
     }
     Ok(())
 }

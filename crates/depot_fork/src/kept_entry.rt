@@ -8,12 +8,12 @@ use depot_base::{Hash32, Kind, Signed, Statement};
 
 /// A kept statement with its id.
 #[derive(Drop)]
-pub(crate) struct Entry {
+pub(crate) struct KeptEntry {
     pub(crate) signed: Signed,
     pub(crate) id: Hash32,
 }
 
-impl Entry {
+impl KeptEntry {
     ghost use Rattle.depot_fork.specs.Keeping.{IsEntry};
     ghost use Rattle.depot_fork.specs.Opponents.{has_body_of};
 

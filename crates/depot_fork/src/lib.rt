@@ -15,6 +15,7 @@ mod heads;
 mod kept_entry;
 mod kinds;
 mod marks;
+mod settled;
 mod table;
 
 ghost use Rattle.std.specs.Prelude.{◌≡◌, ◌<◌, ◌≤◌, ◌+◌, [], ◌∷◌, ◌++◌, length, Some, None, slice_get, position, OnOk, OnErr, IsOk, MatchOption, OnSome, if◌then◌else◌};
@@ -22,16 +23,17 @@ ghost use Rattle.std.specs.List.{list_any};
 ghost use Rattle.depot_model.specs.Texts.{IsSigned, IsStatement, id_of_statement};
 ghost use Rattle.depot_model.specs.Contradictions.{kind_of};
 ghost use Rattle.depot_model.specs.Checks.{is_update_with};
+ghost use Rattle.depot_base.specs.declared.limits.TheConstants.{MOST_RECORDS};
 ghost use Rattle.depot_base.specs.declared.statement.Signed.{Signed};
-ghost use Rattle.depot_fork.specs.declared.marks.Mark.{Mark};
+ghost use Rattle.depot_fork.specs.declared.marks.StatementMark.{StatementMark};
 ghost use Rattle.depot_fork.specs.StatementMarks.{has_mark};
-ghost use Rattle.depot_fork.specs.Table.{listed, spare_places};
+ghost use Rattle.depot_fork.specs.Table.{link_count, places_with_mark, spare_places};
 ghost use Rattle.depot_fork.specs.Opponents.{IsContradiction, has_body_of};
 
 use crate::firsts::{earlier, first_under};
-use crate::kept_entry::Entry;
-use crate::marks::Mark;
-use crate::table::Table;
+use crate::kept_entry::KeptEntry;
+use crate::marks::StatementMark;
+use crate::table::PlaceTable;
 use depot_base::{Hash32, Kind, Memory, Signed, Statement};
 use std::alloc::Global;
 use std::marker::Model;
@@ -47,33 +49,33 @@ pub struct Found {
 
 /// The signed statements that were kept.
 #[derive(Drop)]
-pub struct Seen {
-    entries: Vec<Entry>,
-    table: Table,
+pub struct SeenStatements {
+    entries: Vec<KeptEntry>,
+    table: PlaceTable,
 }
 
-impl Model for Seen {
+impl Model for SeenStatements {
     ghost use Rattle.std.specs.Prelude.{map, min, ◌-◌, ◌/◌, vec_len};
     ghost use Rattle.std.specs.Vec.{vec_capacity};
-    ghost use Rattle.depot_fork.specs.Opponents.{Kept};
+    ghost use Rattle.depot_fork.specs.Opponents.{KeptSigned};
     ghost use Rattle.depot_fork.specs.Keeping.{IsKeeping};
     ghost use Rattle.depot_fork.specs.Table.{spare_places};
 
-    ghost Value = { Kept };
+    ghost Value = { KeptSigned };
 
     ghost view = { λ s. record { kept = map (λ e. e.signed) s.entries.items; room = min (vec_capacity s.entries - vec_len s.entries) (spare_places s.table / 3) } };
 
     ghost invariant = { λ s. IsKeeping s.entries.items s.table };
 }
 
-impl Seen {
+impl SeenStatements {
     /// Nothing. It takes no memory.
-    pub fn new(alloc: Global) -> Seen
+    pub fn new(alloc: Global) -> SeenStatements
         ensures { result.kept ≡ [] }
     {
-        Seen {
+        SeenStatements {
             entries: Vec::new(alloc),
-            table: Table::new(alloc),
+            table: PlaceTable::new(alloc),
         }
     }
 
@@ -92,7 +94,7 @@ impl Seen {
     pub fn add(&mut self, signed: Signed, id: Hash32) -> Result<(), Memory>
         requires text { IsSigned signed }
         requires id { id ≡ id_of_statement signed.statement }
-        requires few { length self.old.kept < 4294967295 }
+        requires few { length self.old.kept ≤ MOST_RECORDS }
         ensures ok { OnOk result (self.new.kept ≡ self.old.kept ++ signed ∷ []) }
         ensures err { OnErr result (self.new.kept ≡ self.old.kept) }
         ensures room { 0 < self.old.room → IsOk result }
@@ -101,7 +103,7 @@ impl Seen {
         self.table.reserve(MARKS)?;
         let place = self.entries.len() as u32;
         list_marks(&mut self.table, &signed.statement, &id, place);
-        self.entries.push_reserved(Entry { signed, id });
+        self.entries.push_reserved(KeptEntry { signed, id });
         Ok(())
     }
 
@@ -113,16 +115,16 @@ impl Seen {
         ensures { IsContradiction self.now.kept statement.now result }
     {
         let entries = self.entries.as_slice();
-        let number = Mark::Number(statement.writer(), statement.seq());
+        let number = StatementMark::Number(statement.writer(), statement.seq());
         let same_number = first_under(&number, entries, &self.table, statement, id);
         let Statement::Update(update) = statement else {
             return same_number;
         };
-        let prev = Mark::Prev(update.writer, update.prev);
+        let prev = StatementMark::Prev(update.writer, update.prev);
         let same_prev = first_under(&prev, entries, &self.table, statement, id);
-        let parent = Mark::Id(update.prev);
+        let parent = StatementMark::Id(update.prev);
         let named = first_under(&parent, entries, &self.table, statement, id);
-        let child = Mark::Prev(update.writer, *id);
+        let child = StatementMark::Prev(update.writer, *id);
         let naming = first_under(&child, entries, &self.table, statement, id);
         earlier(earlier(same_number, same_prev), earlier(named, naming))
     }
@@ -150,7 +152,7 @@ impl Seen {
         requires id { id.now ≡ id_of_statement statement.now }
         ensures { result ≡ list_any (has_body_of statement.now) self.now.kept }
     {
-        let number = Mark::Number(statement.writer(), statement.seq());
+        let number = StatementMark::Number(statement.writer(), statement.seq());
         for place in self.table.places(&number) {
             if self.entries[place as usize].has_body_of(statement, id) {
                 return true;
@@ -163,7 +165,7 @@ impl Seen {
     pub fn find(&self, id: &Hash32) -> Option<u32>
         ensures { result ≡ position (λ s. is_update_with id.now s.statement) self.now.kept }
     {
-        self.table.places(&Mark::Id(*id)).last()
+        self.table.places(&StatementMark::Id(*id)).last()
     }
 
     /// How this statement contradicts the kept one of an index. None exactly where it doesn't. `id` is SHA-256 of the
@@ -182,14 +184,19 @@ impl Seen {
 const MARKS: usize = 3;
 
 /// Lists the place of a statement under each of its marks.
-fn list_marks(table: &mut Table, statement: &Statement, id: &Hash32, place: u32)
-    requires { MARKS ≤ spare_places table.old }
-    ensures { (mark : Mark) → listed table.new mark ≡ (if has_mark statement.now id.now mark then place ∷ listed table.old mark else listed table.old mark) }
+fn list_marks(table: &mut PlaceTable, statement: &Statement, id: &Hash32, place: u32)
+    requires room { MARKS ≤ spare_places table.old }
+    requires few { link_count table.old + MARKS ≤ 4294967296 }
+    ensures listed { (mark : StatementMark) → places_with_mark table.new mark ≡ (if has_mark statement.now id.now mark then place ∷ places_with_mark table.old mark else places_with_mark table.old mark) }
+    ensures count { link_count table.new ≤ link_count table.old + MARKS }
 {
-    table.add(Mark::Number(statement.writer(), statement.seq()), place);
+    table.add(
+        StatementMark::Number(statement.writer(), statement.seq()),
+        place,
+    );
     let Statement::Update(update) = statement else {
         return;
     };
-    table.add(Mark::Prev(update.writer, update.prev), place);
-    table.add(Mark::Id(*id), place);
+    table.add(StatementMark::Prev(update.writer, update.prev), place);
+    table.add(StatementMark::Id(*id), place);
 }

@@ -1,18 +1,18 @@
 //! Places by mark.
 ghost use Rattle.std.specs.Prelude.{◌≡◌, ℕ, ◌<◌, ◌≤◌, ◌+◌, List, [], ◌∷◌, OnOk, IsOk, if◌then◌else◌};
 ghost use Rattle.std.specs.Iterator.{YieldsFirst, item_count};
-ghost use Rattle.depot_fork.specs.declared.marks.Mark.{Mark};
+ghost use Rattle.depot_fork.specs.declared.marks.StatementMark.{StatementMark};
 ghost use Rattle.depot_fork.specs.Links.{same_mark, AreLinked, IsLinkedFrom};
 ghost use Rattle.depot_fork.specs.Heads.{head};
 
 use crate::heads::Heads;
-use crate::marks::Mark;
+use crate::marks::StatementMark;
 use depot_base::Memory;
 use std::alloc::Global;
 
 /// The places of kept statements under each of their marks, the newest first.
 #[derive(Drop)]
-pub(crate) struct Table {
+pub(crate) struct PlaceTable {
     // The newest link of each mark.
     newest: Heads,
     links: Vec<Link>,
@@ -23,28 +23,30 @@ pub(crate) struct Table {
 #[derive(Clone, Copy)]
 struct Link {
     place: u32,
-    before: Option<usize>,
+    before: Option<u32>,
 }
 
-impl Table {
-    ghost use Rattle.depot_fork.specs.Table.{listed, spare_places};
+impl PlaceTable {
+    ghost use Rattle.depot_fork.specs.Table.{link_count, places_with_mark, spare_places};
     ghost use Rattle.depot_fork.specs.PlacesLeft.{left};
 
     /// Nothing under any mark. It takes no memory.
-    #[tactic(auto, using(crate::proofs::LinkLaws::link_laws), unfolding(crate::specs::Table::listed, crate::specs::Table::spare_places))]
-    pub(crate) fn new(alloc: Global) -> Table
-        ensures { (mark : Mark) → listed result mark ≡ [] }
+    #[tactic(auto, using(crate::proofs::LinkLaws::link_laws), unfolding(crate::specs::Table::link_count, crate::specs::Table::places_with_mark, crate::specs::Table::spare_places))]
+    pub(crate) fn new(alloc: Global) -> PlaceTable
+        ensures listed { (mark : StatementMark) → places_with_mark result mark ≡ [] }
+        ensures count { link_count result ≡ 0 }
     {
-        Table {
+        PlaceTable {
             newest: Heads::new(alloc),
             links: Vec::new(alloc),
         }
     }
 
     /// Finds the memory to list so many places more.
-    #[tactic(auto, using(crate::proofs::LinkLaws::link_laws), unfolding(crate::specs::Table::listed, crate::specs::Table::spare_places))]
+    #[tactic(auto, using(crate::proofs::LinkLaws::link_laws), unfolding(crate::specs::Table::link_count, crate::specs::Table::places_with_mark, crate::specs::Table::spare_places))]
     pub(crate) fn reserve(&mut self, count: usize) -> Result<(), Memory>
-        ensures same { (mark : Mark) → listed self.new mark ≡ listed self.old mark }
+        ensures same { (mark : StatementMark) → places_with_mark self.new mark ≡ places_with_mark self.old mark }
+        ensures count { link_count self.new ≡ link_count self.old }
         ensures ok { OnOk result (count ≤ spare_places self.new) }
         ensures known { count ≤ spare_places self.old → IsOk result }
     {
@@ -54,22 +56,24 @@ impl Table {
     }
 
     /// Lists a place under a mark, before those that are there.
-    #[tactic(auto, using(crate::proofs::LinkLaws::link_laws), unfolding(crate::specs::Table::listed, crate::specs::Table::spare_places))]
-    pub(crate) fn add(&mut self, mark: Mark, place: u32)
-        requires { 0 < spare_places self.old }
-        ensures listed { (other : Mark) → listed self.new other ≡ (if same_mark mark other then place ∷ listed self.old other else listed self.old other) }
+    #[tactic(auto, using(crate::proofs::LinkLaws::link_laws), unfolding(crate::specs::Table::link_count, crate::specs::Table::places_with_mark, crate::specs::Table::spare_places))]
+    pub(crate) fn add(&mut self, mark: StatementMark, place: u32)
+        requires room { 0 < spare_places self.old }
+        requires few { link_count self.old < 4294967296 }
+        ensures listed { (other : StatementMark) → places_with_mark self.new other ≡ (if same_mark mark other then place ∷ places_with_mark self.old other else places_with_mark self.old other) }
+        ensures count { link_count self.new ≡ link_count self.old + 1 }
         ensures room { spare_places self.old ≤ spare_places self.new + 1 }
     {
         let before = self.newest.get(&mark);
-        let link = self.links.len();
+        let link = self.links.len() as u32;
         self.links.push_reserved(Link { place, before });
         self.newest.add(mark, link);
     }
 
     /// The places under a mark, the newest first.
-    #[tactic(auto, unfolding(crate::specs::Table::listed, crate::specs::PlacesLeft::left))]
-    pub(crate) fn places(&self, mark: &Mark) -> Places<'_>
-        ensures { left result ≡ listed self.now mark.now }
+    #[tactic(auto, unfolding(crate::specs::Table::places_with_mark, crate::specs::PlacesLeft::left))]
+    pub(crate) fn places(&self, mark: &StatementMark) -> Places<'_>
+        ensures { left result ≡ places_with_mark self.now mark.now }
     {
         Places {
             links: self.links.as_slice(),
@@ -82,7 +86,7 @@ impl Table {
 #[derive(Drop)]
 pub(crate) struct Places<'a> {
     links: &'a [Link],
-    next: Option<usize>,
+    next: Option<u32>,
     ghost linked: { IsLinkedFrom links.now next },
 }
 
@@ -96,7 +100,7 @@ impl Iterator for Places<'_> {
     ghost remaining = { item_count left };
 
     fn next(&mut self) -> Option<u32> {
-        let link = self.links[self.next?];
+        let link = self.links[self.next? as usize];
         self.next = link.before;
         Some(link.place)
     }

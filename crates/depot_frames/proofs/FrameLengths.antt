@@ -5,7 +5,6 @@ use Rattle.std.specs.List.{flat_map}
 use Rattle.std.proofs.lemmas.List.{map-append, take_more}
 use Rattle.std.proofs.lemmas.List.Concat.{length-flat_map}
 use Rattle.std.proofs.lemmas.List.Sums.{sum_by-append, sum_by-cons}
-use Rattle.depot_base.proofs.GeneralLaws.{flat_push}
 use Rattle.depot_base.specs.Cursor.{numeral}
 use Rattle.depot_model.specs.Frames.{Frame, text_of_frame}
 use Rattle.depot_model.specs.Bundle.{bytes_of_frames}
@@ -47,13 +46,3 @@ lent_is_short (t ∷ lent) (suc i) none low short = lent_is_short lent i none (o
 
 pub length_more : (lent : List (Bor (List ℕ))) (i : ℕ) (none : Bor (List ℕ)) → i < length lent → length_under (payloads_of (take (i + 1) lent)) ≡ length_under (payloads_of (take i lent)) + (5 + length (get_or lent i none).now)
 length_more lent i none low = ap length_under (one_lent lent i none low) ∙ omega (arith, sum_by-append (λ (t : List ℕ). 5 + length t) (payloads_of (take i lent)) ((get_or lent i none).now ∷ []))
-
--- the text of one frame more
-pub frames_more : (tag : ℕ) (lent : List (Bor (List ℕ))) (i : ℕ) (none : Bor (List ℕ)) → i < length lent
-    → flat_map text_of_frame (frames_under tag (payloads_of (take (i + 1) lent))) ≡ flat_map text_of_frame (frames_under tag (payloads_of (take i lent))) ++ text_of_frame (record { tag = tag; payload = (get_or lent i none).now })
-frames_more tag lent i none low =
-    let before = payloads_of (take i lent) in
-    let t = (get_or lent i none).now in
-    ap (λ (texts : List (List ℕ)). flat_map text_of_frame (frames_under tag texts)) (one_lent lent i none low)
-    ∙ ap (flat_map text_of_frame) (map-append (λ (x : List ℕ). record { tag = tag; payload = x }) before (t ∷ []))
-    ∙ flat_push text_of_frame (frames_under tag before) (record { tag = tag; payload = t })

@@ -4,8 +4,8 @@ use Rattle.std.specs.Int.{w32, from_be_bytes}
 use Rattle.depot_base.specs.declared.limits.TheConstants.{MOST_PAYLOAD}
 use Rattle.depot_base.specs.Tags.{frame_byte}
 use Rattle.depot_model.specs.Frames.{FrameAt, whole_frame, open_frame, no_frame}
-use Rattle.depot_frames.specs.declared.frame.Standing.{Standing}
-use Rattle.depot_frames.specs.declared.frame.Standing.TheVariants as standing
+use Rattle.depot_frames.specs.declared.frame.FrameStart.{FrameStart}
+use Rattle.depot_frames.specs.declared.frame.FrameStart.TheVariants as starts
 use Rattle.depot_frames.specs.declared.frame.FrameAt.{FrameAt as Place}
 use Rattle.depot_frames.specs.declared.frame.FrameAt.TheVariants as place
 
@@ -14,14 +14,14 @@ abbrev pub most_frame : ℕ
 most_frame = 5 + MOST_PAYLOAD
 
 -- The most bytes that may come in one go: behind the five bytes of its head those of the payload that are missing, else one.
-unfoldable pub missing : List ℕ → ℕ
-missing bytes = if nat_lt (length bytes) 5 then 1 else (5 + from_be_bytes w32 (take 4 (drop 1 bytes))) - length bytes
+unfoldable pub bytes_missing : List ℕ → ℕ
+bytes_missing bytes = if nat_lt (length bytes) 5 then 1 else (5 + from_be_bytes w32 (take 4 (drop 1 bytes))) - length bytes
 
 -- what is told of the bytes from a frame's start on is what stands there
-abbrev pub Tells : FrameAt → Standing → Type 0
-Tells at standing.Open = at ≡ open_frame
-Tells at (standing.Whole tag payload) = at ≡ whole_frame (record { tag = frame_byte tag; payload = payload.now })
-Tells at standing.Nothing = at ≡ no_frame
+abbrev pub TellsStart : FrameAt → FrameStart → Type 0
+TellsStart at starts.Open = at ≡ open_frame
+TellsStart at (starts.Whole tag payload) = at ≡ whole_frame (record { tag = frame_byte tag; payload = payload.now })
+TellsStart at starts.Nothing = at ≡ no_frame
 
 -- what is told of a place of a stream is what stands there: a frame by its tag, and by the place behind its five bytes and its payload
 abbrev pub StandsAt : FrameAt → ℕ → Place → Type 0

@@ -3,14 +3,14 @@ ghost use Rattle.std.specs.Prelude.{◌≡◌, ◌≤◌, ◌++◌, ◌-◌, tak
 ghost use Rattle.std.specs.Int.{w32, from_be_bytes};
 ghost use Rattle.depot_base.specs.Tags.{frame_byte};
 ghost use Rattle.depot_model.specs.Frames.{frame_at, least_length, most_length, is_no_flag, goes_astray};
-ghost use Rattle.depot_frames.specs.FrameHeads.{missing, Tells, StandsAt};
+ghost use Rattle.depot_frames.specs.FrameHeads.{bytes_missing, TellsStart, StandsAt};
 
 use depot_base::FrameTag;
 use depot_base::limits::MOST_PAYLOAD;
 
 /// What bytes are, from the start of a frame on.
 #[derive(Clone, Copy)]
-pub enum Standing<'a> {
+pub enum FrameStart<'a> {
     /// The beginning of a frame.
     Open,
     /// A whole frame.
@@ -99,26 +99,26 @@ fn goes_astray(tag: FrameTag, bytes: &[u8]) -> bool
 
 /// What these bytes are, from the start of a frame on. That they are no frame's is told at the first byte that decides it.
 #[tactic(auto, unfolding(depot_model::specs::Frames::frame_at))]
-pub fn stands(bytes: &[u8]) -> Standing<'_>
-    ensures { Tells (frame_at bytes.now) result }
+pub fn frame_start(bytes: &[u8]) -> FrameStart<'_>
+    ensures { TellsStart (frame_at bytes.now) result }
 {
     let [tag, rest @ ..] = bytes else {
-        return Standing::Open;
+        return FrameStart::Open;
     };
     let Some(tag) = FrameTag::of(*tag) else {
-        return Standing::Nothing;
+        return FrameStart::Nothing;
     };
     if goes_astray(tag, rest) {
-        return Standing::Nothing;
+        return FrameStart::Nothing;
     }
     let [a, b, c, d, payload @ ..] = rest else {
-        return Standing::Open;
+        return FrameStart::Open;
     };
     let count = u32::from_be_bytes([*a, *b, *c, *d]) as usize;
     if payload.len() < count {
-        Standing::Open
+        FrameStart::Open
     } else {
-        Standing::Whole {
+        FrameStart::Whole {
             tag,
             payload: &payload[..count],
         }
@@ -132,24 +132,24 @@ pub fn frame_at(stream: &[u8], at: usize) -> FrameAt
     ensures { StandsAt (frame_at (drop at stream.now)) at result }
 {
     let bytes = &stream[at..];
-    match stands(bytes) {
-        Standing::Open => FrameAt::Open,
-        Standing::Whole { tag, payload } => {
+    match frame_start(bytes) {
+        FrameStart::Open => FrameAt::Open,
+        FrameStart::Whole { tag, payload } => {
             let behind = bytes.len() - 5 - payload.len();
             FrameAt::Frame {
                 tag,
                 end: stream.len() - behind,
             }
         }
-        Standing::Nothing => FrameAt::Ill,
+        FrameStart::Nothing => FrameAt::Ill,
     }
 }
 
 /// The most bytes that may come in one go behind these of an open frame: those of the payload that are missing, or one of its
 /// head.
-#[tactic(auto, unfolding(crate::specs::FrameHeads::missing))]
+#[tactic(auto, unfolding(crate::specs::FrameHeads::bytes_missing))]
 pub fn missing(begun: &[u8]) -> usize
-    ensures { result ≡ missing begun.now }
+    ensures { result ≡ bytes_missing begun.now }
 {
     match begun {
         [_, a, b, c, d, ..] => {

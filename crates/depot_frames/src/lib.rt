@@ -16,7 +16,7 @@ mod hello_text;
 mod sending;
 
 pub use depot_base::DecodeError;
-pub use frame::{FrameAt, Standing, frame_at, missing, stands};
+pub use frame::{FrameAt, FrameStart, frame_at, frame_start, missing};
 pub use frame_text::put_frame;
 pub use hello_laws::{hellos_are_prefix_free, hellos_are_read_in_one_way};
 pub use hello_text::{decode_hello, encode_hello, leaves_in, put_list};

@@ -19,7 +19,7 @@ use Rattle.depot_model.proofs.HelloLaws.{hello_lawful}
 use Rattle.depot_gossip.specs.declared.bundle_error.BundleError.{BundleError}
 use Rattle.depot_gossip.specs.declared.bundle_error.BundleError.TheVariants as error
 use Rattle.depot_gossip.specs.Errors.{from_decoding}
-use Rattle.depot_gossip.specs.Preparing.{IsHeard, Hears, Prepares}
+use Rattle.depot_gossip.specs.Preparing.{IsHeard, ReadsHello, Prepares}
 
 -- the text of a hello reads as it
 read_whole : (text : List ℕ) (h : Hello) → Decodes hello text (Ok h) → whole hello (record { at = 0; rest = text }) ≡ Ok h
@@ -35,7 +35,7 @@ module _ (here : Setting) (sign : Signs) (J : List Record) (text : List ℕ) whe
   answer_is h d = ap (answer_to_hello here sign J) (read_whole text h d)
 
   -- a text that is none
-  pub not_decoded : (e : DecodeError) → Decodes hello text (Err e) → Hears here sign J text (Err (from_decoding e))
+  pub not_decoded : (e : DecodeError) → Decodes hello text (Err e) → ReadsHello here sign J text (Err (from_decoding e))
   unfolding bundle_answer
   not_decoded decode.Memory d = tt
   not_decoded (decode.IllFormed at) d = ap (answer_to_hello here sign J) (whole_stops hello 172620 hello_lawful 0 text at (d.ill_formed at refl)) ∙ ap (λ (n : ℕ). bad_hello n) (omega arith)
@@ -56,7 +56,7 @@ module _ (here : Setting) (sign : Signs) (J : List Record) (text : List ℕ) whe
       answer_is h d ∙ ap (λ (b : Bool). answer_by h b (has_node here.listed h.node)) one ∙ ap (answer_by h true) known
 
   -- what isn't heard isn't prepared
-  pub not_prepared : (stopped : Bool) (e : BundleError) → stopped ≡ false → Hears here sign J text (Err e) → Prepares here sign J stopped text (Err e)
+  pub not_prepared : (stopped : Bool) (e : BundleError) → stopped ≡ false → ReadsHello here sign J text (Err e) → Prepares here sign J stopped text (Err e)
   not_prepared stopped error.Memory runs h = runs
   not_prepared stopped error.Disk runs h = h
   not_prepared stopped error.Stopped runs h = absurd h

@@ -34,7 +34,7 @@ use Rattle.depot_laws.proofs.Contrary.{kept_is_signed}
 use Rattle.depot_laws.proofs.NewVouchers.{new_are_lawful}
 use Rattle.depot_laws.proofs.Parcels.{sent_in_front}
 use Rattle.depot_laws.proofs.Rejoining.{voucher_is_own}
-use Rattle.depot_gossip.specs.ToldStatements.{IsShort, IsSignedOwn}
+use Rattle.depot_gossip.specs.ToldStatements.{SignsShort, IsSignedOwn}
 use Rattle.depot_gossip.proofs.ApartLaws.{foreign_one}
 
 -- ---- where a signed statement comes from
@@ -129,7 +129,7 @@ bundle_carries me sign J h f on two = elim (in_parts f (map proof_frame (proofs_
 
 -- ---- the texts
 
-told_fits : (here : Setting) (sign : Signs) (K : List Record) (s : Signed) → IsLawful here K → IsShort sign → IsTold sign K s → IsSigned s
+told_fits : (here : Setting) (sign : Signs) (K : List Record) (s : Signed) → IsLawful here K → SignsShort sign → IsTold sign K s → IsSigned s
 unfolding signed_with
 told_fits here sign K s l short (inl mine) = subst (λ (x : Signed). IsSigned x) (sym mine.1.1) (signed_fits sign mine.0 (own_statement_fits here K mine.0 l mine.1.0) (short _ _))
 told_fits here sign K s l short (inr other) = kept_is_signed here K s l other
@@ -143,7 +143,7 @@ unfolding signed_with
 own_is_signed here sign K s l me (inl mine) = subst (λ (x : Signed). IsSignedOwn sign K x) (sym mine.1.1) (record { on = mine.1.0; signature = refl })
 own_is_signed here sign K s l me (inr other) = absurd (foreign_writer here K s l other me)
 
-told_own : (here : Setting) (sign : Signs) (K : List Record) (s : Signed) → IsLawful here K → IsShort sign → IsSigned s → writer_of s.statement ≡ here.me → Carries sign K (statement_frame s) → IsSignedOwn sign K s
+told_own : (here : Setting) (sign : Signs) (K : List Record) (s : Signed) → IsLawful here K → SignsShort sign → IsSigned s → writer_of s.statement ≡ here.me → Carries sign K (statement_frame s) → IsSignedOwn sign K s
 told_own here sign K s l short fits me c =
     own_is_signed here sign K s l me (subst (λ (x : Signed). IsTold sign K x) (sym (one_frame s c.0 fits (told_fits here sign K c.0 l short c.1.1) c.1.0)) c.1.1)
 
@@ -176,7 +176,7 @@ unfolding bundle_of
 bundle_is_lawful here sign J h l some none = new_are_lawful here J (unvouched here.me J (sent_for sign J h)) l some (foreign_one here sign J h) none
 
 -- each own statement in a bundle stands in the journal with the bundle's vouchers, signed by the signer
-pub bundle_tells_own : (here : Setting) (sign : Signs) (J : List Record) (text : List ℕ) (b : Bundle) (s : Signed) → IsLawful here J → is_empty J ≡ false → IsShort sign → bundle_answer here sign J text ≡ bundled b → IsSigned s → IsIn (statement_frame s) b.frames → writer_of s.statement ≡ here.me
+pub bundle_tells_own : (here : Setting) (sign : Signs) (J : List Record) (text : List ℕ) (b : Bundle) (s : Signed) → IsLawful here J → is_empty J ≡ false → SignsShort sign → bundle_answer here sign J text ≡ bundled b → IsSigned s → IsIn (statement_frame s) b.frames → writer_of s.statement ≡ here.me
     → IsSignedOwn sign (with_vouchers J b.vouchers) s
 bundle_tells_own here sign J text b s l some short is fits on me =
     let a = is_answered here sign J text b is in

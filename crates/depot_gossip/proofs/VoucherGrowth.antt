@@ -1,5 +1,5 @@
 -- What the vouchers of a bundle bring a journal, all of which or a front of which was appended, and what making them leaves of a node.
-use Rattle.std.proofs.Common.{◌≡◌, ℕ, List, [], ◌++◌, Bool, true, false, Option, None, Result, Ok, Err, refl, sym, ap, subst, ◌∙◌}
+use Rattle.std.proofs.Common.{◌≡◌, ℕ, List, [], ◌++◌, Bool, false, Option, None, Result, Ok, Err, refl, sym, ap, subst, ◌∙◌}
 use Rattle.std.specs.Prelude.{IsErrAnd, IsErrOf}
 use Rattle.depot_base.specs.declared.record.Record.{Record}
 use Rattle.depot_model.specs.declared.bundle.VoucherError.{VoucherError}
@@ -20,7 +20,7 @@ use Rattle.depot_gossip.specs.declared.bundle_error.BundleError.TheVariants as e
 use Rattle.depot_gossip.specs.declared.bundle_stream.Bundled.{Bundled}
 use Rattle.depot_gossip.specs.declared.preparing.Prepared.{Prepared}
 use Rattle.depot_gossip.specs.Errors.{from_vouching}
-use Rattle.depot_gossip.specs.Bundling.{IsBundleCall, finds_disk, journaled_for}
+use Rattle.depot_gossip.specs.Bundling.{IsBundleCall, journaled_for}
 use Rattle.depot_gossip.specs.Preparing.{IsPrepared}
 use Rattle.depot_feeds.specs.Lasting.{LastsIn}
 use Rattle.depot_feeds.proofs.LastingStreams.{all_of, cut_of, none_in, to_append, IsPart}
@@ -56,7 +56,7 @@ module _ {N : Type 0} (g : Ghosts N) (text : List ℕ) (p : Prepared) (old new :
   journaled = journaled_for (bundle_answer (g.stands old) (g.signature_of old) (g.records old) text)
 
   -- all of them were appended, or a front of them
-  part_in : (failed : Bool) → limit_of_vouchers (g.stands old) (g.records old) p.unvouched ≡ None → IsPart (g.records old) vouchers (g.records new) failed → Lasts (journal_of g) old new vouchers → LastsIn g failed old new
+  part_in : (failed : Type 0) → limit_of_vouchers (g.stands old) (g.records old) p.unvouched ≡ None → IsPart (g.records old) vouchers (g.records new) failed → Lasts (journal_of g) old new vouchers → LastsIn g failed old new
   part_in failed none part lasts = record {
     appends = vouchers;
     is = to_append (g.stands old) (g.records old) _ (g.records new) failed (vouchers_are_lawful (g.stands old) (g.signature_of old) (g.records old) (g.stopped old) text p lawful some is none) (silent_is_true (g.records old) _ (vouchers_put_none (new_vouchers (g.stands old).me (g.records old) p.unvouched))) part;
@@ -65,12 +65,12 @@ module _ {N : Type 0} (g : Ghosts N) (text : List ℕ) (p : Prepared) (old new :
 
   -- they weren't made: the disk failed, or none was appended
   not_vouched_in : (e : VoucherError) → (e ≡ refused.Stopped → ⊥) → Vouches (g.stands old) (g.records old) p.unvouched (Err e) (g.records new) → Lasts (journal_of g) old new vouchers
-      → (IsErrAnd {T = Unit {0}} (Err e) (λ d. d ≡ refused.Disk → ⊥) → Lasts (journal_of g) old new []) → LastsIn g (finds_disk {X = Bundled} (Err (from_vouching e))) old new
-  not_vouched_in refused.Memory never v lasts idle = none_in g false old new lawful v (idle (λ e. cc))
-  not_vouched_in refused.Disk never v lasts idle = part_in true v.0 (cut_of (g.records old) _ (g.records new) v.1) lasts
+      → (IsErrAnd {T = Unit {0}} (Err e) (λ d. d ≡ refused.Disk → ⊥) → Lasts (journal_of g) old new []) → LastsIn g (IsErrOf {T = Bundled} (Err (from_vouching e)) error.Disk) old new
+  not_vouched_in refused.Memory never v lasts idle = none_in g _ old new lawful v (idle (λ e. cc))
+  not_vouched_in refused.Disk never v lasts idle = part_in _ v.0 (cut_of (g.records old) _ (g.records new) _ refl v.1) lasts
   not_vouched_in refused.Stopped never v lasts idle = absurd (never refl)
-  not_vouched_in (refused.Spent n) never v lasts idle = none_in g false old new lawful v.1 (idle (λ e. cc))
-  not_vouched_in (refused.Full what) never v lasts idle = none_in g false old new lawful v.1 (idle (λ e. cc))
+  not_vouched_in (refused.Spent n) never v lasts idle = none_in g _ old new lawful v.1 (idle (λ e. cc))
+  not_vouched_in (refused.Full what) never v lasts idle = none_in g _ old new lawful v.1 (idle (λ e. cc))
 
   -- they were made
   pub vouched_call : (r : Result Bundled BundleError) → (IsErrOf r error.Stopped → ⊥) → (IsErrOf r error.Disk → ⊥) → Vouches (g.stands old) (g.records old) p.unvouched (Ok tt) (g.records new) → IsVoucherCall g old new p.unvouched (Ok tt)
@@ -83,7 +83,7 @@ module _ {N : Type 0} (g : Ghosts N) (text : List ℕ) (p : Prepared) (old new :
           journal = subst (λ (x : List Record). IsJournalCall (journal_of g) old new x (IsErrOf r error.Stopped) (IsErrOf r error.Disk) ⊥) same
               (renamed_call (λ e. absurd cc, λ e. absurd (no_stop e)) (λ e. absurd cc, λ e. absurd (no_disk e)) (λ never. absurd never) call.journal);
         };
-        lasts = part_in (finds_disk r) v.0 (all_of (g.records old) _ (g.records new) (finds_disk r) v.1) call.journal.lasts;
+        lasts = part_in (IsErrOf r error.Disk) v.0 (all_of (g.records old) _ (g.records new) (IsErrOf r error.Disk) v.1) call.journal.lasts;
       }
 
   -- what making them leaves of the journal, where they weren't made

@@ -1,5 +1,5 @@
 -- What a node answers to a hello, and what its journal is then.
-use Rattle.std.specs.Prelude.{◌≡◌, ℕ, ◌⊎◌, List, [], Bool, true, false, Result, Ok, Err, IsErrOf}
+use Rattle.std.specs.Prelude.{◌≡◌, ℕ, ◌⊎◌, List, [], Bool, true, Result, Ok, Err, IsErrOf}
 use Rattle.depot_base.specs.declared.record.Record.{Record}
 use Rattle.depot_model.specs.Checks.{Setting}
 use Rattle.depot_model.specs.Texts.{hash_of_roster}
@@ -54,13 +54,8 @@ Bundles here sign J stopped text (Err (error.Full what)) then = (bundle_answer h
 
 -- ---- the node
 
--- the answer says that the disk failed
-abbrev pub finds_disk : {X : Type 0} → Result X BundleError → Bool
-finds_disk (Err error.Disk) = true
-finds_disk other = false
-
 -- the call was to journal the vouchers of the bundle for this text, and answered so
 abbrev pub IsBundleCall : {N : Type 0} → Ghosts N → N → N → List ℕ → Result Bundled BundleError → Type 0
 IsBundleCall g old new text result =
     IsLawfulCall g old new (journaled_for (bundle_answer (g.stands old) (g.signature_of old) (g.records old) text))
-    (IsErrOf result error.Stopped) (IsErrOf result error.Disk) (finds_disk result)
+    (IsErrOf result error.Stopped) (IsErrOf result error.Disk)

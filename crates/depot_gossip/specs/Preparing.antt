@@ -17,15 +17,15 @@ abbrev pub IsHeard : Setting → Signs → List Record → List ℕ → Hello �
 IsHeard here sign J text h = bundle_answer here sign J text ≡ bundled_within (limit_of_vouchers here J (unvouched here.me J (sent_for sign J h))) (bundle_of here.me sign J h)
 
 -- what is answered to a text before anything is chosen
-abbrev pub Hears : Setting → Signs → List Record → List ℕ → Result Hello BundleError → Type 0
-Hears here sign J text (Ok h) = IsHeard here sign J text h
-Hears here sign J text (Err error.Memory) = Unit {0}
-Hears here sign J text (Err error.Disk) = ⊥
-Hears here sign J text (Err error.Stopped) = ⊥
-Hears here sign J text (Err (error.IllFormed at)) = bundle_answer here sign J text ≡ bad_hello at
-Hears here sign J text (Err (error.OtherRoster given mine)) = (bundle_answer here sign J text ≡ other_roster given) × (mine ≡ hash_of_roster here.listed)
-Hears here sign J text (Err (error.Spent n)) = ⊥
-Hears here sign J text (Err (error.Full what)) = ⊥
+abbrev pub ReadsHello : Setting → Signs → List Record → List ℕ → Result Hello BundleError → Type 0
+ReadsHello here sign J text (Ok h) = IsHeard here sign J text h
+ReadsHello here sign J text (Err error.Memory) = Unit {0}
+ReadsHello here sign J text (Err error.Disk) = ⊥
+ReadsHello here sign J text (Err error.Stopped) = ⊥
+ReadsHello here sign J text (Err (error.IllFormed at)) = bundle_answer here sign J text ≡ bad_hello at
+ReadsHello here sign J text (Err (error.OtherRoster given mine)) = (bundle_answer here sign J text ≡ other_roster given) × (mine ≡ hash_of_roster here.listed)
+ReadsHello here sign J text (Err (error.Spent n)) = ⊥
+ReadsHello here sign J text (Err (error.Full what)) = ⊥
 
 -- What is chosen for a hello, and the ids that are to be vouched for before it is sent.
 pub record IsPrepared (here : Setting) (sign : Signs) (J : List Record) (stopped : Bool) (text : List ℕ) (p : Prepared) : Type 0 where

@@ -12,8 +12,8 @@ use Rattle.depot_model.specs.Lists.{IsIn}
 use Rattle.depot_model.specs.Texts.{IsSigned}
 
 -- all that the signer gives is short enough for a text
-abbrev pub IsShort : Signs → Type 0
-IsShort sign = (seq : ℕ) (body : List ℕ) → length (sign seq body) ≤ MOST_SIGNATURE
+abbrev pub SignsShort : Signs → Type 0
+SignsShort sign = (seq : ℕ) (body : List ℕ) → length (sign seq body) ≤ MOST_SIGNATURE
 
 -- One of the node's own statements in this journal, with the signature that the signer gives for its seq and its body.
 pub record IsSignedOwn (sign : Signs) (J : List Record) (s : Signed) : Type 0 where
@@ -25,7 +25,7 @@ pub record AnswersBundle (here : Setting) (sign : Signs) (J : List Record) (b : 
   pub text : List ℕ
   pub lawful : IsLawful here J
   pub begun : is_empty J ≡ false
-  pub short : IsShort sign
+  pub short : SignsShort sign
   pub is : bundle_answer here sign J text ≡ bundled b
 
 -- In the bytes of the bundle stands this signed statement, which is the node's own.

@@ -1,5 +1,5 @@
-//! The stream of a bundle.
-ghost use Rattle.std.specs.Prelude.{◌≡◌, false, IfOk, if◌then◌else◌};
+//! The stream of a bundle. It stands in the buffer of what was chosen: the chosen frames are moved behind the front there, not copied.
+ghost use Rattle.std.specs.Prelude.{◌≡◌, ◌++◌, false, OnOk, IfOk, if◌then◌else◌};
 ghost use Rattle.depot_gossip.specs.BundleStreams.{IsJoined, IsStream};
 
 use crate::front::BundleFront;
@@ -26,26 +26,40 @@ fn flag_of(more: bool) -> u8
     if more { 1 } else { 0 }
 }
 
-/// The stream: the frames in front, what is sent, and End.
-#[tactic(auto, using(depot_base::proofs::Writing::texts))]
-fn stream_of(front: BundleFront, sending: &Sending) -> Result<Bundled, Memory>
-    ensures { IfOk result (λ b. IsJoined front sending.now b) }
+/// How many bytes the frame End has.
+const END_BYTES: usize = 6;
+
+/// Puts the frames of a front before what is sent, in the same buffer. It grows by them and by what End takes, and no more.
+fn put_in_front(sent: &mut Vec<u8>, front: &BundleFront) -> Result<(), Memory>
+    ensures { OnOk result (sent.new.items ≡ front.now.proofs ++ (front.now.vouchers ++ sent.old.items)) }
 {
-    let BundleFront {
-        proofs,
-        proof_count,
-        vouchers,
-        voucher_count,
-    } = front;
-    let mut bytes = proofs;
-    bytes.push_all(vouchers.as_slice())?;
-    bytes.push_all(sending.frames.as_slice())?;
+    let behind = sent.len();
+    let front_bytes = front
+        .proofs
+        .as_slice()
+        .len()
+        .saturating_add(front.vouchers.as_slice().len());
+    sent.reserve_exact(front_bytes.saturating_add(END_BYTES))?;
+    sent.extend_from_slice(front.proofs.as_slice())?;
+    sent.extend_from_slice(front.vouchers.as_slice())?;
+    sent.rotate_left(behind);
+    Ok(())
+}
+
+/// The stream: the frames in front, what is sent, and End. It stands in the buffer of what is sent.
+#[tactic(auto, using(depot_base::proofs::Writing::texts))]
+fn stream_of(front: &BundleFront, sending: Sending) -> Result<Bundled, Memory>
+    ensures { IfOk result (λ b. IsJoined front.now sending b) }
+{
+    let mut sent = sending.frames.into_vec();
+    put_in_front(&mut sent, front)?;
+    let mut bytes = Bytes::from_vec(sent);
     put_frame(&mut bytes, FrameTag::End, &[flag_of(sending.more)])?;
     Ok(Bundled {
         bytes,
         counts: Counts {
-            proofs: proof_count,
-            vouchers: voucher_count,
+            proofs: front.proof_count,
+            vouchers: front.voucher_count,
             updates: sending.updates,
             values: sending.values,
         },
@@ -53,16 +67,16 @@ fn stream_of(front: BundleFront, sending: &Sending) -> Result<Bundled, Memory>
     })
 }
 
-/// The bundle of what was chosen for a hello, the vouchers standing in the journal.
-pub fn told_of<R: Peer>(
+/// The bundle of what was chosen for a hello, the vouchers standing in the journal. What was chosen isn't copied: it gives its buffer.
+pub fn bundle_for<R: Peer>(
     alloc: Global,
     node: &R,
     hello: &Hello,
-    sending: &Sending,
+    sending: Sending,
 ) -> Result<Bundled, Memory>
     requires { R.stopped node.now ≡ false }
-    ensures { IfOk result (λ b. IsStream (R.signature_of node.now) (R.records node.now) hello.now sending.now b) }
+    ensures { IfOk result (λ b. IsStream (R.signature_of node.now) (R.records node.now) hello.now sending b) }
 {
     let front = BundleFront::of(alloc, node, hello, &sending.ids)?;
-    stream_of(front, sending)
+    stream_of(&front, sending)
 }

@@ -25,7 +25,7 @@ mod own_hello;
 mod preparing;
 
 pub use bundle_error::BundleError;
-pub use bundle_stream::{Bundled, told_of};
+pub use bundle_stream::{Bundled, bundle_for};
 pub use depot_base::DecodeError;
 pub use depot_feeds::{Feed, FeedError, pieces_are_one, streams_tell_all};
 pub use depot_frames::{

@@ -2,8 +2,8 @@
 ghost use Rattle.depot_gossip.specs.Bundling.{Bundles, IsBundleCall};
 
 use crate::bundle_error::BundleError;
-use crate::bundle_stream::{Bundled, told_of};
-use crate::preparing::prepare;
+use crate::bundle_stream::{Bundled, bundle_for};
+use crate::preparing::{Prepared, prepare};
 use depot_model::Peer;
 use std::alloc::Global;
 
@@ -22,5 +22,6 @@ pub fn bundle<R: Peer>(alloc: Global, node: &mut R, hello: &[u8]) -> Result<Bund
 {
     let chosen = prepare(alloc, node, hello)?;
     node.own_vouchers(&chosen.unvouched)?;
-    Ok(told_of(alloc, node, &chosen.hello, &chosen.sending)?)
+    let Prepared { hello, sending, .. } = chosen;
+    Ok(bundle_for(alloc, node, &hello, sending)?)
 }

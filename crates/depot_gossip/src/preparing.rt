@@ -4,7 +4,7 @@ ghost use Rattle.std.specs.List.{filter};
 ghost use Rattle.depot_model.specs.JournalCalls.{IsStable};
 ghost use Rattle.depot_model.specs.Replicas.{journal_of};
 ghost use Rattle.depot_model.specs.Vouching.{is_mine_vouched};
-ghost use Rattle.depot_gossip.specs.Preparing.{Hears, Prepares};
+ghost use Rattle.depot_gossip.specs.Preparing.{ReadsHello, Prepares};
 
 use crate::bundle_error::BundleError;
 use crate::choose::chosen;
@@ -26,7 +26,7 @@ pub struct Prepared {
 
 /// The hello of a text, if it goes by the node's roster.
 fn heard<R: Peer>(alloc: Global, node: &R, text: &[u8]) -> Result<Hello, BundleError>
-    ensures { Hears (R.stands node.now) (R.signature_of node.now) (R.records node.now) text.now result }
+    ensures { ReadsHello (R.stands node.now) (R.signature_of node.now) (R.records node.now) text.now result }
 {
     let hello = decode_hello(alloc, text)?;
     if hello.roster != *node.roster_hash() {

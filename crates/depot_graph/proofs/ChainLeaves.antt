@@ -16,7 +16,7 @@ use Rattle.depot_model.proofs.Elements.{in_at, both_at, of_place, at_its_place}
 use Rattle.depot_model.proofs.Members.{in_left, in_pushed, in_last, any_from, any_to, among_from, among_to, chosen_cases, chosen_front, chosen_behind, from_filter, in_filter}
 use Rattle.depot_model.proofs.Orders.{first_names_none, causal_behind}
 use Rattle.depot_model.proofs.RisingLists.{HaveSame}
-use Rattle.depot_virtual.specs.Spots.{IsForest, IsTip, IsAt, spots, number_of_chains}
+use Rattle.depot_virtual.specs.Spots.{IsForest, IsTip, IsSpotAt, spots, chains_in}
 use Rattle.depot_virtual.proofs.Placing.{all_placed, back_by, tip_is_highest}
 use Rattle.depot_graph.specs.Kept.{prev_places}
 use Rattle.depot_graph.specs.UpdateRows.{IsJoinedRow}
@@ -24,8 +24,8 @@ use Rattle.depot_graph.specs.OrderLaws.{one_place}
 use Rattle.depot_base.proofs.GeneralLaws.{at_place}
 use Rattle.depot_graph.proofs.ClockedItems.{place_of}
 use Rattle.depot_graph.specs.Closure.{closure_of}
-use Rattle.depot_graph.specs.PastLeaves.{standing}
-use Rattle.depot_graph.specs.PastChains.{IsCovered, IsLast, AreLast, IsLastCounted}
+use Rattle.depot_graph.specs.PastLeaves.{updates_at_places}
+use Rattle.depot_graph.specs.PastChains.{IsCovered, IsLastOfChain, AreLast, IsLastCounted}
 use Rattle.depot_graph.proofs.ItemPlaces.{has_place, below_more}
 use Rattle.depot_graph.proofs.Reaching.{closure_in, closure_precedes, precedes_closure}
 use Rattle.depot_graph.proofs.Sorting.{standing_is, is_standing}
@@ -131,7 +131,7 @@ leaf_within us leaves n are on =
     slice_get_within us n w.0 w.1.0
 
 -- they are the leaves
-pub leaves_stand : (us : List Update) (leaves : List ℕ) → IsCausal [] us → AreLeaves us leaves → HaveSame (standing us leaves) (leaves_of us)
+pub leaves_stand : (us : List Update) (leaves : List ℕ) → IsCausal [] us → AreLeaves us leaves → HaveSame (updates_at_places us leaves) (leaves_of us)
 unfolding leaves_of
 leaves_stand us leaves c are = record {
   to = λ t on.
@@ -161,7 +161,7 @@ in_covered us items n t c at on = elim (closure_precedes us items t c on) [
 ]
 
 -- what is last is a leaf of the past
-last_leaf : (us : List Update) (items : List ℕ) (n : ℕ) (t : Update) → IsCausal [] us → slice_get us n ≡ Some t → IsLast us items n → IsIn t (leaves_of (closure_of items us))
+last_leaf : (us : List Update) (items : List ℕ) (n : ℕ) (t : Update) → IsCausal [] us → slice_get us n ≡ Some t → IsLastOfChain us items n → IsIn t (leaves_of (closure_of items us))
 unfolding leaves_of
 last_leaf us items n t c at last =
     in_filter (λ (x : Update). not (is_prev_in (closure_of items us) (id_of_update x))) t (closure_of items us) (covered_in us items n t c at last.covered) (ap not (false_from_ne_true _ (λ e.
@@ -169,7 +169,7 @@ last_leaf us items n t c at last =
     let p = place_of us w.0 (closure_in us items w.0 w.1.0) in
     last.childless p.0 (is_child us n p.0 (record { above = t; below = w.0; at_above = at; at_below = p.1; named = among_to (id_of_update t) (prevs w.0) w.1.1 })) (in_covered us items p.0 w.0 c p.1 w.1.0))))
 
-leaf_last : (us : List Update) (items : List ℕ) (n : ℕ) (t : Update) → IsCausal [] us → slice_get us n ≡ Some t → IsIn t (leaves_of (closure_of items us)) → IsLast us items n
+leaf_last : (us : List Update) (items : List ℕ) (n : ℕ) (t : Update) → IsCausal [] us → slice_get us n ≡ Some t → IsIn t (leaves_of (closure_of items us)) → IsLastOfChain us items n
 unfolding leaves_of
 leaf_last us items n t c at on =
     let f = from_filter (λ (x : Update). not (is_prev_in (closure_of items us) (id_of_update x))) t (closure_of items us) on in
@@ -185,7 +185,7 @@ leaf_last us items n t c at on =
     }
 
 -- what stands at the last places is the leaves of the past
-pub last_are_leaves : (us : List Update) (items found : List ℕ) → IsCausal [] us → AreLast us items found → HaveSame (standing us found) (leaves_of (closure_of items us))
+pub last_are_leaves : (us : List Update) (items found : List ℕ) → IsCausal [] us → AreLast us items found → HaveSame (updates_at_places us found) (leaves_of (closure_of items us))
 unfolding leaves_of
 last_are_leaves us items found c are = record {
   to = λ t on.
@@ -202,11 +202,11 @@ pub spots_long : (us : List Update) → length (spots (prev_places us)) ≡ leng
 spots_long us = (all_placed (prev_places us)).size ∙ length-map us (λ (t : Update). place_of_prev t.prev us)
 
 -- what stands in a chain is one of the updates
-pub at_within : (us : List Update) (n chain place : ℕ) → IsAt (prev_places us) n chain place → n < length us
+pub at_within : (us : List Update) (n chain place : ℕ) → IsSpotAt (prev_places us) n chain place → n < length us
 at_within us n chain place at = omega (arith, slice_get_within (spots (prev_places us)) n _ at, spots_long us)
 
 -- an item at the next place is a child
-next_is_child : (us : List Update) (n m chain place : ℕ) → IsAt (prev_places us) n chain place → IsAt (prev_places us) m chain (suc place) → IsChild us n m
+next_is_child : (us : List Update) (n m chain place : ℕ) → IsSpotAt (prev_places us) n chain place → IsSpotAt (prev_places us) m chain (suc place) → IsChild us n m
 next_is_child us n m chain place at next =
     let b = (all_placed (prev_places us)).back m chain place next in
     let same : b.prev ≡ n = (all_placed (prev_places us)).once b.prev n (record { chain = chain; place = place }) b.spot at in
@@ -215,8 +215,8 @@ next_is_child us n m chain place at next =
 -- the way back on a chain, from its last item: none that stands before the place was passed
 pub record IsReached (us : List Update) (chain count n : ℕ) : Type 0 where
   pub place : ℕ
-  pub at : IsAt (prev_places us) n chain place
-  pub last : (m other : ℕ) → IsAt (prev_places us) m chain other → other < count → other ≤ place
+  pub at : IsSpotAt (prev_places us) n chain place
+  pub last : (m other : ℕ) → IsSpotAt (prev_places us) m chain other → other < count → other ≤ place
 
 pub tip_is_reached : (us : List Update) (chain count tip : ℕ) → IsCausal [] us → IsTip (spots (prev_places us)) chain tip → IsReached us chain count tip
 tip_is_reached us chain count tip causal t = record { place = t.place; at = t.own; last = λ m other at low. tip_is_highest (prev_places us) chain tip (prevs_are_earlier us causal) t m other at }
@@ -224,14 +224,14 @@ tip_is_reached us chain count tip causal t = record { place = t.place; at = t.ow
 -- the item before one that stands at the place or behind it
 pub before_is_reached : (us : List Update) (chain count n : ℕ) → (count ≡ 0 → ⊥) → (r : IsReached us chain count n) → count ≤ r.place → (p : ℕ) × ((slice_get (prev_places us) n ≡ Some (Some p)) × IsReached us chain count p)
 before_is_reached us chain count n some r high = by_place r.place r.at high r.last where
-  by_place : (place : ℕ) → IsAt (prev_places us) n chain place → count ≤ place → ((m other : ℕ) → IsAt (prev_places us) m chain other → other < count → other ≤ place) → (p : ℕ) × ((slice_get (prev_places us) n ≡ Some (Some p)) × IsReached us chain count p)
+  by_place : (place : ℕ) → IsSpotAt (prev_places us) n chain place → count ≤ place → ((m other : ℕ) → IsSpotAt (prev_places us) m chain other → other < count → other ≤ place) → (p : ℕ) × ((slice_get (prev_places us) n ≡ Some (Some p)) × IsReached us chain count p)
   by_place zero at high last = absurd (some (omega (arith, high)))
   by_place (suc place) at high last =
       let b = (all_placed (prev_places us)).back n chain place at in
       (b.prev, (b.is, record { place = place; at = b.spot; last = λ m other at_m low. omega (arith, low, high) }))
 
 -- the last of a chain that a row counts is the only one that can be a leaf
-pub last_is_counted : (us : List Update) (items row : List ℕ) (chain m n place : ℕ) → IsJoinedRow us items row → IsLastCounted us chain (slice_index row chain) m → IsAt (prev_places us) n chain place → IsLast us items n → m ≡ n
+pub last_is_counted : (us : List Update) (items row : List ℕ) (chain m n place : ℕ) → IsJoinedRow us items row → IsLastCounted us chain (slice_index row chain) m → IsSpotAt (prev_places us) n chain place → IsLastOfChain us items n → m ≡ n
 last_is_counted us items row chain m n place joined counted at last =
     let covered = last.covered in
     let low = joined.counted covered.0 n chain place covered.1.0 at covered.1.1 in
@@ -239,16 +239,16 @@ last_is_counted us items row chain m n place joined counted at last =
       by_test : (b : Bool) → nat_lt place counted.place ≡ b → place ≤ counted.place → m ≡ n
       by_test false is le =
           let same : counted.place ≡ place = omega (arith, le, ltb-false place counted.place is) in
-          (all_placed (prev_places us)).once m n (record { chain = chain; place = place }) (subst (λ (k : ℕ). IsAt (prev_places us) m chain k) same counted.at) at
+          (all_placed (prev_places us)).once m n (record { chain = chain; place = place }) (subst (λ (k : ℕ). IsSpotAt (prev_places us) m chain k) same counted.at) at
       by_test true is le =
           let lower = ltb-true place counted.place is in
           let steps : counted.place ≡ (counted.place - suc place) + suc place = omega (arith, lower) in
-          let x = back_by (prev_places us) (spots (prev_places us)) (all_placed (prev_places us)) (counted.place - suc place) m chain (suc place) (subst (λ (k : ℕ). IsAt (prev_places us) m chain k) steps counted.at) in
+          let x = back_by (prev_places us) (spots (prev_places us)) (all_placed (prev_places us)) (counted.place - suc place) m chain (suc place) (subst (λ (k : ℕ). IsSpotAt (prev_places us) m chain k) steps counted.at) in
           let child = is_child us n x.from (next_is_child us n x.from chain place at x.spot) in
           absurd (last.childless x.from child (joined.only x.from chain (suc place) x.spot (omega (arith, lower, counted.counted))))
 
 -- a row that counts nothing of a chain leaves it without a leaf
-pub none_is_counted : (us : List Update) (items row : List ℕ) (chain n place : ℕ) → IsJoinedRow us items row → slice_index row chain ≡ 0 → IsAt (prev_places us) n chain place → IsLast us items n → ⊥
+pub none_is_counted : (us : List Update) (items row : List ℕ) (chain n place : ℕ) → IsJoinedRow us items row → slice_index row chain ≡ 0 → IsSpotAt (prev_places us) n chain place → IsLastOfChain us items n → ⊥
 none_is_counted us items row chain n place joined none at last =
     let covered = last.covered in
     let low = joined.counted covered.0 n chain place covered.1.0 at covered.1.1 in
@@ -258,23 +258,23 @@ none_is_counted us items row chain n place joined none at last =
 
 -- what is found once this many chains were looked at
 pub record AreFound (us : List Update) (items found : List ℕ) (i : ℕ) : Type 0 where
-  pub only : (n : ℕ) → IsIn n found → IsLast us items n
-  pub all : (chain : ℕ) → chain < i → (n place : ℕ) → IsAt (prev_places us) n chain place → IsLast us items n → IsIn n found
+  pub only : (n : ℕ) → IsIn n found → IsLastOfChain us items n
+  pub all : (chain : ℕ) → chain < i → (n place : ℕ) → IsSpotAt (prev_places us) n chain place → IsLastOfChain us items n → IsIn n found
 
-pub found_none : (us : List Update) (items found : List ℕ) (i : ℕ) → AreFound us items found i → ((n place : ℕ) → IsAt (prev_places us) n i place → IsLast us items n → ⊥) → AreFound us items found (i + 1)
+pub found_none : (us : List Update) (items found : List ℕ) (i : ℕ) → AreFound us items found i → ((n place : ℕ) → IsSpotAt (prev_places us) n i place → IsLastOfChain us items n → ⊥) → AreFound us items found (i + 1)
 found_none us items found i f none = record {
   only = f.only;
-  all = below_more (λ chain. (n place : ℕ) → IsAt (prev_places us) n chain place → IsLast us items n → IsIn n found) i f.all (λ n place at last. absurd (none n place at last));
+  all = below_more (λ chain. (n place : ℕ) → IsSpotAt (prev_places us) n chain place → IsLastOfChain us items n → IsIn n found) i f.all (λ n place at last. absurd (none n place at last));
 }
 
-pub found_one : (us : List Update) (items found : List ℕ) (i m : ℕ) → AreFound us items found i → IsLast us items m → ((n place : ℕ) → IsAt (prev_places us) n i place → IsLast us items n → m ≡ n) → AreFound us items (found ++ m ∷ []) (i + 1)
+pub found_one : (us : List Update) (items found : List ℕ) (i m : ℕ) → AreFound us items found i → IsLastOfChain us items m → ((n place : ℕ) → IsSpotAt (prev_places us) n i place → IsLastOfChain us items n → m ≡ n) → AreFound us items (found ++ m ∷ []) (i + 1)
 found_one us items found i m f here one = record {
-  only = λ n on. elim (in_pushed n found m on) [ inl old ↦ f.only n old | inr new ↦ subst (IsLast us items) new here ];
-  all = below_more (λ chain. (n place : ℕ) → IsAt (prev_places us) n chain place → IsLast us items n → IsIn n (found ++ m ∷ [])) i (λ chain below n place at last. in_left n found (m ∷ []) (f.all chain below n place at last)) (λ n place at last. subst (λ (k : ℕ). IsIn k (found ++ m ∷ [])) (one n place at last) (in_last found m));
+  only = λ n on. elim (in_pushed n found m on) [ inl old ↦ f.only n old | inr new ↦ subst (IsLastOfChain us items) new here ];
+  all = below_more (λ chain. (n place : ℕ) → IsSpotAt (prev_places us) n chain place → IsLastOfChain us items n → IsIn n (found ++ m ∷ [])) i (λ chain below n place at last. in_left n found (m ∷ []) (f.all chain below n place at last)) (λ n place at last. subst (λ (k : ℕ). IsIn k (found ++ m ∷ [])) (one n place at last) (in_last found m));
 }
 
 -- once all were
-pub found_all : (us : List Update) (items found : List ℕ) (i : ℕ) → number_of_chains (prev_places us) ≤ i → AreFound us items found i → AreLast us items found
+pub found_all : (us : List Update) (items found : List ℕ) (i : ℕ) → chains_in (prev_places us) ≤ i → AreFound us items found i → AreLast us items found
 found_all us items found i whole f n lt = (
   f.only n,
   (λ last.

@@ -14,8 +14,8 @@ use Rattle.depot_model.proofs.Members.{in_pushed}
 use Rattle.depot_model.proofs.Orders.{causal_front, parent_is_there, parents_of_last, leads_trans}
 use Rattle.depot_virtual.specs.declared.Spot.{Spot}
 use Rattle.depot_virtual.proofs.Placing.{spot_at}
-use Rattle.depot_virtual.specs.Spots.{chains_of, chain_length as spots_length}
-use Rattle.depot_clocks.specs.ChainItems.{ChainItem, LeadsTo, IsUpTo, IsAt, chain_length, number_of_chains, Precedes as ItemPrecedes}
+use Rattle.depot_virtual.specs.Spots.{chains_of, spots_length}
+use Rattle.depot_clocks.specs.ChainItems.{ChainItem, LeadsTo, IsUpTo, IsChainItemAt, chain_length, number_of_chains, ItemPrecedes}
 use Rattle.depot_clocks.proofs.ItemPaths.{up_to_trans}
 use Rattle.depot_base.proofs.GeneralLaws.{from_pushed, at_place}
 use Rattle.depot_graph.proofs.Front.{apart}
@@ -180,9 +180,9 @@ spotted_number items placed same = mapped items ∙ ap chains_of same where
   mapped : (xs : List ChainItem) → number_of_chains xs ≡ chains_of (map (λ x. record { chain = x.chain; place = x.place }) xs)
   mapped xs = sym (sum_by-map (λ (s : Spot). cond (eqb s.place 0) 1 0) (λ (x : ChainItem). record { chain = x.chain; place = x.place }) xs)
 
-pub spotted_at : (items : List ChainItem) (placed : List Spot) (item chain place : ℕ) → AreSpotted items placed → slice_get placed item ≡ Some (record { chain = chain; place = place }) → IsAt items item chain place
+pub spotted_at : (items : List ChainItem) (placed : List Spot) (item chain place : ℕ) → AreSpotted items placed → slice_get placed item ≡ Some (record { chain = chain; place = place }) → IsChainItemAt items item chain place
 spotted_at items placed item chain place same at = found items item (ap (λ (l : List Spot). slice_get l item) same ∙ at) where
-  found : (xs : List ChainItem) (n : ℕ) → slice_get {X = Spot} (map (λ x. spot_at x.chain x.place) xs) n ≡ Some (spot_at chain place) → IsAt xs n chain place
+  found : (xs : List ChainItem) (n : ℕ) → slice_get {X = Spot} (map (λ x. spot_at x.chain x.place) xs) n ≡ Some (spot_at chain place) → IsChainItemAt xs n chain place
   found [] n e = absurd (none n e) where
     none : (k : ℕ) → slice_get {X = Spot} [] k ≡ Some (spot_at chain place) → ⊥
     none k at = cc

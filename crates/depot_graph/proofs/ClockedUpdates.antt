@@ -17,7 +17,7 @@ use Rattle.depot_virtual.specs.declared.Spot.{Spot}
 use Rattle.depot_virtual.specs.Spots.{next_spot, spots, spots_behind, chains_of}
 use Rattle.depot_virtual.proofs.Placing.{spots_next}
 use Rattle.depot_virtual.proofs.ChainLengths.{next_place as spot_place, next_chain_low, next_behind}
-use Rattle.depot_clocks.specs.ChainItems.{ChainItem, IsLinked, chain_length, number_of_chains, Precedes as ItemPrecedes}
+use Rattle.depot_clocks.specs.ChainItems.{ChainItem, IsLinked, chain_length, number_of_chains, ItemPrecedes}
 use Rattle.depot_base.proofs.MembershipLaws.{from_contains, to_contains}
 use Rattle.depot_index.proofs.ItemLists.{all_of_in}
 use Rattle.depot_graph.specs.Kept.{prev_places}

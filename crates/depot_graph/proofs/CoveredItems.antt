@@ -18,7 +18,7 @@ use Rattle.depot_model.specs.Texts.{id_of_update}
 use Rattle.depot_model.proofs.Elements.{in_at}
 use Rattle.depot_model.proofs.Members.{any_from, any_to, among_from, among_to}
 use Rattle.depot_model.proofs.Pasts.{past_of_listed}
-use Rattle.depot_virtual.specs.Spots.{spots, IsAt, number_of_chains}
+use Rattle.depot_virtual.specs.Spots.{spots, IsSpotAt, chains_in}
 use Rattle.depot_virtual.proofs.Placing.{all_placed}
 use Rattle.depot_graph.specs.Kept.{prev_places}
 use Rattle.depot_graph.specs.UpdateRows.{IsUpToAt, CountsAllAt, IsJoinedRow}
@@ -96,14 +96,14 @@ uncovered us ids item u c at apart = false_from_ne_true _ (λ yes.
 -- ---- joined rows
 
 -- such a row counts an item exactly where that is covered
-pub row_covers : (us : List Update) (ids : List (List ℕ)) (row : List ℕ) (item chain place : ℕ) (u : Update) → IsCausal [] us → slice_get us item ≡ Some u → IsAt (prev_places us) item chain place → IsJoinedRow us (places_of us ids) row → is_covered us ids u ≡ nat_lt place (slice_index row chain)
+pub row_covers : (us : List Update) (ids : List (List ℕ)) (row : List ℕ) (item chain place : ℕ) (u : Update) → IsCausal [] us → slice_get us item ≡ Some u → IsSpotAt (prev_places us) item chain place → IsJoinedRow us (places_of us ids) row → is_covered us ids u ≡ nat_lt place (slice_index row chain)
 row_covers us ids row item chain place u c at spot joined = by_test (nat_lt place (slice_index row chain)) refl where
   by_test : (told : Bool) → nat_lt place (slice_index row chain) ≡ told → is_covered us ids u ≡ told
   by_test true below = let p = joined.only item chain place spot (ltb-true place (slice_index row chain) below) in covered us ids item p.0 u c at p.1.0 p.1.1
   by_test false above = uncovered us ids item u c at (λ m on up. both_ways (nat_lt place (slice_index row chain)) above (lt-ltb place (slice_index row chain) (joined.counted m item chain place on spot up)))
 
 -- and the row has an entry for its chain
-pub chain_inside : (us : List Update) (row : List ℕ) (item chain place : ℕ) → length row ≡ number_of_chains (prev_places us) → IsAt (prev_places us) item chain place → chain < length row
+pub chain_inside : (us : List Update) (row : List ℕ) (item chain place : ℕ) → length row ≡ chains_in (prev_places us) → IsSpotAt (prev_places us) item chain place → chain < length row
 chain_inside us row item chain place long spot = let low = (all_placed (prev_places us)).chain item (record { chain = chain; place = place }) spot in omega (arith, low, long)
 
 up_through : (us : List Update) (a b c : ℕ) → IsUpToAt us a b → IsUpToAt us b c → IsUpToAt us a c

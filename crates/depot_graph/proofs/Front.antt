@@ -1,5 +1,5 @@
 -- The front of a list in which each parent stands before its children.
-use Rattle.std.proofs.Common.{◌≡◌, ℕ, zero, suc, ◌<◌, List, [], ◌∷◌, ◌++◌, take, Some, true, refl, ap, subst, ◌∙◌, inl, inr, arith, slice_get}
+use Rattle.std.proofs.Common.{◌≡◌, ℕ, List, [], ◌∷◌, ◌++◌, true, refl, ap, subst, ◌∙◌, inl, inr}
 use Rattle.std.specs.Str.{bytes_eq}
 use Rattle.std.proofs.lemmas.Slice.Eq.{bytes_eq-Decides}
 use Rattle.depot_base.specs.declared.update.Update.{Update}
@@ -12,13 +12,6 @@ use Rattle.depot_model.proofs.Orders.{fresh, one_of_id, causal_front, parent_is_
 use Rattle.depot_model.proofs.Pasts.{past_in}
 
 -- ---- places
-
--- the element at a place before n is one of the first n
-pub in_take : {X : Type 0} (xs : List X) (n a : ℕ) (x : X) → slice_get xs a ≡ Some x → a < n → IsIn x (take n xs)
-in_take [] n a x e lt = absurd cc
-in_take (y ∷ ys) zero a x e lt = absurd (omega arith)
-in_take (y ∷ ys) (suc n) zero x e lt = let same : y ≡ x = cc in inl same
-in_take (y ∷ ys) (suc n) (suc a) x e lt = inr (in_take ys n a x e (omega arith))
 
 -- ---- what stands in front
 

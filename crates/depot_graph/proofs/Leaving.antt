@@ -26,7 +26,7 @@ use Rattle.depot_model.proofs.RisingLists.{HaveSame}
 use Rattle.depot_model.proofs.RisingUpdates.{HaveOwnIds, own_ids_from_causal, own_ids_filter, same_by_id}
 use Rattle.depot_graph.proofs.ClockedItems.{place_of}
 use Rattle.depot_graph.specs.Closure.{closure_of}
-use Rattle.depot_graph.specs.PastLeaves.{row_of, leaf_in, standing, IsUnseen}
+use Rattle.depot_graph.specs.PastLeaves.{row_of, leaf_in, updates_at_places, IsUnseen}
 use Rattle.depot_graph.specs.declared.leaf.Leaf.{Leaf}
 use Rattle.depot_graph.proofs.ItemPlaces.{has_place, own_place}
 use Rattle.depot_graph.proofs.ChainLeaves.{leaves_stand}
@@ -49,15 +49,15 @@ unfolding leaves_of
 leaves_apart s apart = own_ids_filter _ s apart
 
 -- that of all
-pub hash_of_all : (us : List Update) (leaves : List ℕ) (keys : List Leaf) (hash : List ℕ) → IsCausal [] us → AreLeaves us leaves → hash ≡ sha256 (flat_map row_of keys) → keys ≡ map (leaf_in us) (by_id (standing us leaves)) → hash ≡ history_hash us
+pub hash_of_all : (us : List Update) (leaves : List ℕ) (keys : List Leaf) (hash : List ℕ) → IsCausal [] us → AreLeaves us leaves → hash ≡ sha256 (flat_map row_of keys) → keys ≡ map (leaf_in us) (by_id (updates_at_places us leaves)) → hash ≡ history_hash us
 hash_of_all us leaves keys hash c are is sorted =
-    hash_is us us (standing us leaves) keys hash is sorted (same_by_id (standing us leaves) (leaves_of us) (standing_apart us leaves c) (leaves_apart us (own_ids_from_causal [] us c)) (leaves_stand us leaves c are))
+    hash_is us us (updates_at_places us leaves) keys hash is sorted (same_by_id (updates_at_places us leaves) (leaves_of us) (standing_apart us leaves c) (leaves_apart us (own_ids_from_causal [] us c)) (leaves_stand us leaves c are))
 
 -- that of a past
-pub hash_of_past : (us : List Update) (items found : List ℕ) (keys : List Leaf) (hash : List ℕ) → IsCausal [] us → HaveSame (standing us found) (leaves_of (closure_of items us)) → hash ≡ sha256 (flat_map row_of keys) → keys ≡ map (leaf_in us) (by_id (standing us found)) → hash ≡ history_hash (closure_of items us)
+pub hash_of_past : (us : List Update) (items found : List ℕ) (keys : List Leaf) (hash : List ℕ) → IsCausal [] us → HaveSame (updates_at_places us found) (leaves_of (closure_of items us)) → hash ≡ sha256 (flat_map row_of keys) → keys ≡ map (leaf_in us) (by_id (updates_at_places us found)) → hash ≡ history_hash (closure_of items us)
 unfolding closure_of
 hash_of_past us items found keys hash c same is sorted =
-    hash_is us (closure_of items us) (standing us found) keys hash is sorted (same_by_id (standing us found) (leaves_of (closure_of items us)) (standing_apart us found c) (leaves_apart (closure_of items us) (reached_apart _ us (own_ids_from_causal [] us c))) same)
+    hash_is us (closure_of items us) (updates_at_places us found) keys hash is sorted (same_by_id (updates_at_places us found) (leaves_of (closure_of items us)) (standing_apart us found c) (leaves_apart (closure_of items us) (reached_apart _ us (own_ids_from_causal [] us c))) same)
 
 -- ---- what precedes the last own update
 
@@ -118,11 +118,11 @@ is_of_unseen us me h last n t c is at e =
     }
 
 pub entries_are : (us : List Update) (me : ℕ) (h : List ℕ) (last : Option ℕ) (leaves unseen : List ℕ) → IsCausal [] us → AreLeaves us leaves → place_of_prev h us ≡ last
-    → ((n : ℕ) → (IsIn n unseen → IsIn n leaves × IsUnseen us me last n) × (IsIn n leaves × IsUnseen us me last n → IsIn n unseen)) → by_id (standing us unseen) ≡ next_entries me us h
+    → ((n : ℕ) → (IsIn n unseen → IsIn n leaves × IsUnseen us me last n) × (IsIn n leaves × IsUnseen us me last n → IsIn n unseen)) → by_id (updates_at_places us unseen) ≡ next_entries me us h
 unfolding next_entries
 entries_are us me h last leaves unseen c are is each =
     let all = leaves_stand us leaves c are in
-    same_by_id (standing us unseen) (filter (is_unseen me us h) (leaves_of us)) (standing_apart us unseen c) (own_ids_filter (is_unseen me us h) (leaves_of us) (leaves_apart us (own_ids_from_causal [] us c))) (record {
+    same_by_id (updates_at_places us unseen) (filter (is_unseen me us h) (leaves_of us)) (standing_apart us unseen c) (own_ids_filter (is_unseen me us h) (leaves_of us) (leaves_apart us (own_ids_from_causal [] us c))) (record {
       to = λ t on.
           let p = of_place us unseen t (standing_is us unseen t c on) in
           let known = (each p.0).0 p.1.0 in

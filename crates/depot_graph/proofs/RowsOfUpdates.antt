@@ -6,9 +6,9 @@ use Rattle.depot_model.specs.Lists.{IsIn}
 use Rattle.depot_model.specs.Order.{IsCausal, Precedes}
 use Rattle.depot_model.proofs.Elements.{both_at}
 use Rattle.depot_virtual.specs.declared.Spot.{Spot}
-use Rattle.depot_virtual.specs.Spots.{spots, chains_of, IsAt as SpotIsAt}
+use Rattle.depot_virtual.specs.Spots.{spots, chains_of, IsSpotAt as SpotIsAt}
 use Rattle.depot_virtual.proofs.Placing.{all_placed}
-use Rattle.depot_clocks.specs.ChainItems.{ChainItem, IsUpTo, IsCount, IsOfPast, IsTrueOf, CountsAll, IsWithin, number_of_chains, JoinsUpTo, IsJoined}
+use Rattle.depot_clocks.specs.ChainItems.{ChainItem, IsUpTo, IsCount, IsOfPast, IsTrueOf, CountsAll, IsWithin, number_of_chains, JoinsUpTo, IsRowJoined}
 use Rattle.depot_clocks.proofs.ItemPaths.{Standing, standing}
 use Rattle.depot_graph.specs.Clocked.{clock_items}
 use Rattle.depot_graph.specs.Kept.{prev_places}
@@ -118,7 +118,7 @@ in_place (n ∷ ns) zero low = inl refl
 in_place (n ∷ ns) (suc k) low = inr (in_place ns k (omega arith))
 
 -- the joined row of clocks that are those of the updates
-joined_row_is : (us : List Update) (items : List ChainItem) (ms row : List ℕ) → IsCausal [] us → items ≡ clock_items us → ((k : ℕ) → k < length ms → slice_index ms k < length us) → IsJoined items ms row → IsJoinedRow us ms row
+joined_row_is : (us : List Update) (items : List ChainItem) (ms row : List ℕ) → IsCausal [] us → items ≡ clock_items us → ((k : ℕ) → k < length ms → slice_index ms k < length us) → IsRowJoined items ms row → IsJoinedRow us ms row
 joined_row_is us items ms row c clocked inside joined =
     let long : length row ≡ chains_of (spots (prev_places us)) = joined.long ∙ (ap number_of_chains clocked ∙ clock_number us c) in
     let joins : (chain : ℕ) → chain < length row → JoinsUpTo (clock_items us) ms (length ms) chain (slice_index row chain) = λ chain low. subst (λ (xs : List ChainItem). JoinsUpTo xs ms (length ms) chain (slice_index row chain)) clocked (joined.joins chain low) in
@@ -150,8 +150,8 @@ item_inside items a m low (zero, same) = omega (arith, low, same)
 item_inside items a m low (suc steps, (p, (leads, rest))) = slice_get_within items m leads.0 leads.1.0
 
 -- a joined row of the updates is one of clocks that are theirs
-pub joined_row_from : (us : List Update) (items : List ChainItem) (ms row : List ℕ) → IsCausal [] us → items ≡ clock_items us → IsJoinedRow us ms row → IsJoined items ms row
-joined_row_from us items ms row c clocked joined = subst (λ (xs : List ChainItem). IsJoined xs ms row) (sym clocked) (record {
+pub joined_row_from : (us : List Update) (items : List ChainItem) (ms row : List ℕ) → IsCausal [] us → items ≡ clock_items us → IsJoinedRow us ms row → IsRowJoined items ms row
+joined_row_from us items ms row c clocked joined = subst (λ (xs : List ChainItem). IsRowJoined xs ms row) (sym clocked) (record {
   long = joined.long ∙ sym (clock_number us c);
   joins = λ chain low. record {
     there = omega (arith, joined.there chain low, spotted_length (clock_items us) (spots (prev_places us)) chain (clock_spotted us c));
@@ -172,6 +172,6 @@ joined_row_from us items ms row c clocked joined = subst (λ (xs : List ChainIte
 
 -- where memory was found for it
 pub joined_row_if : {T E : Type 0} (us : List Update) (items : List ChainItem) (ms : List ℕ) (view : T → List ℕ) (r : Result T E) → IsCausal [] us → items ≡ clock_items us → ((k : ℕ) → k < length ms → slice_index ms k < length us)
-    → IfOk r (λ v. IsJoined items ms (view v)) → IfOk r (λ v. IsJoinedRow us ms (view v))
+    → IfOk r (λ v. IsRowJoined items ms (view v)) → IfOk r (λ v. IsJoinedRow us ms (view v))
 joined_row_if us items ms view (Ok v) c clocked inside joined = joined_row_is us items ms (view v) c clocked inside joined
 joined_row_if us items ms view (Err e) c clocked inside joined = tt

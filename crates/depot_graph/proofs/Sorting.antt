@@ -21,7 +21,7 @@ use Rattle.depot_model.proofs.Orders.{one_of_id}
 use Rattle.depot_model.proofs.RisingLists.{HaveSame}
 use Rattle.depot_model.proofs.RisingUpdates.{HaveOwnIds, own_ids_from_causal, own_ids_filter, Rises, rises_by_id, from_by_id, in_by_id, same_by_id}
 use Rattle.depot_graph.specs.declared.leaf.Leaf.{Leaf}
-use Rattle.depot_graph.specs.PastLeaves.{leaf_in, standing}
+use Rattle.depot_graph.specs.PastLeaves.{leaf_in, updates_at_places}
 use Rattle.depot_graph.proofs.ItemPlaces.{own_place}
 use Rattle.depot_graph.proofs.Reaching.{of_places, at_places}
 
@@ -109,26 +109,26 @@ insert_same us t (u ∷ ts) rise (inr there) =
 -- ---- what stands at some places
 
 -- those that stand at some places are the updates there
-pub standing_is : (us : List Update) (places : List ℕ) (t : Update) → IsCausal [] us → IsIn t (standing us places) → IsIn t (updates_at us places)
+pub standing_is : (us : List Update) (places : List ℕ) (t : Update) → IsCausal [] us → IsIn t (updates_at_places us places) → IsIn t (updates_at us places)
 standing_is us places t c on =
     let f = from_filter (λ (u : Update). is_among (id_of_update u) (map id_of_update (updates_at us places))) t us on in
     of_places us places t c f.0 (among_to (id_of_update t) (map id_of_update (updates_at us places)) f.1)
 
-pub is_standing : (us : List Update) (places : List ℕ) (t : Update) → IsIn t (updates_at us places) → IsIn t (standing us places)
+pub is_standing : (us : List Update) (places : List ℕ) (t : Update) → IsIn t (updates_at us places) → IsIn t (updates_at_places us places)
 is_standing us places t on =
     in_filter (λ (u : Update). is_among (id_of_update u) (map id_of_update (updates_at us places))) t us (at_places us places t on)
     (among_from (id_of_update t) (map id_of_update (updates_at us places)) (in_map id_of_update t (updates_at us places) on))
 
-pub standing_apart : (us : List Update) (places : List ℕ) → IsCausal [] us → HaveOwnIds (standing us places)
+pub standing_apart : (us : List Update) (places : List ℕ) → IsCausal [] us → HaveOwnIds (updates_at_places us places)
 standing_apart us places c = own_ids_filter (λ (u : Update). is_among (id_of_update u) (map id_of_update (updates_at us places))) us (own_ids_from_causal [] us c)
 
 -- what is sorted is of the list
-pub sorted_within : (us : List Update) (places : List ℕ) (t : Update) → IsIn t (by_id (standing us places)) → IsIn t us
-sorted_within us places t on = (from_filter (λ (u : Update). is_among (id_of_update u) (map id_of_update (updates_at us places))) t us (from_by_id t (standing us places) on)).0
+pub sorted_within : (us : List Update) (places : List ℕ) (t : Update) → IsIn t (by_id (updates_at_places us places)) → IsIn t us
+sorted_within us places t on = (from_filter (λ (u : Update). is_among (id_of_update u) (map id_of_update (updates_at us places))) t us (from_by_id t (updates_at_places us places) on)).0
 
 -- ---- one place after the other
 
-pub sort_begins : (us : List Update) (keys : List Leaf) → keys ≡ [] → keys ≡ map (leaf_in us) (by_id (standing us []))
+pub sort_begins : (us : List Update) (keys : List Leaf) → keys ≡ [] → keys ≡ map (leaf_in us) (by_id (updates_at_places us []))
 unfolding by_id
 sort_begins us keys none = none ∙ ap (λ (ts : List Update). map (leaf_in us) (by_id ts)) (sym (none_stands us)) where
   none_stands : (ts : List Update) → filter (λ (u : Update). is_among (id_of_update u) []) ts ≡ []
@@ -136,16 +136,16 @@ sort_begins us keys none = none ∙ ap (λ (ts : List Update). map (leaf_in us) 
   none_stands (t ∷ ts) = none_stands ts
 
 -- the members then, where t stood before and where it didn't
-more_same : (us : List Update) (front more : List ℕ) (t : Update) → IsCausal [] us → updates_at us more ≡ updates_at us front ++ t ∷ [] → IsIn t (standing us front) → HaveSame (standing us front) (standing us more)
+more_same : (us : List Update) (front more : List ℕ) (t : Update) → IsCausal [] us → updates_at us more ≡ updates_at us front ++ t ∷ [] → IsIn t (updates_at_places us front) → HaveSame (updates_at_places us front) (updates_at_places us more)
 more_same us front more t c are there = record {
   to = λ u on. is_standing us more u (subst (λ (ts : List Update). IsIn u ts) (sym are) (in_left u (updates_at us front) (t ∷ []) (standing_is us front u c on)));
   back = λ u on. elim (in_parts u (updates_at us front) (t ∷ []) (subst (λ (ts : List Update). IsIn u ts) are (standing_is us more u c on))) [
     | inl old ↦ is_standing us front u old
-    | inr new ↦ elim new [ inl here ↦ subst (λ (x : Update). IsIn x (standing us front)) here there | inr never ↦ absurd never ]
+    | inr new ↦ elim new [ inl here ↦ subst (λ (x : Update). IsIn x (updates_at_places us front)) here there | inr never ↦ absurd never ]
   ];
 }
 
-more_new : (us : List Update) (front more : List ℕ) (t : Update) → IsCausal [] us → updates_at us more ≡ updates_at us front ++ t ∷ [] → HaveSame (t ∷ standing us front) (standing us more)
+more_new : (us : List Update) (front more : List ℕ) (t : Update) → IsCausal [] us → updates_at us more ≡ updates_at us front ++ t ∷ [] → HaveSame (t ∷ updates_at_places us front) (updates_at_places us more)
 more_new us front more t c are = record {
   to = λ u on. is_standing us more u (subst (λ (ts : List Update). IsIn u ts) (sym are) (elim on [
     | inl here ↦ in_right u (updates_at us front) (t ∷ []) (inl here)
@@ -158,11 +158,11 @@ more_new us front more t c are = record {
 }
 
 pub sort_more : (us : List Update) (places : List ℕ) (i n : ℕ) (t : Update) (keys new : List Leaf) → IsCausal [] us → i < length places → n ≡ get_or places i 0 → slice_get us n ≡ Some t
-    → keys ≡ map (leaf_in us) (by_id (standing us (take i places))) → new ≡ insert_key leaf_cmp keys (leaf_in us t) → new ≡ map (leaf_in us) (by_id (standing us (take (i + 1) places)))
+    → keys ≡ map (leaf_in us) (by_id (updates_at_places us (take i places))) → new ≡ insert_key leaf_cmp keys (leaf_in us t) → new ≡ map (leaf_in us) (by_id (updates_at_places us (take (i + 1) places)))
 unfolding by_id
-sort_more us places i n t keys new c lt is at_n are now = by_test (is_among (id_of_update t) (map id_of_update (standing us (take i places)))) refl where
+sort_more us places i n t keys new c lt is at_n are now = by_test (is_among (id_of_update t) (map id_of_update (updates_at_places us (take i places)))) refl where
   old : List Update
-  old = standing us (take i places)
+  old = updates_at_places us (take i places)
 
   put : new ≡ insert_key leaf_cmp (map (leaf_in us) (by_id old)) (leaf_in us t)
   put = now ∙ ap (λ (ls : List Leaf). insert_key leaf_cmp ls (leaf_in us t)) are
@@ -170,18 +170,18 @@ sort_more us places i n t keys new c lt is at_n are now = by_test (is_among (id_
   longer : updates_at us (take (i + 1) places) ≡ updates_at us (take i places) ++ t ∷ []
   longer = one_more us places i n t lt is at_n
 
-  by_test : (b : Bool) → is_among (id_of_update t) (map id_of_update old) ≡ b → new ≡ map (leaf_in us) (by_id (standing us (take (i + 1) places)))
+  by_test : (b : Bool) → is_among (id_of_update t) (map id_of_update old) ≡ b → new ≡ map (leaf_in us) (by_id (updates_at_places us (take (i + 1) places)))
   by_test true there =
       let u = from_map id_of_update (id_of_update t) old (among_to (id_of_update t) (map id_of_update old) there) in
       let t_in = in_at us n t at_n in
       let same : u.0 ≡ t = one_of_id [] us u.0 t c (from_filter (λ (x : Update). is_among (id_of_update x) (map id_of_update (updates_at us (take i places)))) u.0 us u.1.0).0 t_in u.1.1 in
       let on : IsIn t old = subst (λ (x : Update). IsIn x old) same u.1.0 in
       put ∙ insert_same us t (by_id old) (rises_by_id old (standing_apart us (take i places) c)) (in_by_id t old on)
-      ∙ ap (map (leaf_in us)) (same_by_id old (standing us (take (i + 1) places)) (standing_apart us (take i places) c) (standing_apart us (take (i + 1) places) c) (more_same us (take i places) (take (i + 1) places) t c longer on))
+      ∙ ap (map (leaf_in us)) (same_by_id old (updates_at_places us (take (i + 1) places)) (standing_apart us (take i places) c) (standing_apart us (take (i + 1) places) c) (more_same us (take i places) (take (i + 1) places) t c longer on))
   by_test false new_id =
       let apart : (u : Update) → IsIn u old → id_of_update u ≡ id_of_update t → ⊥ = λ u on same. let hit = among_from (id_of_update t) (map id_of_update old) (subst (λ (h : List ℕ). IsIn h (map id_of_update old)) same (in_map id_of_update u old on)) in absurd cc in
       put ∙ insert_put us t (by_id old) (λ u on. apart u (from_by_id u old on))
-      ∙ ap (map (leaf_in us)) (same_by_id (t ∷ old) (standing us (take (i + 1) places)) (all_from (λ (u : Update). id_of_update u ≡ id_of_update t → ⊥) old apart, standing_apart us (take i places) c) (standing_apart us (take (i + 1) places) c) (more_new us (take i places) (take (i + 1) places) t c longer))
+      ∙ ap (map (leaf_in us)) (same_by_id (t ∷ old) (updates_at_places us (take (i + 1) places)) (all_from (λ (u : Update). id_of_update u ≡ id_of_update t → ⊥) old apart, standing_apart us (take i places) c) (standing_apart us (take (i + 1) places) c) (more_new us (take i places) (take (i + 1) places) t c longer))
 
 -- ---- what stands at a place
 

@@ -3,7 +3,7 @@ use Rattle.std.specs.Prelude.{◌≡◌, ◌<◌, ◌≤◌, ◌⊎◌, ◌↔�
 use Rattle.depot_base.specs.declared.update.Update.{Update}
 use Rattle.depot_model.specs.Lists.{IsIn}
 use Rattle.depot_model.specs.Items.{PrecedesAt, children_of}
-use Rattle.depot_virtual.specs.Spots.{IsAt}
+use Rattle.depot_virtual.specs.Spots.{IsSpotAt}
 use Rattle.depot_graph.specs.Kept.{prev_places}
 
 -- the item is one of these, or precedes one of them
@@ -15,17 +15,17 @@ abbrev pub HasCoveredChild : List Update → List ℕ → ℕ → Type 0
 HasCoveredChild us items n = (child : ℕ) × (IsIn child (children_of us n) × IsCovered us items child)
 
 -- the item is covered, and none whose prev it is
-pub record IsLast (us : List Update) (items : List ℕ) (n : ℕ) : Type 0 where
+pub record IsLastOfChain (us : List Update) (items : List ℕ) (n : ℕ) : Type 0 where
   pub covered : IsCovered us items n
   pub childless : (child : ℕ) → IsIn child (children_of us n) → IsCovered us items child → ⊥
 
 -- these are the items that are so
 abbrev pub AreLast : List Update → List ℕ → List ℕ → Type 0
-AreLast us items found = (n : ℕ) → n < length us → (IsIn n found ↔ IsLast us items n)
+AreLast us items found = (n : ℕ) → n < length us → (IsIn n found ↔ IsLastOfChain us items n)
 
 -- the item is the last of its chain that stands before this place
 pub record IsLastCounted (us : List Update) (chain count n : ℕ) : Type 0 where
   pub place : ℕ
-  pub at : IsAt (prev_places us) n chain place
+  pub at : IsSpotAt (prev_places us) n chain place
   pub counted : place < count
-  pub last : (m other : ℕ) → IsAt (prev_places us) m chain other → other < count → other ≤ place
+  pub last : (m other : ℕ) → IsSpotAt (prev_places us) m chain other → other < count → other ≤ place

@@ -18,8 +18,8 @@ abbrev pub leaf_in : List Update → Update → Leaf
 leaf_in us t = record { writer = t.writer; id = id_of_update t; clock = t.clock; item = unwrap_or (place_of_id (id_of_update t) us) 0 }
 
 -- the updates that stand at these places, each once, in the order of the list
-abbrev pub standing : List Update → List ℕ → List Update
-standing us places = filter (λ t. is_among (id_of_update t) (map id_of_update (updates_at us places))) us
+abbrev pub updates_at_places : List Update → List ℕ → List Update
+updates_at_places us places = filter (λ t. is_among (id_of_update t) (map id_of_update (updates_at us places))) us
 
 -- the update at a place is of another writer than this node, and doesn't precede the last one of the node
 pub record IsUnseen (us : List Update) (me : ℕ) (last : Option ℕ) (n : ℕ) : Type 0 where

@@ -4,7 +4,7 @@ use depot_virtual::Spot;
 
 /// What an update changes, found before the first write.
 #[derive(Drop)]
-pub struct Change {
+pub struct Addition {
     /// The item of its prev, if it has one.
     pub prev: Option<u32>,
     /// Where it stands in the forest by prev.

@@ -14,7 +14,7 @@
 //! What always holds: each parent of an item is an earlier item, and no two items have one id. Of each item a graph keeps
 //! the update, its children, its spot in the forest (`Chains`) and its row, which tells what precedes it (`Clocks`); of each
 //! key it keeps the latest writes in the order in which a read lists them (`KeyIndex`). All this is mended at each `add`, and
-//! an `add` that finds no memory changes nothing: what an update changes is found first (`Change`), and then written; the
+//! an `add` that finds no memory changes nothing: what an update changes is found first (`Addition`), and then written; the
 //! clocks, which alone may still find no memory then, come first.
 //!
 //! `before` looks at no more than 32 items of one chain. An `add` takes time in proportion to the update's parents times the

@@ -1,5 +1,5 @@
 //! How the latest items of a key are mended when an item more is written.
-ghost use Rattle.std.specs.Prelude.{◌≡◌, ◌<◌, ◌≤◌, ◌+◌, ℕ, List, length, All, vec_len};
+ghost use Rattle.std.specs.Prelude.{◌≡◌, ◌<◌, ◌≤◌, ◌+◌, length, All, vec_len};
 ghost use Rattle.std.specs.Vec.{vec_capacity};
 ghost use Rattle.depot_index.specs.LatestItems.{AreKept, HaveOneLatest, IsPlaceFor, IsMended};
 

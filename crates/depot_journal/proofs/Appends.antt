@@ -3,7 +3,7 @@ use Rattle.std.proofs.Common.{◌≡◌, ◌≤◌, inl, inr, ℕ, ◌+◌, ◌-
 use Rattle.std.proofs.lemmas.List.{take_all}
 use Rattle.depot_base.specs.declared.limits.TheConstants.{MOST_RECORDS}
 use Rattle.depot_base.specs.Disk.{Elapses, LeavesOnly, Only, Within}
-use Rattle.depot_base.specs.File.{AreWithinLimits, HasFront, HasRoom, IsCutShort, IsFileOf, PassesLimit, StandsFor, blocks, framed}
+use Rattle.depot_base.specs.File.{AreWithinLimits, HasBodyFront, FitsFile, AreBodiesCutShort, IsFileOf, PassesLimit, StandsFor, blocks, framed}
 use Rattle.depot_base.specs.declared.check.FullOf.{FullOf}
 use Rattle.depot_base.specs.declared.check.FullOf.TheVariants as full_of
 use Rattle.depot_journal.specs.WriteSteps.{FailsAt, StandsBetween, StandsTo}
@@ -19,10 +19,10 @@ blocks_many [] = omega arith
 blocks_many (x ∷ bodies) = omega (arith, blocks_many bodies, length-append (framed x) (blocks bodies), framed_long x)
 
 -- no number was cut
-pub counted : (old new : List (List ℕ)) (records bytes : ℕ) → HasRoom old records bytes → bytes ≡ min (length (blocks new)) (2 ^ 64 - 1) → bytes ≡ length (blocks new)
+pub counted : (old new : List (List ℕ)) (records bytes : ℕ) → FitsFile old records bytes → bytes ≡ min (length (blocks new)) (2 ^ 64 - 1) → bytes ≡ length (blocks new)
 counted old new records bytes room long = omega (arith, long, room.bytes_fit)
 
-pub room_counted : (old new : List (List ℕ)) (records bytes : ℕ) → HasRoom old records bytes → records ≡ length new → bytes ≡ length (blocks new) → HasRoom old (length new) (length (blocks new))
+pub room_counted : (old new : List (List ℕ)) (records bytes : ℕ) → FitsFile old records bytes → records ≡ length new → bytes ≡ length (blocks new) → FitsFile old (length new) (length (blocks new))
 room_counted old new records bytes room many long = record { records_fit = omega (arith, room.records_fit, many); bytes_fit = omega (arith, room.bytes_fit, long) }
 
 -- the limit is that of the records themselves
@@ -33,7 +33,7 @@ limit_counted old new records bytes full_of.Bytes number many long p = (p.0, ome
 limit_counted old new records bytes full_of.Writers number many long p = p
 
 -- a front of records for which there is room keeps to the limits
-pub front_within : (old new : List (List ℕ)) (n records bytes : ℕ) → HasRoom old records bytes → records ≡ length new → bytes ≡ length (blocks new) → AreWithinLimits (old ++ take n new)
+pub front_within : (old new : List (List ℕ)) (n records bytes : ℕ) → FitsFile old records bytes → records ≡ length new → bytes ≡ length (blocks new) → AreWithinLimits (old ++ take n new)
 front_within old new n records bytes room many long =
     let parts : length (blocks new) ≡ length (blocks (take n new)) + length (blocks (drop n new)) = ap (λ (l : List (List ℕ)). length (blocks l)) (sym (take-append-drop n new)) ∙ blocks-append (take n new) (drop n new) in
     let counts : length new ≡ length (take n new) + length (drop n new) = ap length (sym (take-append-drop n new)) ∙ length-append (take n new) (drop n new) in
@@ -42,7 +42,7 @@ front_within old new n records bytes room many long =
       bytes = omega (arith, blocks-append old (take n new), room.bytes_fit, long, parts);
     }
 
-pub all_within : (old new texts : List (List ℕ)) (records bytes : ℕ) → HasRoom old records bytes → records ≡ length new → bytes ≡ length (blocks new) → texts ≡ old ++ new → AreWithinLimits texts
+pub all_within : (old new texts : List (List ℕ)) (records bytes : ℕ) → FitsFile old records bytes → records ≡ length new → bytes ≡ length (blocks new) → texts ≡ old ++ new → AreWithinLimits texts
 all_within old new texts records bytes room many long is =
     subst AreWithinLimits (ap (λ (l : List (List ℕ)). old ++ l) (take_all (length new) new (omega arith)) ∙ sym is) (front_within old new (length new) records bytes room many long)
 
@@ -65,11 +65,11 @@ first : (file image : List ℕ) (old : List (List ℕ)) (end : ℕ) → StandsTo
 first file image old end stands within e = subst (λ (l : List ℕ). IsFileOf l old) (sym e) (inr (stands_of file old end stands, within))
 
 -- with none of them
-none_of : (old new : List (List ℕ)) (image : List ℕ) → IsFileOf image old → HasFront old new image
+none_of : (old new : List (List ℕ)) (image : List ℕ) → IsFileOf image old → HasBodyFront old new image
 none_of old new image has = record { count = 0; is = subst (IsFileOf image) (sym (append-nil old)) has }
 
 -- with so many of them
-some : (old at new : List (List ℕ)) (image : List ℕ) (records bytes : ℕ) → HasRoom old records bytes → records ≡ length new → bytes ≡ length (blocks new) → at ≡ old → StandsBetween at new image → HasFront old new image
+some : (old at new : List (List ℕ)) (image : List ℕ) (records bytes : ℕ) → FitsFile old records bytes → records ≡ length new → bytes ≡ length (blocks new) → at ≡ old → StandsBetween at new image → HasBodyFront old new image
 some old at new image records bytes room many long same s = record {
   count = s.count;
   is = inr (subst (λ (l : List (List ℕ)). StandsFor image (l ++ take s.count new)) same s.stands, front_within old new s.count records bytes room many long);
@@ -88,17 +88,17 @@ module _ {D : Type 0} (moment : D → ℕ) (left_since : D → ℕ → List ℕ 
       goes_on moment left_since old old mid (λ image. IsFileOf image records) may_leave' (unmoved old may_leave file records end stands within only now) time (λ image here. first file image records end stands within (only image (images image here)))
 
   -- so no new record stands there
-  pub with_none : (old mid : D) (records new : List (List ℕ)) → LeavesOnly moment left_since old mid (λ image. IsFileOf image records) → LeavesOnly moment left_since old mid (HasFront records new)
-  with_none old mid records new one = weaker moment left_since old mid (λ image. IsFileOf image records) (HasFront records new) one (none_of records new)
+  pub with_none : (old mid : D) (records new : List (List ℕ)) → LeavesOnly moment left_since old mid (λ image. IsFileOf image records) → LeavesOnly moment left_since old mid (HasBodyFront records new)
+  with_none old mid records new one = weaker moment left_since old mid (λ image. IsFileOf image records) (HasBodyFront records new) one (none_of records new)
 
   -- and then the records were appended, one by one
-  pub then_appended : (old mid end : D) (records at new : List (List ℕ)) (count bytes : ℕ) → HasRoom records count bytes → count ≡ length new → bytes ≡ length (blocks new) → at ≡ records
-      → LeavesOnly moment left_since old mid (λ image. IsFileOf image records) → LeavesOnly moment left_since mid end (StandsBetween at new) → LeavesOnly moment left_since old end (HasFront records new)
+  pub then_appended : (old mid end : D) (records at new : List (List ℕ)) (count bytes : ℕ) → FitsFile records count bytes → count ≡ length new → bytes ≡ length (blocks new) → at ≡ records
+      → LeavesOnly moment left_since old mid (λ image. IsFileOf image records) → LeavesOnly moment left_since mid end (StandsBetween at new) → LeavesOnly moment left_since old end (HasBodyFront records new)
   then_appended old mid end records at new count bytes room many long same one two =
-      joined moment left_since old mid end (HasFront records new) (with_none old mid records new one) (weaker moment left_since mid end (StandsBetween at new) (HasFront records new) two (λ image s. some records at new image count bytes room many long same s))
+      joined moment left_since old mid end (HasBodyFront records new) (with_none old mid records new one) (weaker moment left_since mid end (StandsBetween at new) (HasBodyFront records new) two (λ image s. some records at new image count bytes room many long same s))
 
 -- those before the failing one
-pub cut_short : (old at new kept : List (List ℕ)) (told told' : Type 0) → (told' → told) → (images : List ℕ → Type 0) (records bytes : ℕ) → HasRoom old records bytes → records ≡ length new → bytes ≡ length (blocks new) → at ≡ old → FailsAt at new kept told images → IsCutShort old new kept told' images
+pub cut_short : (old at new kept : List (List ℕ)) (told told' : Type 0) → (told' → told) → (images : List ℕ → Type 0) (records bytes : ℕ) → FitsFile old records bytes → records ≡ length new → bytes ≡ length (blocks new) → at ≡ old → FailsAt at new kept told images → AreBodiesCutShort old new kept told' images
 cut_short old at new kept told told' same_told images records bytes room many long same f =
     let front : kept ≡ old ++ take f.count new = f.front ∙ ap (λ (l : List (List ℕ)). l ++ take f.count new) same in
     record {

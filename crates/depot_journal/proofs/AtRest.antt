@@ -1,9 +1,9 @@
 -- What a stop leaves of a journal at rest, and what a later start makes of it.
-use Rattle.std.proofs.Common.{◌≡◌, inl, inr, ℕ, ◌≤◌, List, [], ◌∷◌, ◌++◌, length, take, drop, get_or, Bool, true, refl, sym, ◌∙◌, ap, subst, arith, append-nil, append_assoc}
-use Rattle.std.proofs.lemmas.List.{drop_all, take_more}
-use Rattle.depot_base.specs.Disk.{IsWritten, Only}
-use Rattle.depot_base.specs.File.{AreWithinLimits, IsCutShort, IsDamagedAt, IsFileOf, StandsFor}
-use Rattle.depot_journal.specs.Stable.{BeginsWithAll, HasAllOf, IsStarted, LeavesAll}
+use Rattle.std.proofs.Common.{◌≡◌, inl, inr, ℕ, List, [], ◌∷◌, ◌++◌, take, get_or, Bool, true, refl, sym, ◌∙◌, ap, subst, append-nil, append_assoc}
+use Rattle.std.proofs.lemmas.List.{take_more}
+use Rattle.depot_base.specs.Disk.{Only}
+use Rattle.depot_base.specs.File.{AreWithinLimits, AreBodiesCutShort, IsDamagedAt, IsFileOf, StandsFor}
+use Rattle.depot_journal.specs.Stable.{BeginsWithAll, HasAllOf, LeavesAllBodies}
 use Rattle.depot_journal.specs.WriteSteps.{StandsTo}
 use Rattle.depot_journal.proofs.OneList.{not_damaged, one_list}
 use Rattle.depot_journal.proofs.Walk.{stands_of}
@@ -13,11 +13,11 @@ pub all_of : (bodies : List (List ℕ)) (stopped : Bool) (file : List ℕ) → I
 all_of bodies stopped file has = record { more = []; has = subst (IsFileOf file) (sym (append-nil bodies)) has; none = λ _. refl }
 
 -- nothing is unsynced
-pub rests : (file : List ℕ) (bodies : List (List ℕ)) (end : ℕ) (stopped : Bool) (images : List ℕ → Type 0) → StandsTo file bodies end → AreWithinLimits bodies → Only file images → LeavesAll bodies stopped images
+pub rests : (file : List ℕ) (bodies : List (List ℕ)) (end : ℕ) (stopped : Bool) (images : List ℕ → Type 0) → StandsTo file bodies end → AreWithinLimits bodies → Only file images → LeavesAllBodies bodies stopped images
 rests file bodies end stopped images stands within only = λ image left. all_of bodies stopped image (subst (λ (f : List ℕ). IsFileOf f bodies) (sym (only image left)) (inr (stands_of file bodies end stands, within)))
 
 -- the disk failed on one of them
-pub one_more_at_most : (bodies new kept : List (List ℕ)) (told : Type 0) (images : List ℕ → Type 0) → IsCutShort bodies new kept told images → told → LeavesAll kept true images
+pub one_more_at_most : (bodies new kept : List (List ℕ)) (told : Type 0) (images : List ℕ → Type 0) → AreBodiesCutShort bodies new kept told images → told → LeavesAllBodies kept true images
 one_more_at_most bodies new kept told images cut holds = λ image left. elim (cut.stable holds image left) [
   | inl has ↦ all_of kept true image has
   | inr has ↦ record {
@@ -28,15 +28,6 @@ one_more_at_most bodies new kept told images cut holds = λ image left. elim (cu
 ]
 
 -- ---- a start
-
-pub unchanged : (old new : List ℕ) (size : ℕ) → 2 ≤ size → size ≡ length old → new ≡ old → IsStarted old new
-unchanged old new size long is same = record { same = λ _. same; gated = λ few. absurd (omega (arith, long, is, few)) }
-
-pub gated : (old mid new : List ℕ) (size : ℕ) → size ≤ 1 → size ≡ length old → mid ≡ old → IsWritten mid 0 (0 ∷ []) new → IsStarted old new
-gated old mid new size few is same written = record {
-  same = λ long. absurd (omega (arith, few, is, long));
-  gated = λ _. (0, omega arith, written ∙ ap (λ (l : List ℕ). 0 ∷ l) (ap (drop 1) same ∙ drop_all 1 old (omega (arith, few, is))));
-}
 
 -- ---- a later start
 

@@ -6,7 +6,7 @@ use Rattle.depot_base.specs.Disk.{IsWritten, IsTorn}
 use Rattle.depot_base.proofs.CallLaws.{framed_long}
 use Rattle.depot_base.specs.declared.check.FullOf.TheVariants as full_of
 use Rattle.depot_journal.proofs.OneList.{not_damaged, one_list, one_place}
-use Rattle.depot_base.specs.File.{blocks, framed, closed_block, HasRoom, PassesLimit, StandsFor, IsFileOf, IsDamagedAt}
+use Rattle.depot_base.specs.File.{blocks, framed, closed_block, FitsFile, PassesLimit, StandsFor, IsFileOf, IsDamagedAt}
 use Rattle.depot_journal.specs.Mirrored.{IsMirror}
 
 -- a record of the byte 7: an open gate, its length as four bytes, its body
@@ -111,17 +111,17 @@ not_later d = let same : 0 ≡ 1 = one_place _ 0 1 cut_body d in absurd (omega (
 -- ---- limits
 
 -- an empty journal takes as many records as it may have, and no more
-all_records : HasRoom [] 131072 0
+all_records : FitsFile [] 131072 0
 all_records = record { records_fit = omega arith; bytes_fit = omega arith }
 
-a_record_too_many : HasRoom [] 131073 0 → ⊥
+a_record_too_many : FitsFile [] 131073 0 → ⊥
 a_record_too_many room = omega (arith, room.records_fit)
 
 its_limit : PassesLimit [] 131073 0 full_of.Records 0
 its_limit = (refl, omega arith)
 
 -- the last gate is one of the bytes
-all_bytes : HasRoom [] 1 1073741823
+all_bytes : FitsFile [] 1 1073741823
 all_bytes = record { records_fit = omega arith; bytes_fit = omega arith }
 
 a_byte_too_many : PassesLimit [] 1 1073741824 full_of.Bytes 1

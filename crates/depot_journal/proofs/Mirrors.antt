@@ -63,10 +63,6 @@ behind_gate old new whole text gate is put at =
     let rest : drop (gate + 1) whole ≡ closed_block text = ap (drop (gate + 1)) (is ∙ put ∙ sym (append_assoc old (1 ∷ []) (closed_block text))) ∙ drop_at (old ++ 1 ∷ []) (closed_block text) (gate + 1) (omega (arith, at, length-append old (1 ∷ []))) in
     take_all (length whole - (gate + 1)) (drop (gate + 1) whole) (omega (arith, length-drop (gate + 1) whole)) ∙ rest
 
--- without the block
-pub before_gate : (old new text : List ℕ) (gate : ℕ) → new ≡ old ++ (1 ∷ closed_block text) → gate ≡ length old → take gate new ≡ old
-before_gate old new text gate put at = ap (take gate) put ∙ take_at old (1 ∷ closed_block text) gate (sym at)
-
 -- without the closed gate behind it
 pub open_block : (old new text : List ℕ) (end : ℕ) → new ≡ old ++ (1 ∷ closed_block text) → end + 1 ≡ length new → take end new ≡ old ++ (1 ∷ framed text)
 open_block old new text end put at =

@@ -7,17 +7,17 @@ use Rattle.depot_journal.specs.declared.journal_error.JournalError.{JournalError
 use Rattle.depot_journal.specs.declared.journal_error.JournalError.TheVariants as journal_error
 use Rattle.depot_journal.specs.declared.journal_error.AppendError.{AppendError}
 use Rattle.depot_journal.specs.declared.journal_error.AppendError.TheVariants as refused
-use Rattle.depot_base.specs.File.{HasRoom, IsDamagedAt, IsFileOf, PassesLimit, blocks}
-use Rattle.depot_journal.specs.JournalView.{View}
+use Rattle.depot_base.specs.File.{FitsFile, IsDamagedAt, IsFileOf, PassesLimit, blocks}
+use Rattle.depot_journal.specs.JournalView.{JournalContents}
 use Rattle.depot_outside.specs.declared.disk.Back.{Back}
 
 -- Full comes exactly where these records, of so many bytes with their gates and lengths, would pass a limit, and names the first such
 -- limit. A stopped journal doesn't look.
 abbrev pub KeepsLimits : List (List ℕ) → ℕ → ℕ → Result (Unit {0}) AppendError → Type 0
-KeepsLimits bodies records bytes (Ok x) = HasRoom bodies records bytes
+KeepsLimits bodies records bytes (Ok x) = FitsFile bodies records bytes
 KeepsLimits bodies records bytes (Err (refused.Full full)) = PassesLimit bodies records bytes full.what full.number
-KeepsLimits bodies records bytes (Err refused.Memory) = HasRoom bodies records bytes
-KeepsLimits bodies records bytes (Err refused.Disk) = HasRoom bodies records bytes
+KeepsLimits bodies records bytes (Err refused.Memory) = FitsFile bodies records bytes
+KeepsLimits bodies records bytes (Err refused.Disk) = FitsFile bodies records bytes
 KeepsLimits bodies records bytes (Err refused.Stopped) = Unit {0}
 
 -- what holds after each refusal but that of the disk
@@ -29,11 +29,11 @@ UnlessDisk (Err (refused.Full full)) P = P
 UnlessDisk (Err refused.Stopped) P = P
 
 -- Where the disk tells its bytes and the journal ran, each image of each moment since then has this property.
-abbrev pub LeavesRunning : {D : Type 0} → (D → Bool) → (D → ℕ) → (D → ℕ → List ℕ → Type 0) → View D → View D → (List ℕ → Type 0) → Type 0
+abbrev pub LeavesRunning : {D : Type 0} → (D → Bool) → (D → ℕ) → (D → ℕ → List ℕ → Type 0) → JournalContents D → JournalContents D → (List ℕ → Type 0) → Type 0
 LeavesRunning tells moment left_since old new P = IsTrue (tells old.disk) → old.is_stopped ≡ false → LeavesOnly moment left_since old.disk new.disk P
 
 -- The journal is as it was, and no more than time went by for its disk: the records and the file, what a stop leaves, and the memory found.
-pub record IsUnchanged {D : Type 0} (tells : D → Bool) (seen : D → List ℕ) (may_leave : D → List ℕ → Type 0) (moment : D → ℕ) (left_since : D → ℕ → List ℕ → Type 0) (old new : View D) : Type 0 where
+pub record IsJournalUnchanged {D : Type 0} (tells : D → Bool) (seen : D → List ℕ) (may_leave : D → List ℕ → Type 0) (moment : D → ℕ) (left_since : D → ℕ → List ℕ → Type 0) (old new : JournalContents D) : Type 0 where
   pub records : new.records ≡ old.records
   pub running : new.is_stopped ≡ old.is_stopped
   pub seen_kept : seen new.disk ≡ seen old.disk
@@ -46,7 +46,7 @@ pub record IsUnchanged {D : Type 0} (tells : D → Bool) (seen : D → List ℕ)
 -- The disk is the same one, and the journal made these calls on it: those that append these texts, up to the one that fails, or none. It failed
 -- exactly where its count says so.
 pub record MakesCalls {D : Type 0} (handle : D → ℕ) (tells : D → Bool) (faults : D → ℕ) (is_faultless : D → Type 0) (after : D → List Made → D → Type 0)
-    (old new : View D) (texts : List (List ℕ)) (result : Result (Unit {0}) AppendError) : Type 0 where
+    (old new : JournalContents D) (texts : List (List ℕ)) (result : Result (Unit {0}) AppendError) : Type 0 where
   pub same : handle new.disk ≡ handle old.disk
   pub told : tells new.disk ≡ tells old.disk
   pub all : OnOk result (after old.disk (made (calls_to_append_all (length (blocks old.records)) texts)) new.disk)
@@ -56,12 +56,12 @@ pub record MakesCalls {D : Type 0} (handle : D → ℕ) (tells : D → Bool) (fa
   pub faultless : is_faultless old.disk → is_faultless new.disk × (faults new.disk ≡ faults old.disk)
 
 -- Of the memory found no more was taken than for these texts.
-pub record HasRoomLeft {D : Type 0} (old new : View D) (texts : List (List ℕ)) : Type 0 where
+pub record HasRoomLeft {D : Type 0} (old new : JournalContents D) (texts : List (List ℕ)) : Type 0 where
   pub records : old.room_records ≤ new.room_records + length texts
   pub bytes : old.room_bytes + 5 * length texts ≤ new.room_bytes + length (blocks texts)
 
 -- the disk as a start leaves it, in the journal or given back
-abbrev pub disk_of : {D : Type 0} → Result (View D) (Back JournalError D) → D
+abbrev pub disk_of : {D : Type 0} → Result (JournalContents D) (Back JournalError D) → D
 disk_of (Ok journal) = journal.disk
 disk_of (Err back) = back.disk
 

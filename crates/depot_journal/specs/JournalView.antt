@@ -8,24 +8,24 @@ use Rattle.depot_journal.specs.declared.journal_room.Room.{Room}
 use Rattle.depot_journal.specs.declared.mirror.Mirror.{Mirror}
 
 -- its records, its disk, whether a call on the disk has failed, and for how many more records and bytes of bodies there is memory
-pub record View (D : Type 0) : Type 0 where
+pub record JournalContents (D : Type 0) : Type 0 where
   pub records : List (List ℕ)
   pub disk : D
   pub is_stopped : Bool
   pub room_records : ℕ
   pub room_bytes : ℕ
 
-abbrev view_of : {D : Type 0} → List (List ℕ) × (D × (Bool × (ℕ × ℕ))) → View D
+abbrev view_of : {D : Type 0} → List (List ℕ) × (D × (Bool × (ℕ × ℕ))) → JournalContents D
 view_of (records, (disk, (is_stopped, (room_records, room_bytes)))) = record { records = records; disk = disk; is_stopped = is_stopped; room_records = room_records; room_bytes = room_bytes }
 
-abbrev pub view_code : {D : Type 0} → Coded D → Coded (View D)
+abbrev pub view_code : {D : Type 0} → Coded D → Coded (JournalContents D)
 view_code {D} code_of =
     code_by (List (List ℕ) × (D × (Bool × (ℕ × ℕ)))) (coded× (coded_list (coded_list coded_ℕ)) (coded× code_of (coded× coded_bool (coded× coded_ℕ coded_ℕ))))
     (λ v. (v.records, (v.disk, (v.is_stopped, (v.room_records, v.room_bytes))))) view_of (λ _. refl)
 
 -- The memory found covers these records: a record takes 5 bytes more than its body.
-abbrev pub Covers : {D : Type 0} → View D → List (List ℕ) → Type 0
-Covers v texts = (length texts ≤ v.room_records) × (length (blocks texts) ≤ v.room_bytes + 5 * length texts)
+abbrev pub HasMemoryFor : {D : Type 0} → JournalContents D → List (List ℕ) → Type 0
+HasMemoryFor v texts = (length texts ≤ v.room_records) × (length (blocks texts) ≤ v.room_bytes + 5 * length texts)
 
 -- For so many records and bytes there is memory, beside the records held and their blocks, as far as the journal may hold them: in the
 -- list of spans, in the bytes of the blocks, and on the disk for bytes and calls.

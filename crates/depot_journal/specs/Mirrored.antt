@@ -13,8 +13,8 @@ abbrev pub bodies_at : List ℕ → List Span → List (List ℕ)
 bodies_at bytes spans = map (cut bytes) spans
 
 -- the records of a mirror
-abbrev pub records_of : {D : Type 0} → Mirror D → List (List ℕ)
-records_of mirror = bodies_at mirror.bytes.items mirror.spans.items
+abbrev pub mirror_records : {D : Type 0} → Mirror D → List (List ℕ)
+mirror_records mirror = bodies_at mirror.bytes.items mirror.spans.items
 
 -- the spans end within so many bytes
 abbrev pub EndWithin : ℕ → List Span → Type 0

@@ -14,8 +14,8 @@ abbrev pub BeginsWithAll : List (List ℕ) → Bool → List (List ℕ) → Type
 BeginsWithAll bodies stopped read = (more : List (List ℕ)) × (read ≡ bodies ++ more) × (stopped ≡ false → more ≡ [])
 
 -- each file that a stop may leave has all records of the journal
-abbrev pub LeavesAll : List (List ℕ) → Bool → (List ℕ → Type 0) → Type 0
-LeavesAll bodies stopped images = (file : List ℕ) → images file → HasAllOf bodies stopped file
+abbrev pub LeavesAllBodies : List (List ℕ) → Bool → (List ℕ → Type 0) → Type 0
+LeavesAllBodies bodies stopped images = (file : List ℕ) → images file → HasAllOf bodies stopped file
 
 -- the file is one byte, a closed gate
 abbrev pub IsClosedGate : List ℕ → Type 0

@@ -1,18 +1,18 @@
 //! The calls of a journal.
-ghost use Rattle.std.specs.Prelude.{◌≡◌, ◌≢◌, ◌↔◌, ◌++◌, ◌+◌, ◌<◌, ◌≤◌, [], true, false, IsTrue, IsOk, OnOk, IfOk, IfErr, IsErrOf, Some, length, slice_get};
+ghost use Rattle.std.specs.Prelude.{◌≡◌, ◌≢◌, ◌↔◌, ◌++◌, ◌<◌, ◌≤◌, [], true, false, IsTrue, IsOk, OnOk, IfOk, IfErr, IsErrOf, Some, length, slice_get};
 ghost use Rattle.depot_base.specs.Calls.{FailsAmong, calls_to_start, made};
 ghost use Rattle.depot_base.specs.Faults.{HasCause};
 ghost use Rattle.depot_base.specs.Disk.{LeavesOnly, Only, Within};
-ghost use Rattle.depot_base.specs.File.{AreWithinLimits, HasFront, IsCutShort, IsFileOf, StartLeaves, blocks};
-ghost use Rattle.depot_journal.specs.JournalView.{Covers};
-ghost use Rattle.depot_journal.specs.JournalAnswers.{HasRoomLeft, IsDamage, IsUnchanged, KeepsLimits, LeavesRunning, MakesCalls, SaysDamaged, UnlessDisk, disk_of};
-ghost use Rattle.depot_journal.specs.Stable.{IsStarted, LeavesAll};
+ghost use Rattle.depot_base.specs.File.{AreWithinLimits, HasBodyFront, AreBodiesCutShort, IsFileOf, StartLeavesFile, blocks};
+ghost use Rattle.depot_journal.specs.JournalView.{HasMemoryFor};
+ghost use Rattle.depot_journal.specs.JournalAnswers.{HasRoomLeft, IsDamage, IsJournalUnchanged, KeepsLimits, LeavesRunning, MakesCalls, SaysDamaged, UnlessDisk, disk_of};
+ghost use Rattle.depot_journal.specs.Stable.{IsStarted, LeavesAllBodies};
 ghost use Rattle.depot_base.specs.WithRest.{with_rest};
 ghost use Rattle.depot_outside.specs.Told.{TimePasses};
 
 use crate::journal_error::{AppendError, JournalError};
 use crate::journal_room::{Room, bytes_of, find_room, room_for};
-use crate::journal_start::{Found, start_on};
+use crate::journal_start::{FoundFile, start_on};
 use crate::mirror::{Mirror, append_each};
 use depot_base::{Bytes, Memory};
 use depot_outside::{Back, Disk};
@@ -34,22 +34,22 @@ pub struct Journal<D: Disk> {
 impl<D: Disk> Model for Journal<D> {
     ghost use Rattle.std.specs.Prelude.{◌≡◌, IsTrue, false, vec_len};
     ghost use Rattle.depot_base.specs.Disk.{Only};
-    ghost use Rattle.depot_journal.specs.JournalView.{IsReservedIn, View, view_code};
+    ghost use Rattle.depot_journal.specs.JournalView.{IsReservedIn, JournalContents, view_code};
     ghost use Rattle.depot_base.specs.File.{AreWithinLimits};
-    ghost use Rattle.depot_journal.specs.Mirrored.{IsMirror, records_of};
-    ghost use Rattle.depot_journal.specs.Stable.{LeavesAll};
+    ghost use Rattle.depot_journal.specs.Mirrored.{IsMirror, mirror_records};
+    ghost use Rattle.depot_journal.specs.Stable.{LeavesAllBodies};
     ghost use Rattle.depot_journal.specs.WriteSteps.{StandsTo};
 
-    ghost Value = { View D };
+    ghost Value = { JournalContents D };
 
     ghost coded = { view_code D.code };
 
-    ghost view = { λ j. record { records = records_of j.mirror; disk = j.mirror.disk; is_stopped = j.stopped; room_records = j.room.records; room_bytes = j.room.bytes } };
+    ghost view = { λ j. record { records = mirror_records j.mirror; disk = j.mirror.disk; is_stopped = j.stopped; room_records = j.room.records; room_bytes = j.room.bytes } };
 
-    ghost invariant = { λ j. IsMirror j.mirror.bytes.items j.mirror.spans.items × AreWithinLimits (records_of j.mirror)
+    ghost invariant = { λ j. IsMirror j.mirror.bytes.items j.mirror.spans.items × AreWithinLimits (mirror_records j.mirror)
         × IsReservedIn D.Disk j.mirror j.room
-        × (j.stopped ≡ false → IsTrue (D.tells j.mirror.disk) → StandsTo (D.seen j.mirror.disk) (records_of j.mirror) (vec_len j.mirror.bytes) × Only (D.seen j.mirror.disk) (D.may_leave j.mirror.disk))
-        × (IsTrue (D.tells j.mirror.disk) → LeavesAll (records_of j.mirror) j.stopped (D.may_leave j.mirror.disk)) };
+        × (j.stopped ≡ false → IsTrue (D.tells j.mirror.disk) → StandsTo (D.seen j.mirror.disk) (mirror_records j.mirror) (vec_len j.mirror.bytes) × Only (D.seen j.mirror.disk) (D.may_leave j.mirror.disk))
+        × (IsTrue (D.tells j.mirror.disk) → LeavesAllBodies (mirror_records j.mirror) j.stopped (D.may_leave j.mirror.disk)) };
 }
 
 impl<D: Disk> Journal<D> {
@@ -69,18 +69,12 @@ impl<D: Disk> Journal<D> {
         &self.mirror.bytes[span.start as usize..span.end as usize]
     }
 
-    /// How many bytes the file has up to its closed gate, with that gate. The records keep to the limits.
-    pub fn size(&self) -> u32
-        ensures size { result ≡ 1 + length (blocks self.now.records) }
-        ensures within { AreWithinLimits self.now.records }
-    {
-        self.mirror.bytes.len() as u32 + 1
-    }
-
-    /// Whether an append failed on the disk. The journal then touches the disk no more; it is started again from it.
+    /// Whether an append failed on the disk. The journal then touches the disk no more; it is started again from it. Stopped or
+    /// not, its records keep to the limits.
     pub fn is_stopped(&self) -> bool
         ensures stopped { result ≡ self.now.is_stopped }
-        ensures stable { IsTrue (D.tells self.now.disk) → LeavesAll self.now.records self.now.is_stopped (D.may_leave self.now.disk) }
+        ensures stable { IsTrue (D.tells self.now.disk) → LeavesAllBodies self.now.records self.now.is_stopped (D.may_leave self.now.disk) }
+        ensures within { AreWithinLimits self.now.records }
     {
         self.stopped
     }
@@ -124,22 +118,22 @@ impl<D: Disk> Journal<D> {
     /// stopped. After `Stopped` nothing has changed.
     pub fn append_all(&mut self, texts: &[Bytes], rest: &[u8]) -> Result<(), AppendError>
         ensures ok { OnOk result (self.new.records ≡ self.old.records ++ with_rest texts.now rest.now) }
-        ensures unchanged { UnlessDisk result (IsUnchanged D.tells D.seen D.may_leave D.moment D.left_since self.old self.new) }
-        ensures disk { IsErrOf result AppendError.Disk → IsCutShort self.old.records (with_rest texts.now rest.now) self.new.records (IsTrue (D.tells self.old.disk)) (D.may_leave self.new.disk) }
+        ensures unchanged { UnlessDisk result (IsJournalUnchanged D.tells D.seen D.may_leave D.moment D.left_since self.old self.new) }
+        ensures disk { IsErrOf result AppendError.Disk → AreBodiesCutShort self.old.records (with_rest texts.now rest.now) self.new.records (IsTrue (D.tells self.old.disk)) (D.may_leave self.new.disk) }
         ensures running { OnOk result (self.new.is_stopped ≡ false) }
         ensures stops { IsErrOf result AppendError.Disk → self.new.is_stopped ≡ true }
         ensures stopped { IsErrOf result AppendError.Stopped ↔ (self.old.is_stopped ≡ true) }
         ensures untouched { self.old.is_stopped ≡ true → self.new.disk ≡ self.old.disk }
         ensures limits { KeepsLimits self.old.records (length (with_rest texts.now rest.now)) (length (blocks (with_rest texts.now rest.now))) result }
-        ensures memory { Covers self.old (with_rest texts.now rest.now) → IsErrOf result AppendError.Memory → ⊥ }
+        ensures memory { HasMemoryFor self.old (with_rest texts.now rest.now) → IsErrOf result AppendError.Memory → ⊥ }
         ensures room { OnOk result (HasRoomLeft self.old self.new (with_rest texts.now rest.now)) }
         ensures calls { MakesCalls D.handle D.tells D.faults D.is_faultless D.after self.old self.new (with_rest texts.now rest.now) result }
         ensures file { IsTrue (D.tells self.old.disk) → self.new.is_stopped ≡ false → IsFileOf (D.seen self.new.disk) self.new.records }
         ensures stable { IsTrue (D.tells self.old.disk) → self.new.is_stopped ≡ false → Only (D.seen self.new.disk) (D.may_leave self.new.disk) }
         // Whatever was answered, a stop leaves all records of the journal.
-        ensures stands { IsTrue (D.tells self.old.disk) → LeavesAll self.new.records self.new.is_stopped (D.may_leave self.new.disk) }
+        ensures stands { IsTrue (D.tells self.old.disk) → LeavesAllBodies self.new.records self.new.is_stopped (D.may_leave self.new.disk) }
         // A stop at any moment leaves the records from before the call, and then a front of the new ones.
-        ensures any_moment { LeavesRunning D.tells D.moment D.left_since self.old self.new (HasFront self.old.records (with_rest texts.now rest.now)) }
+        ensures any_moment { LeavesRunning D.tells D.moment D.left_since self.old self.new (HasBodyFront self.old.records (with_rest texts.now rest.now)) }
     {
         if self.stopped {
             return Err(AppendError::Stopped);
@@ -174,27 +168,6 @@ impl<D: Disk> Journal<D> {
 }
 
 impl<D: Disk> Journal<D> {
-    /// A journal without records on a disk that tells nothing of its bytes, which isn't touched. It takes no memory.
-    pub fn unwritten(alloc: Global, disk: D) -> Journal<D>
-        requires { D.tells disk ≡ false }
-        ensures { result ≡ record { records = []; disk = disk; is_stopped = false; room_records = 0; room_bytes = 0 } }
-    {
-        Journal {
-            mirror: Mirror {
-                disk,
-                bytes: Vec::new(alloc),
-                spans: Vec::new(alloc),
-            },
-            room: Room {
-                records: 0,
-                bytes: 0,
-            },
-            stopped: false,
-        }
-    }
-}
-
-impl<D: Disk> Journal<D> {
     /// Reads the records of a disk, which it syncs first. A file of at most one byte has none, and gets a closed gate.
     ///
     /// A file of more bytes stays as it is. `Damaged` comes exactly where the file is damaged, with the offset. After it and
@@ -217,7 +190,7 @@ impl<D: Disk> Journal<D> {
         ensures calm { IfOk result (λ j. D.faults j.disk ≡ D.faults disk) }
 
         // Images of the moments of the call.
-        ensures any_moment { IsTrue (D.tells disk) → LeavesOnly D.moment D.left_since disk (disk_of result) (StartLeaves (D.may_leave disk) (D.seen disk)) }
+        ensures any_moment { IsTrue (D.tells disk) → LeavesOnly D.moment D.left_since disk (disk_of result) (StartLeavesFile (D.may_leave disk) (D.seen disk)) }
 
         // The calls on the disk, and where one of them failed, those up to it.
         ensures made { IfOk result (λ j. IsTrue (D.tells disk) → D.after disk (made (calls_to_start (D.seen disk))) j.disk) }
@@ -229,7 +202,7 @@ impl<D: Disk> Journal<D> {
     {
         let mut disk = disk;
         match start_on(alloc, &mut disk) {
-            Ok(Found { bytes, spans }) => Ok(Journal {
+            Ok(FoundFile { bytes, spans }) => Ok(Journal {
                 mirror: Mirror { disk, bytes, spans },
                 room: Room {
                     records: 0,

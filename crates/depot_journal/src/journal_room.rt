@@ -1,7 +1,7 @@
 //! The limits of a journal, and the memory that is found before an append.
 ghost use Rattle.std.specs.Prelude.{◌≡◌, ◌+◌, ◌-◌, ◌*◌, ◌^◌, ◌≤◌, List, [], ℕ, OnOk, IfErr, IsOk, length, min, vec_len};
 ghost use Rattle.depot_base.specs.Disk.{Within};
-ghost use Rattle.depot_base.specs.File.{HasRoom, PassesLimit, blocks};
+ghost use Rattle.depot_base.specs.File.{FitsFile, PassesLimit, blocks};
 ghost use Rattle.depot_journal.specs.JournalView.{IsReservedIn};
 ghost use Rattle.depot_base.specs.WithRest.{with_rest};
 ghost use Rattle.depot_outside.specs.Told.{TimePasses};
@@ -39,7 +39,7 @@ pub fn bytes_of(texts: &[Bytes], rest: &[u8]) -> u64
 pub fn room_for(held: u32, long: u64, records: u64, bytes: u64) -> Result<(), Full>
     requires held { held ≤ MOST_RECORDS }
     requires long { 1 + long ≤ MOST_JOURNAL }
-    ensures room { OnOk result ((bodies : List (List ℕ)) → held ≡ length bodies → long ≡ length (blocks bodies) → HasRoom bodies records bytes) }
+    ensures room { OnOk result ((bodies : List (List ℕ)) → held ≡ length bodies → long ≡ length (blocks bodies) → FitsFile bodies records bytes) }
     ensures full { IfErr result (λ full. (bodies : List (List ℕ)) → held ≡ length bodies → long ≡ length (blocks bodies) → PassesLimit bodies records bytes full.what full.number) }
 {
     if records > (MOST_RECORDS - held) as u64 {

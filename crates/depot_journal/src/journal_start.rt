@@ -4,7 +4,7 @@ ghost use Rattle.depot_base.specs.Calls.{FailsAmong, asks_length, calls_to_start
 ghost use Rattle.depot_base.specs.Faults.{HasCause};
 ghost use Rattle.depot_base.specs.Disk.{LeavesOnly, Only};
 ghost use Rattle.depot_journal.specs.JournalAnswers.{IsDamage, SaysDamaged};
-ghost use Rattle.depot_base.specs.File.{AreWithinLimits, IsFileOf, StartLeaves};
+ghost use Rattle.depot_base.specs.File.{AreWithinLimits, IsFileOf, StartLeavesFile};
 ghost use Rattle.depot_journal.specs.Mirrored.{IsMirror, bodies_at};
 ghost use Rattle.depot_journal.specs.Stable.{IsStarted};
 ghost use Rattle.depot_journal.specs.WriteSteps.{StandsTo};
@@ -15,21 +15,23 @@ use crate::span::Span;
 use crate::write::write_synced;
 use depot_base::Memory;
 use depot_base::limits::MOST_JOURNAL;
-use depot_outside::{Disk, Failed};
+use depot_outside::{Disk, Failed, spare_beside};
 use std::alloc::Global;
 
 /// The records of a disk: the bytes of their blocks, and where each body stands in them.
 #[derive(Drop)]
-pub struct Found {
+pub struct FoundFile {
     pub bytes: Vec<u8>,
     pub spans: Vec<Span>,
 }
 
-/// So many zeros.
+/// So many zeros, and the room behind them that a list of this length gets where it grows: so the first append moves nothing.
 fn zeros(alloc: Global, count: usize) -> Result<Vec<u8>, Memory>
     ensures { IfOk result (λ bytes. vec_len bytes ≡ count) }
 {
-    Ok(vec![in alloc; 0u8; count]?)
+    let mut bytes = Vec::with_capacity(alloc, count.saturating_add(spare_beside(count)))?;
+    bytes.resize(count, 0)?;
+    Ok(bytes)
 }
 
 /// Finds the room that a start may need, syncs the disk, and asks how long its file is.
@@ -72,7 +74,7 @@ fn read_front<D: Disk>(disk: &mut D, bytes: &mut Vec<u8>) -> Result<(), Failed>
 }
 
 /// Reads the records of a file of more than one byte, which has so many.
-fn read_records<D: Disk>(alloc: Global, disk: &mut D, size: u64) -> Result<Found, JournalError>
+fn read_records<D: Disk>(alloc: Global, disk: &mut D, size: u64) -> Result<FoundFile, JournalError>
     requires long { 2 ≤ size }
     requires file { IsTrue (D.tells disk.old) → size ≡ length (D.seen disk.old) }
     ensures mirror { IfOk result (λ f. IsMirror f.bytes.items f.spans.items) }
@@ -97,14 +99,14 @@ fn read_records<D: Disk>(alloc: Global, disk: &mut D, size: u64) -> Result<Found
         Err(error) => return Err(error),
     };
     bytes.truncate(parsed.end);
-    Ok(Found {
+    Ok(FoundFile {
         bytes,
         spans: parsed.spans,
     })
 }
 
 /// The records of the disk, which is synced before it is read. A file of at most one byte gets a closed gate.
-pub fn start_on<D: Disk>(alloc: Global, disk: &mut D) -> Result<Found, JournalError>
+pub fn start_on<D: Disk>(alloc: Global, disk: &mut D) -> Result<FoundFile, JournalError>
     ensures mirror { IfOk result (λ f. IsMirror f.bytes.items f.spans.items) }
     ensures within { IfOk result (λ f. AreWithinLimits (bodies_at f.bytes.items f.spans.items)) }
     ensures stands { IfOk result (λ f. IsTrue (D.tells disk.old) → StandsTo (D.seen disk.new) (bodies_at f.bytes.items f.spans.items) (vec_len f.bytes)) }
@@ -114,7 +116,7 @@ pub fn start_on<D: Disk>(alloc: Global, disk: &mut D) -> Result<Found, JournalEr
     ensures file { IfOk result (λ f. IsTrue (D.tells disk.old) → IsFileOf (D.seen disk.old) (bodies_at f.bytes.items f.spans.items)) }
     ensures damaged { IfErr result (λ e. IsTrue (D.tells disk.old) → IsDamage (D.seen disk.old) e) }
     ensures unchanged { IfErr result (λ e. e ≢ JournalError.Disk → D.seen disk.new ≡ D.seen disk.old) }
-    ensures any_moment { IsTrue (D.tells disk.old) → LeavesOnly D.moment D.left_since disk.old disk.new (StartLeaves (D.may_leave disk.old) (D.seen disk.old)) }
+    ensures any_moment { IsTrue (D.tells disk.old) → LeavesOnly D.moment D.left_since disk.old disk.new (StartLeavesFile (D.may_leave disk.old) (D.seen disk.old)) }
     ensures made { OnOk result (IsTrue (D.tells disk.old) → D.after disk.old (made (calls_to_start (D.seen disk.old))) disk.new) }
     ensures failing { IsErrOf result JournalError.Disk → IsTrue (D.tells disk.old) → FailsAmong D.after disk.old disk.new (calls_to_start (D.seen disk.old)) }
     ensures handle { D.handle disk.new ≡ D.handle disk.old }
@@ -130,7 +132,7 @@ pub fn start_on<D: Disk>(alloc: Global, disk: &mut D) -> Result<Found, JournalEr
         return read_records(alloc, disk, size);
     }
     write_synced(disk, 0, &[0])?;
-    Ok(Found {
+    Ok(FoundFile {
         bytes: Vec::new(alloc),
         spans: Vec::new(alloc),
     })

@@ -4,7 +4,7 @@ ghost use Rattle.depot_base.specs.Calls.{FailsAmong, calls_to_append, calls_to_a
 ghost use Rattle.depot_base.specs.Faults.{HasCause};
 ghost use Rattle.depot_base.specs.Disk.{LeavesOnly, Only};
 ghost use Rattle.depot_base.specs.File.{blocks, closed_block};
-ghost use Rattle.depot_journal.specs.Mirrored.{IsMirror, records_of};
+ghost use Rattle.depot_journal.specs.Mirrored.{IsMirror, mirror_records};
 ghost use Rattle.depot_base.specs.WithRest.{with_rest};
 ghost use Rattle.depot_journal.specs.WriteSteps.{FailsAt, IsBeforeOrAfter, StandsBetween, StandsTo};
 
@@ -47,18 +47,18 @@ fn append_one<D: Disk>(mirror: &mut Mirror<D>, head: &[u8], rest: &[u8]) -> Resu
     requires short { vec_len mirror.old.bytes + (6 + length (head.now ++ rest.now)) ≤ 2 ^ 30 }
     requires room { 6 + length (head.now ++ rest.now) ≤ D.room_bytes mirror.old.disk }
     requires calls { 4 ≤ D.room_calls mirror.old.disk }
-    requires stands { IsTrue (D.tells mirror.old.disk) → StandsTo (D.seen mirror.old.disk) (records_of mirror.old) (vec_len mirror.old.bytes) }
+    requires stands { IsTrue (D.tells mirror.old.disk) → StandsTo (D.seen mirror.old.disk) (mirror_records mirror.old) (vec_len mirror.old.bytes) }
     requires stable { IsTrue (D.tells mirror.old.disk) → Only (D.seen mirror.old.disk) (D.may_leave mirror.old.disk) }
     ensures mirror { IsMirror mirror.new.bytes.items mirror.new.spans.items }
-    ensures bodies { OnOk result (records_of mirror.new ≡ records_of mirror.old ++ (head.now ++ rest.now) ∷ []) }
-    ensures kept { OnErr result (records_of mirror.new ≡ records_of mirror.old) }
+    ensures bodies { OnOk result (mirror_records mirror.new ≡ mirror_records mirror.old ++ (head.now ++ rest.now) ∷ []) }
+    ensures kept { OnErr result (mirror_records mirror.new ≡ mirror_records mirror.old) }
     ensures count { vec_len mirror.new.spans ≤ vec_len mirror.old.spans + 1 }
     ensures long { vec_len mirror.new.bytes ≤ vec_len mirror.old.bytes + (5 + length (head.now ++ rest.now)) }
     ensures handle { D.handle mirror.new.disk ≡ D.handle mirror.old.disk }
     ensures tells { D.tells mirror.new.disk ≡ D.tells mirror.old.disk }
-    ensures stands { OnOk result (IsTrue (D.tells mirror.old.disk) → StandsTo (D.seen mirror.new.disk) (records_of mirror.new) (vec_len mirror.new.bytes)) }
+    ensures stands { OnOk result (IsTrue (D.tells mirror.old.disk) → StandsTo (D.seen mirror.new.disk) (mirror_records mirror.new) (vec_len mirror.new.bytes)) }
     ensures stable { OnOk result (IsTrue (D.tells mirror.old.disk) → Only (D.seen mirror.new.disk) (D.may_leave mirror.new.disk)) }
-    ensures any_moment { IsTrue (D.tells mirror.old.disk) → LeavesOnly D.moment D.left_since mirror.old.disk mirror.new.disk (IsBeforeOrAfter (records_of mirror.old) (head.now ++ rest.now)) }
+    ensures any_moment { IsTrue (D.tells mirror.old.disk) → LeavesOnly D.moment D.left_since mirror.old.disk mirror.new.disk (IsBeforeOrAfter (mirror_records mirror.old) (head.now ++ rest.now)) }
     ensures made { OnOk result (D.after mirror.old.disk (made (calls_to_append (vec_len mirror.old.bytes) (head.now ++ rest.now))) mirror.new.disk) }
     ensures failing { OnErr result (FailsAmong D.after mirror.old.disk mirror.new.disk (calls_to_append (vec_len mirror.old.bytes) (head.now ++ rest.now))) }
     ensures cause { HasCause (D.faults mirror.old.disk) (D.faults mirror.new.disk) (IsErr result) }
@@ -106,16 +106,16 @@ pub fn append_each<D: Disk>(
     requires short { vec_len mirror.old.bytes + length (blocks (with_rest texts.now rest.now)) + 1 ≤ 2 ^ 30 }
     requires room { length (blocks (with_rest texts.now rest.now)) + length (with_rest texts.now rest.now) ≤ D.room_bytes mirror.old.disk }
     requires calls { 4 * length (with_rest texts.now rest.now) ≤ D.room_calls mirror.old.disk }
-    requires stands { IsTrue (D.tells mirror.old.disk) → StandsTo (D.seen mirror.old.disk) (records_of mirror.old) (vec_len mirror.old.bytes) }
+    requires stands { IsTrue (D.tells mirror.old.disk) → StandsTo (D.seen mirror.old.disk) (mirror_records mirror.old) (vec_len mirror.old.bytes) }
     requires stable { IsTrue (D.tells mirror.old.disk) → Only (D.seen mirror.old.disk) (D.may_leave mirror.old.disk) }
     ensures mirror { IsMirror mirror.new.bytes.items mirror.new.spans.items }
-    ensures bodies { OnOk result (records_of mirror.new ≡ records_of mirror.old ++ with_rest texts.now rest.now) }
-    ensures fails { OnErr result (FailsAt (records_of mirror.old) (with_rest texts.now rest.now) (records_of mirror.new) (IsTrue (D.tells mirror.old.disk)) (D.may_leave mirror.new.disk)) }
+    ensures bodies { OnOk result (mirror_records mirror.new ≡ mirror_records mirror.old ++ with_rest texts.now rest.now) }
+    ensures fails { OnErr result (FailsAt (mirror_records mirror.old) (with_rest texts.now rest.now) (mirror_records mirror.new) (IsTrue (D.tells mirror.old.disk)) (D.may_leave mirror.new.disk)) }
     ensures handle { D.handle mirror.new.disk ≡ D.handle mirror.old.disk }
     ensures tells { D.tells mirror.new.disk ≡ D.tells mirror.old.disk }
-    ensures stands { OnOk result (IsTrue (D.tells mirror.old.disk) → StandsTo (D.seen mirror.new.disk) (records_of mirror.new) (vec_len mirror.new.bytes)) }
+    ensures stands { OnOk result (IsTrue (D.tells mirror.old.disk) → StandsTo (D.seen mirror.new.disk) (mirror_records mirror.new) (vec_len mirror.new.bytes)) }
     ensures stable { OnOk result (IsTrue (D.tells mirror.old.disk) → Only (D.seen mirror.new.disk) (D.may_leave mirror.new.disk)) }
-    ensures any_moment { IsTrue (D.tells mirror.old.disk) → LeavesOnly D.moment D.left_since mirror.old.disk mirror.new.disk (StandsBetween (records_of mirror.old) (with_rest texts.now rest.now)) }
+    ensures any_moment { IsTrue (D.tells mirror.old.disk) → LeavesOnly D.moment D.left_since mirror.old.disk mirror.new.disk (StandsBetween (mirror_records mirror.old) (with_rest texts.now rest.now)) }
     ensures made { OnOk result (D.after mirror.old.disk (made (calls_to_append_all (vec_len mirror.old.bytes) (with_rest texts.now rest.now))) mirror.new.disk) }
     ensures failing { OnErr result (FailsAmong D.after mirror.old.disk mirror.new.disk (calls_to_append_all (vec_len mirror.old.bytes) (with_rest texts.now rest.now))) }
     ensures cause { HasCause (D.faults mirror.old.disk) (D.faults mirror.new.disk) (IsErr result) }

@@ -16,7 +16,7 @@ use Rattle.depot_base.specs.declared.record.Record.TheVariants.{Birth, OwnPut, F
 use Rattle.depot_model.specs.Contradictions.{kind_of, contradicts, is_of_kind}
 use Rattle.depot_model.specs.Texts.{update_fields, voucher_fields, update_body, statement, id_of_update}
 use Rattle.depot_model.specs.World.{Read, Correct, World}
-use Rattle.depot_model.specs.Audit.{the_write, yes_found, unordered_found, unseen_found, wrong_found, split_found, named_found, new_bodies, writes_once, operations, closed, observed, pair_of, circle, unordered, unseen, observed_writes, last_writes, is_exact, wrong, breaks_off, first_break, split, named_node, finding_in}
+use Rattle.depot_model.specs.Audit.{the_write, yes_found, unordered_found, unseen_found, wrong_found, split_found, named_found, new_bodies, writes_once, operations, closed, observed, pair_of, circle, unordered, unseen, observed_writes, last_writes, is_exact, wrong, breaks_off, first_break, split_finding, named_node, finding_in}
 
 -- node 1 writes the value "a" under the key "k"
 abbrev one : Update
@@ -47,44 +47,44 @@ of_nodes cs = record { verifies = λ key seq body signature. true; listed = []; 
 
 -- a put, its read, a put behind it, and another node that took both and read the last
 put_and_read : finding_in (of_nodes (node 1 (Birth 1 zeros ∷ OwnPut one ((97 ∷ []) ∷ []) ∷ OwnPut two ((98 ∷ []) ∷ []) ∷ []) (seen 2 one (97 ∷ []) ∷ []) ∷ node 2 (Birth 2 zeros ∷ told one ∷ told two ∷ []) (seen 3 two (98 ∷ []) ∷ []) ∷ [])) ≡ yes_found
-unfolding sha256 first_words schedule rounds compress hash_after digest_bytes numeral number bytes_of list_of dep update_fields voucher_fields update_body statement id_of_update kind_of contradicts is_of_kind new_bodies writes_once operations closed observed pair_of circle unordered unseen observed_writes last_writes is_exact wrong breaks_off first_break split named_node finding_in
+unfolding sha256 first_words schedule rounds compress hash_after digest_bytes numeral number bytes_of list_of dep update_fields voucher_fields update_body statement id_of_update kind_of contradicts is_of_kind new_bodies writes_once operations closed observed pair_of circle unordered unseen observed_writes last_writes is_exact wrong breaks_off first_break split_finding named_node finding_in
 put_and_read = refl
 
 -- the writer is here, and didn't put it
 not_put : finding_in (of_nodes (node 1 (Birth 1 zeros ∷ []) [] ∷ node 2 (Birth 2 zeros ∷ told one ∷ []) (seen 2 one (97 ∷ []) ∷ []) ∷ [])) ≡ wrong_found 2 0
-unfolding sha256 first_words schedule rounds compress hash_after digest_bytes numeral number bytes_of list_of dep update_fields voucher_fields update_body statement id_of_update kind_of contradicts is_of_kind new_bodies writes_once operations closed observed pair_of circle unordered unseen observed_writes last_writes is_exact wrong breaks_off first_break split named_node finding_in
+unfolding sha256 first_words schedule rounds compress hash_after digest_bytes numeral number bytes_of list_of dep update_fields voucher_fields update_body statement id_of_update kind_of contradicts is_of_kind new_bodies writes_once operations closed observed pair_of circle unordered unseen observed_writes last_writes is_exact wrong breaks_off first_break split_finding named_node finding_in
 not_put = refl
 
 -- the same where the writer isn't handed in
 writer_absent : finding_in (of_nodes (node 2 (Birth 2 zeros ∷ told one ∷ []) (seen 2 one (97 ∷ []) ∷ []) ∷ [])) ≡ yes_found
-unfolding sha256 first_words schedule rounds compress hash_after digest_bytes numeral number bytes_of list_of dep update_fields voucher_fields update_body statement id_of_update kind_of contradicts is_of_kind new_bodies writes_once operations closed observed pair_of circle unordered unseen observed_writes last_writes is_exact wrong breaks_off first_break split named_node finding_in
+unfolding sha256 first_words schedule rounds compress hash_after digest_bytes numeral number bytes_of list_of dep update_fields voucher_fields update_body statement id_of_update kind_of contradicts is_of_kind new_bodies writes_once operations closed observed pair_of circle unordered unseen observed_writes last_writes is_exact wrong breaks_off first_break split_finding named_node finding_in
 writer_absent = refl
 
 -- a value that the write doesn't name
 other_value : finding_in (of_nodes (node 2 (Birth 2 zeros ∷ told one ∷ []) (seen 2 one (98 ∷ []) ∷ []) ∷ [])) ≡ wrong_found 2 0
-unfolding sha256 first_words schedule rounds compress hash_after digest_bytes numeral number bytes_of list_of dep update_fields voucher_fields update_body statement id_of_update kind_of contradicts is_of_kind new_bodies writes_once operations closed observed pair_of circle unordered unseen observed_writes last_writes is_exact wrong breaks_off first_break split named_node finding_in
+unfolding sha256 first_words schedule rounds compress hash_after digest_bytes numeral number bytes_of list_of dep update_fields voucher_fields update_body statement id_of_update kind_of contradicts is_of_kind new_bodies writes_once operations closed observed pair_of circle unordered unseen observed_writes last_writes is_exact wrong breaks_off first_break split_finding named_node finding_in
 other_value = refl
 
 -- a read that shows the older of two
 old_read : finding_in (of_nodes (node 2 (Birth 2 zeros ∷ told one ∷ told two ∷ []) (seen 3 one (97 ∷ []) ∷ []) ∷ [])) ≡ wrong_found 2 0
-unfolding sha256 first_words schedule rounds compress hash_after digest_bytes numeral number bytes_of list_of dep update_fields voucher_fields update_body statement id_of_update kind_of contradicts is_of_kind new_bodies writes_once operations closed observed pair_of circle unordered unseen observed_writes last_writes is_exact wrong breaks_off first_break split named_node finding_in
+unfolding sha256 first_words schedule rounds compress hash_after digest_bytes numeral number bytes_of list_of dep update_fields voucher_fields update_body statement id_of_update kind_of contradicts is_of_kind new_bodies writes_once operations closed observed pair_of circle unordered unseen observed_writes last_writes is_exact wrong breaks_off first_break split_finding named_node finding_in
 old_read = refl
 
 -- ---- what lawful records never give
 
 -- two puts of a node of which the second names nothing: a fork that nobody is convicted of, and puts out of order
 out_of_order : finding_in (of_nodes (node 1 (Birth 1 zeros ∷ OwnPut one ((97 ∷ []) ∷ []) ∷ OwnPut apart ((99 ∷ []) ∷ []) ∷ []) [] ∷ [])) ≡ unordered_found (the_write 1 1) (the_write 1 2)
-unfolding sha256 first_words schedule rounds compress hash_after digest_bytes numeral number bytes_of list_of dep update_fields voucher_fields update_body statement id_of_update kind_of contradicts is_of_kind new_bodies writes_once operations closed observed pair_of circle unordered unseen observed_writes last_writes is_exact wrong breaks_off first_break split named_node finding_in
+unfolding sha256 first_words schedule rounds compress hash_after digest_bytes numeral number bytes_of list_of dep update_fields voucher_fields update_body statement id_of_update kind_of contradicts is_of_kind new_bodies writes_once operations closed observed pair_of circle unordered unseen observed_writes last_writes is_exact wrong breaks_off first_break split_finding named_node finding_in
 out_of_order = refl
 
 -- a put behind a taken update that it doesn't name
 not_seen : finding_in (of_nodes (node 2 (Birth 2 zeros ∷ told one ∷ OwnPut (record { writer = 2; seq = 0; clock = 2; prev = zeros; writes = put_one (107 ∷ []) (sha256 (98 ∷ [])) 1; deps = []; history = zeros }) ((98 ∷ []) ∷ []) ∷ []) [] ∷ [])) ≡ unseen_found (the_write 2 1) (the_write 2 2)
-unfolding sha256 first_words schedule rounds compress hash_after digest_bytes numeral number bytes_of list_of dep update_fields voucher_fields update_body statement id_of_update kind_of contradicts is_of_kind new_bodies writes_once operations closed observed pair_of circle unordered unseen observed_writes last_writes is_exact wrong breaks_off first_break split named_node finding_in
+unfolding sha256 first_words schedule rounds compress hash_after digest_bytes numeral number bytes_of list_of dep update_fields voucher_fields update_body statement id_of_update kind_of contradicts is_of_kind new_bodies writes_once operations closed observed pair_of circle unordered unseen observed_writes last_writes is_exact wrong breaks_off first_break split_finding named_node finding_in
 not_seen = refl
 
 -- a taken fork whose writer isn't convicted
 forked_off : finding_in (of_nodes (node 2 (Birth 2 zeros ∷ told one ∷ told apart ∷ []) [] ∷ [])) ≡ split_found 2 2
-unfolding sha256 first_words schedule rounds compress hash_after digest_bytes numeral number bytes_of list_of dep update_fields voucher_fields update_body statement id_of_update kind_of contradicts is_of_kind new_bodies writes_once operations closed observed pair_of circle unordered unseen observed_writes last_writes is_exact wrong breaks_off first_break split named_node finding_in
+unfolding sha256 first_words schedule rounds compress hash_after digest_bytes numeral number bytes_of list_of dep update_fields voucher_fields update_body statement id_of_update kind_of contradicts is_of_kind new_bodies writes_once operations closed observed pair_of circle unordered unseen observed_writes last_writes is_exact wrong breaks_off first_break split_finding named_node finding_in
 forked_off = refl
 
 -- the same, behind which the writer is convicted: a fork of separate branches
@@ -92,12 +92,12 @@ abbrev proof_of_fork : Record
 proof_of_fork = Conviction (Pair SamePrev (record { statement = statements.Update one; body = []; signature = [] }) (record { statement = statements.Update apart; body = []; signature = [] }))
 
 convicted_fork : finding_in (of_nodes (node 2 (Birth 2 zeros ∷ told one ∷ told apart ∷ proof_of_fork ∷ []) [] ∷ [])) ≡ yes_found
-unfolding sha256 first_words schedule rounds compress hash_after digest_bytes numeral number bytes_of list_of dep update_fields voucher_fields update_body statement id_of_update kind_of contradicts is_of_kind new_bodies writes_once operations closed observed pair_of circle unordered unseen observed_writes last_writes is_exact wrong breaks_off first_break split named_node finding_in
+unfolding sha256 first_words schedule rounds compress hash_after digest_bytes numeral number bytes_of list_of dep update_fields voucher_fields update_body statement id_of_update kind_of contradicts is_of_kind new_bodies writes_once operations closed observed pair_of circle unordered unseen observed_writes last_writes is_exact wrong breaks_off first_break split_finding named_node finding_in
 convicted_fork = refl
 
 -- and the convicted writer is handed in
 names_a_node : finding_in (of_nodes (node 1 (Birth 1 zeros ∷ OwnPut one ((97 ∷ []) ∷ []) ∷ []) [] ∷ node 2 (Birth 2 zeros ∷ told one ∷ told apart ∷ proof_of_fork ∷ []) [] ∷ [])) ≡ named_found 2 3
-unfolding sha256 first_words schedule rounds compress hash_after digest_bytes numeral number bytes_of list_of dep update_fields voucher_fields update_body statement id_of_update kind_of contradicts is_of_kind new_bodies writes_once operations closed observed pair_of circle unordered unseen observed_writes last_writes is_exact wrong breaks_off first_break split named_node finding_in
+unfolding sha256 first_words schedule rounds compress hash_after digest_bytes numeral number bytes_of list_of dep update_fields voucher_fields update_body statement id_of_update kind_of contradicts is_of_kind new_bodies writes_once operations closed observed pair_of circle unordered unseen observed_writes last_writes is_exact wrong breaks_off first_break split_finding named_node finding_in
 names_a_node = refl
 
 -- ---- closures

@@ -25,7 +25,7 @@ use Rattle.depot_laws.proofs.Exact.{exact_where}
 use Rattle.depot_laws.proofs.ForkJoin.{has_forests, fork_join_causal}
 use Rattle.depot_laws.proofs.NoVerdicts.{convicts_none}
 use Rattle.depot_model.specs.Receipts.{is_node}
-use Rattle.depot_model.specs.Audit.{Finding, yes_found, circle_found, wrong_found, named_found, reads_of, operations, observed, op_of, circle, unordered, unseen, is_exact, wrong_at, wrong, split, names_one_of, named_node, finding_in}
+use Rattle.depot_model.specs.Audit.{Finding, yes_found, circle_found, wrong_found, named_found, reads_of, operations, observed, op_of, circle, unordered, unseen, is_exact, wrong_at, wrong, split_finding, names_one_of, named_node, finding_in}
 use Rattle.depot_laws.proofs.FirstOfRow.{none_from, none_to, no_place_from, no_place_to, map_none, none_of_map, when_false, when_none, row_none, row_none_to}
 use Rattle.depot_laws.proofs.ObservedTests.{read_of, read_on, in_operations, from_operations, observed_from, observed_to, observed_above}
 use Rattle.depot_laws.proofs.InLine.{none_unordered, none_unseen}
@@ -179,13 +179,13 @@ module _ (W : World) (world : IsWorld W) where
 
   pub says_yes : IsForkJoinCausal W → ConvictsNoCorrectNode W → finding_in W ≡ yes_found
   unfolding finding_in
-  says_yes f convicts = yes_from (circle W) (unordered W) (unseen W) (wrong W) (split W) (named_node W)
+  says_yes f convicts = yes_from (circle W) (unordered W) (unseen W) (wrong W) (split_finding W) (named_node W)
       (circle_none f.strict.never) (none_unordered W world) (none_unseen W world) (wrong_none f.reads) (none_split W world) (named_none convicts)
 
   pub yes_is_causal : W.judged ≡ [] → finding_in W ≡ yes_found → IsForkJoinCausal W × ConvictsNoCorrectNode W
   unfolding finding_in
   yes_is_causal none e =
-      let rows = yes_to (circle W) (unordered W) (unseen W) (wrong W) (split W) (named_node W) (none_unordered W world) (none_unseen W world) (none_split W world) (circle_no W) (wrong_no W) (named_no W) e in (
+      let rows = yes_to (circle W) (unordered W) (unseen W) (wrong W) (split_finding W) (named_node W) (none_unordered W world) (none_unseen W world) (none_split W world) (circle_no W) (wrong_no W) (named_no W) e in (
         record {
           strict = record { onward = leads_trans (Edge W); never = circle_never rows.one };
           lines = line W world;

@@ -26,7 +26,7 @@ use Rattle.depot_laws.proofs.Tests.{fails_from_not}
 use Rattle.depot_laws.proofs.Splits.{flat_gives, flat_left}
 use Rattle.depot_laws.proofs.ForkJoin.{has_forests}
 use Rattle.depot_laws.proofs.Causes.{none_or_one}
-use Rattle.depot_model.specs.Audit.{has_its_prev, end_of_chain, breaks_chain, breaks_off, first_break, split, split_found}
+use Rattle.depot_model.specs.Audit.{has_its_prev, end_of_chain, breaks_chain, breaks_off, first_break, split_finding, split_found}
 use Rattle.depot_laws.proofs.FirstOfRow.{row_none, map_none}
 
 -- ---- chains
@@ -122,7 +122,7 @@ module _ (J : List Record) (f : HasForests J) where
     skipped false e rest = rest
 
 -- so in a world no journal does
-pub none_split : (W : World) → IsWorld W → split W ≡ None
-unfolding split
+pub none_split : (W : World) → IsWorld W → split_finding W ≡ None
+unfolding split_finding
 none_split W world = row_none (λ (c : Correct). option_map (λ place. split_found c.node place) (first_break (convicted c.journal) [] 0 c.journal)) W.nodes
     (λ c c_on. map_none (λ place. split_found c.node place) (first_break (convicted c.journal) [] 0 c.journal) (unbroken c.journal (has_forests W world c c_on) [] 0 c.journal refl))

@@ -11,7 +11,7 @@ use Rattle.depot_model.specs.declared.taken.Taken.{Taken}
 use Rattle.depot_model.specs.declared.taken.Taken.TheVariants.{New, Known}
 use Rattle.depot_model.specs.Checks.{Setting, Given, given_statement, given_proof, given_value, answer_to}
 use Rattle.depot_model.specs.Lawful.{MayFollow, IsAllowed, is_birth, is_empty}
-use Rattle.depot_model.specs.RecordFaults.{given_by, IsAtPlace, IsFaultOf, IsFault, IsWrongBirth, IsNotNext, IsWrongVoucher, IsProofDue}
+use Rattle.depot_model.specs.RecordFaults.{taken_by_record, IsAtPlace, IsFaultOf, IsFault, IsWrongBirth, IsNotNext, IsWrongVoucher, IsProofDue}
 use Rattle.depot_model.specs.Records.{record_text, IsRecord, text_of_record}
 use Rattle.depot_model.proofs.RecordLaws.{record_text_lawful}
 
@@ -27,7 +27,7 @@ one_record r s fits fits_too same = one_way.value r s fits fits_too same
 -- ---- a record that is allowed
 
 -- what may follow and took something of others, took it as new
-took_new : (here : Setting) (J : List Record) (r : Record) (x : Given) → MayFollow here J r → given_by r ≡ Some x → answer_to here J x ≡ Ok New
+took_new : (here : Setting) (J : List Record) (r : Record) (x : Given) → MayFollow here J r → taken_by_record r ≡ Some x → answer_to here J x ≡ Ok New
 took_new here J (Birth node roster) x may is = absurd cc
 took_new here J (OwnPut u value) x may is = absurd cc
 took_new here J (OwnVoucher v) x may is = absurd cc
@@ -84,7 +84,7 @@ no_fault here J r fault.NoRoom a w = of_record here J r fault.NoRoom a w
 -- ---- one fault at most
 
 -- what took nothing of others has no answer
-took_none : (r : Record) (P : Given → Type 0) → given_by r ≡ None → ((x : Given) × ((given_by r ≡ Some x) × P x)) → ⊥
+took_none : (r : Record) (P : Given → Type 0) → taken_by_record r ≡ None → ((x : Given) × ((taken_by_record r ≡ Some x) × P x)) → ⊥
 took_none r P none (x, (by, holds)) = let never : None ≡ Some x = sym none ∙ by in cc
 
 -- a birth that is wrong has no other fault
@@ -135,14 +135,14 @@ only_room here J r fault.Idle place may (at, (x, (by, is))) = let never : Ok New
 only_room here J r fault.NoRoom place may w = refl
 
 -- what it took has one answer
-one_given : (r : Record) (x y : Given) → given_by r ≡ Some x → given_by r ≡ Some y → x ≡ y
+one_given : (r : Record) (x y : Given) → taken_by_record r ≡ Some x → taken_by_record r ≡ Some y → x ≡ y
 one_given r x y one two = let same : Some x ≡ Some y = sym one ∙ two in cc
 
-same_refusal : (here : Setting) (J : List Record) (r : Record) (a b : Result Taken Check) → ((x : Given) × ((given_by r ≡ Some x) × (answer_to here J x ≡ a))) → ((x : Given) × ((given_by r ≡ Some x) × (answer_to here J x ≡ b))) → a ≡ b
+same_refusal : (here : Setting) (J : List Record) (r : Record) (a b : Result Taken Check) → ((x : Given) × ((taken_by_record r ≡ Some x) × (answer_to here J x ≡ a))) → ((x : Given) × ((taken_by_record r ≡ Some x) × (answer_to here J x ≡ b))) → a ≡ b
 same_refusal here J r a b (x, (x_by, x_is)) (y, (y_by, y_is)) = sym x_is ∙ ap (answer_to here J) (one_given r x y x_by y_by) ∙ y_is
 
 -- what is due behind a statement that is new
-due_is_new : (here : Setting) (J : List Record) (r : Record) → IsProofDue here J r → (x : Given) × ((given_by r ≡ Some x) × (answer_to here J x ≡ Ok New))
+due_is_new : (here : Setting) (J : List Record) (r : Record) → IsProofDue here J r → (x : Given) × ((taken_by_record r ≡ Some x) × (answer_to here J x ≡ Ok New))
 due_is_new here J (Foreign s) w = (given_statement s, (refl, w.0))
 due_is_new here J (Birth node h) w = absurd w
 due_is_new here J (OwnPut u value) w = absurd w
@@ -150,7 +150,7 @@ due_is_new here J (OwnVoucher v) w = absurd w
 due_is_new here J (Conviction p) w = absurd w
 due_is_new here J (Held v) w = absurd w
 
-not_next_took_none : (here : Setting) (J : List Record) (r : Record) → IsNotNext here J r → given_by r ≡ None
+not_next_took_none : (here : Setting) (J : List Record) (r : Record) → IsNotNext here J r → taken_by_record r ≡ None
 not_next_took_none here J (OwnPut u value) w = refl
 not_next_took_none here J (Birth node h) w = absurd w
 not_next_took_none here J (OwnVoucher v) w = absurd w
@@ -158,7 +158,7 @@ not_next_took_none here J (Foreign s) w = absurd w
 not_next_took_none here J (Conviction p) w = absurd w
 not_next_took_none here J (Held v) w = absurd w
 
-voucher_took_none : (here : Setting) (J : List Record) (r : Record) → IsWrongVoucher here J r → given_by r ≡ None
+voucher_took_none : (here : Setting) (J : List Record) (r : Record) → IsWrongVoucher here J r → taken_by_record r ≡ None
 voucher_took_none here J (OwnVoucher v) w = refl
 voucher_took_none here J (Birth node h) w = absurd w
 voucher_took_none here J (OwnPut u value) w = absurd w

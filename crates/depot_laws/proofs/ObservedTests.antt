@@ -11,7 +11,7 @@ use Rattle.depot_model.specs.Texts.{id_of_update}
 use Rattle.depot_model.specs.Order.{IsPath, parents}
 use Rattle.depot_model.specs.Journal.{accepted, accepted_by}
 use Rattle.depot_model.specs.World.{Read, Correct, World, IsWorld, writes_of}
-use Rattle.depot_model.specs.Causality.{Operation, write, read_at, IsOperation, puts_of, Step, Edge, ObservedBefore}
+use Rattle.depot_model.specs.Causality.{Operation, write, read_at, IsOperation, puts_of, PrecedesDirectly, Edge, ObservedBefore}
 use Rattle.depot_model.proofs.Members.{in_left, in_right, in_parts, in_map, from_map, among_from, among_to}
 use Rattle.depot_laws.proofs.Splits.{flat_gives, given_by}
 use Rattle.depot_laws.proofs.Puts.{put_by, put_is_accepted}
@@ -99,7 +99,7 @@ module _ (W : World) (world : IsWorld W) where
   pub dropped_fit : (c : Correct) (n : ℕ) → IsIn c W.nodes → AllFit (puts_of (drop n c.journal))
   dropped_fit c n c_on u on = writes_fit u (write_from W c u c_on (put_is_accepted u c.journal (dropped_in n c.journal u on)))
 
-  step_to : (a b : Operation) → IsOperation W a → IsOperation W b → is_step a b ≡ true → Step a b
+  step_to : (a b : Operation) → IsOperation W a → IsOperation W b → is_step a b ≡ true → PrecedesDirectly a b
   step_to (write t) (write u) t_on u_on e = among_to (id_of_update t) (parents u) e
   step_to (write u) (read_at c place r) u_on r_on e = body_in_to u (accepted (take r.at c.journal)) (writes_fit u u_on) (taken_fit c r.at r_on.0) e
   step_to (read_at c i r) (read_at d j s) r_on s_on e =
@@ -107,7 +107,7 @@ module _ (W : World) (world : IsWorld W) where
       (one_node W world c d r_on.0 s_on.0 (eqb-true _ _ p.0), ltb-true _ _ p.1)
   step_to (read_at c place r) (write u) r_on u_on e = body_in_to u (puts_of (drop r.at c.journal)) (writes_fit u u_on) (dropped_fit c r.at r_on.0) e
 
-  step_from : (a b : Operation) → Step a b → is_step a b ≡ true
+  step_from : (a b : Operation) → PrecedesDirectly a b → is_step a b ≡ true
   step_from (write t) (write u) s = among_from (id_of_update t) (parents u) s
   step_from (write u) (read_at c place r) s = body_in_from u (accepted (take r.at c.journal)) s
   step_from (read_at c i r) (read_at d j s) p = and_from (c.node == d.node) (ltb i j) (eq-eqb _ _ (ap (λ (x : Correct). x.node) p.0)) (lt-ltb _ _ p.1)
@@ -146,13 +146,6 @@ module _ (W : World) (world : IsWorld W) where
   first_on a [] b path = path.above
   first_on a (s ∷ stops) b path = path.0.above
 
-  last_on : (a : Operation) (stops : List Operation) (b : Operation) → IsPath (Edge W) a stops b → IsOperation W b
-  last_on a [] b path = path.below
-  last_on a (s ∷ stops) b path = last_on s stops b path.1
-
   -- what is observed is an operation, and what it is observed before too
   pub observed_above : (a b : Operation) → ObservedBefore W a b → IsOperation W a
   observed_above a b o = first_on a o.stops b o.path
-
-  pub observed_below : (a b : Operation) → ObservedBefore W a b → IsOperation W b
-  observed_below a b o = last_on a o.stops b o.path

@@ -102,9 +102,6 @@ not_lawful here texts m f J a b =
 
 -- ---- reads
 
-abbrev Begins : List ReadTrace → ReadTrace → List ReadTrace → ReadTrace → Type 0
-Begins xs x ys y = (xs ≡ ys) × (x ≡ y)
-
 -- of two splits of reads one begins the other with a told read, or both are one
 reads_meet : (J : List Record) (last : ℕ) (xs : List ReadTrace) (x : ReadTrace) (after : List ReadTrace) (ys : List ReadTrace) (y : ReadTrace) (behind : List ReadTrace) → xs ++ x ∷ after ≡ ys ++ y ∷ behind
     → AreRightReads J last xs → AreRightReads J last ys → (IsRightRead J (last_length last xs) x → ⊥) → (IsRightRead J (last_length last ys) y → ⊥) → length xs ≡ length ys

@@ -17,7 +17,7 @@ use Rattle.depot_model.specs.Contents.{wrote_under, keys_written, value_for, IsV
 use Rattle.depot_model.specs.Causality.{puts_of}
 use Rattle.depot_model.specs.World.{Shown}
 use Rattle.depot_model.proofs.ContentLaws.{written_from}
-use Rattle.depot_model.specs.ReadTests.{named_in, value_written, is_value_in, is_value_of, if_held, is_gone, is_deletion, is_put_of}
+use Rattle.depot_model.specs.ReadTests.{value_named, value_written, is_value_in, is_value_of, if_held, is_gone, is_deletion, is_put_of}
 use Rattle.depot_model.specs.Audit.{shows_gone}
 use Rattle.depot_laws.proofs.SameBodies.{AllFit, body_is, body_from}
 
@@ -26,7 +26,7 @@ use Rattle.depot_laws.proofs.SameBodies.{AllFit, body_is, body_from}
 -- a key whose write names a value is one of those that an update writes
 pub written_key : (key : List ℕ) (u : Update) → is_some (value_written key u) ≡ true → IsIn key (keys_written u)
 written_key key u e = by_write (wrote_under key u.writes) refl e where
-  by_write : (o : Option Wrote) → wrote_under key u.writes ≡ o → is_some (option_and_then named_in o) ≡ true → IsIn key (keys_written u)
+  by_write : (o : Option Wrote) → wrote_under key u.writes ≡ o → is_some (option_and_then value_named o) ≡ true → IsIn key (keys_written u)
   by_write None is e = absurd cc
   by_write (Some what) is e = written_from key u.writes what is
 

@@ -1,6 +1,6 @@
 -- Numbers in rising order, each once, and distinct members of a list, which are no more than it has.
 use Rattle.std.proofs.Common.{◌≡◌, ℕ, ◌<◌, ◌≤◌, ltb, eqb, Bool, true, false, cond, List, [], ◌∷◌, ◌++◌, length, refl, sym, ap, subst, ◌∙◌, inl, inr, ◌⊎◌, arith, length-append}
-use Rattle.std.proofs.lemmas.Bool.{ltb-true, ltb-false, eqb-true, eqb-false}
+use Rattle.std.proofs.lemmas.Bool.{ltb-true, ltb-false, eqb-false}
 use Rattle.depot_base.specs.Pairs.{AllPairsByRecursion}
 use Rattle.depot_model.specs.Lists.{IsIn, AreApart}
 use Rattle.depot_model.proofs.Members.{in_left, in_right, in_parts, all_at, all_from}
@@ -19,31 +19,11 @@ unfolding put_number
 from_put_number n x [] on = on
 from_put_number n x (m ∷ ms) on = from_choice (ltb n m) (eqb n m) n m x ms (put_number n ms) on (from_put_number n x ms)
 
-into_choice : (below same : Bool) (n m x : ℕ) (ms more : List ℕ) → (same ≡ true → n ≡ m) → (n ≡ x) ⊎ IsIn x (m ∷ ms) → ((n ≡ x) ⊎ IsIn x ms → IsIn x more) → IsIn x (cond below (n ∷ m ∷ ms) (cond same (m ∷ ms) (m ∷ more)))
-into_choice true same n m x ms more is on behind = on
-into_choice false true n m x ms more is (inl here) behind = inl (sym (is refl) ∙ here)
-into_choice false true n m x ms more is (inr there) behind = there
-into_choice false false n m x ms more is (inl here) behind = inr (behind (inl here))
-into_choice false false n m x ms more is (inr (inl here)) behind = inl here
-into_choice false false n m x ms more is (inr (inr there)) behind = inr (behind (inr there))
-
-into_put_number : (n x : ℕ) (ms : List ℕ) → (n ≡ x) ⊎ IsIn x ms → IsIn x (put_number n ms)
-unfolding put_number
-into_put_number n x [] on = on
-into_put_number n x (m ∷ ms) on = into_choice (ltb n m) (eqb n m) n m x ms (put_number n ms) (eqb-true n m) on (into_put_number n x ms)
-
 -- a number of the rising ones is one of the numbers
 pub from_numbers : (x : ℕ) (ns : List ℕ) → IsIn x (numbers_rising ns) → IsIn x ns
 unfolding numbers_rising
 from_numbers x [] never = never
 from_numbers x (n ∷ ns) on = elim (from_put_number n x (numbers_rising ns) on) [ inl here ↦ inl here | inr there ↦ inr (from_numbers x ns there) ]
-
--- and the other way
-pub into_numbers : (x : ℕ) (ns : List ℕ) → IsIn x ns → IsIn x (numbers_rising ns)
-unfolding numbers_rising
-into_numbers x [] never = never
-into_numbers x (n ∷ ns) (inl here) = into_put_number n x (numbers_rising ns) (inl here)
-into_numbers x (n ∷ ns) (inr there) = into_put_number n x (numbers_rising ns) (inr (into_numbers x ns there))
 
 -- ---- order
 

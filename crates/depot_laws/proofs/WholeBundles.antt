@@ -1,5 +1,5 @@
 -- What the reader has behind all frames of a bundle that leaves nothing out.
-use Rattle.std.proofs.Common.{◌≡◌, ℕ, ◌==◌, List, [], ◌++◌, map, Bool, true, not, Some, refl, sym, ap, subst, ◌∙◌, inl, inr}
+use Rattle.std.proofs.Common.{◌≡◌, ℕ, ◌==◌, List, [], ◌++◌, map, true, not, Some, refl, sym, ap, subst, ◌∙◌, inl, inr}
 use Rattle.std.specs.List.{AllByRecursion, flat_map, list_any}
 use Rattle.std.proofs.lemmas.Grind.{flat_map-append}
 use Rattle.std.proofs.lemmas.Bool.{cases_Bool}
@@ -73,9 +73,6 @@ module _ (W : World) (a v : Correct) (P later : List Record) (hello_was : a.jour
   proof_on : (p : Proof) → IsIn p proofs → IsIn p (flat_map proof_by (J ++ vouchers))
   unfolding proofs
   proof_on p on = (from_filter (λ (q : Proof). not (list_any (λ n. n == accused q) (hello_at W a P).convicted)) p _ on).0
-
-  names_sent : Voucher → Bool
-  names_sent w = list_any (λ i. is_among i (sent_foreign v.node (parcels sign J (hello_at W a P)))) w.ids
 
   voucher_on : (w : Voucher) → IsIn w named_vouchers → IsIn w (own_vouchers (J ++ vouchers))
   unfolding named_vouchers

@@ -82,7 +82,8 @@ pub record Meet (W : World) (a v : Correct) (sign : Signs) (P J : List Record) :
   pub hello_was : a.journal ≡ P ++ later
   pub since : List Record
   pub bundle_was : v.journal ≡ with_vouchers J (bundle_at W a v sign P J).vouchers ++ since
-  pub signs : (s : Statement) → IsIn s (own (with_vouchers J (bundle_at W a v sign P J).vouchers)) → IsIn (statement_frame (signed_with sign s)) (bundle_at W a v sign P J).frames → IsWellSigned W (signed_with sign s)
+  pub signs : (s : Statement) → IsIn s (own (with_vouchers J (bundle_at W a v sign P J).vouchers))
+      → IsIn (statement_frame (signed_with sign s)) (bundle_at W a v sign P J).frames → IsWellSigned W (signed_with sign s)
 
 -- The reader has all that both had accepted. No frame was refused, and the stream was whole. Each value that the sender held for
 -- an update which it sent is held. Statements of others that contradict each other have a convicted writer.
@@ -91,7 +92,8 @@ pub record HasRejoined (W : World) (a v : Correct) (sign : Signs) (P J : List Re
   pub none_refused : (report_of s).refused ≡ []
   pub whole : (report_of s).ending ≡ ending.Whole
   pub values : (u : Update) (n : NamedValue) (value : List ℕ) → IsIn u (updates_sent W a sign P J) → IsIn n (values_named u) → held_as J n ≡ Some value → held_as s.journal n ≡ Some value
-  pub exposed : (f g : Signed) → IsIn f (foreign s.journal) → IsIn g (foreign s.journal) → (k : Kind) → contradicts k f.statement g.statement ≡ true → is_convicted s.journal (writer_of f.statement) ≡ true
+  pub exposed : (f g : Signed) → IsIn f (foreign s.journal) → IsIn g (foreign s.journal) → (k : Kind) → contradicts k f.statement g.statement ≡ true
+      → is_convicted s.journal (writer_of f.statement) ≡ true
 
 -- the reader's feed after these pieces
 abbrev pub feed_after : World → Correct → List (List ℕ) → Feeding

@@ -13,7 +13,7 @@ ghost use Rattle.depot_model.specs.RecordFaults.{IsFault};
 ghost use Rattle.depot_model.specs.Roster.{Verifies};
 ghost use Rattle.depot_model.specs.Traces.{Trace, AreTraced, IsFindingOf, IsCausalWorldOf};
 ghost use Rattle.depot_laws.specs.OneText.{HaveOneText};
-ghost use Rattle.depot_model.specs.Audit.{Finding, HasPath, writes_once, closed, observed, observed_by_parents, op_of, yes_found, circle_found, circle, unordered, unseen, is_exact, split, finding_in};
+ghost use Rattle.depot_model.specs.Audit.{Finding, HasPath, writes_once, closed, observed, observed_by_parents, op_of, yes_found, circle_found, circle, unordered, unseen, is_exact, split_finding, finding_in};
 ghost use Rattle.depot_laws.specs.ToReads.{IsUpToRead};
 ghost use Rattle.depot_laws.specs.AuditFacts.{ListsPuts, ReadsLookAtWrites, AreOfNodes};
 
@@ -32,7 +32,7 @@ pub fn observed_is_observation()
 pub fn lawful_worlds_are_in_line()
     ensures unordered { (W : World) → IsWorld W → unordered W ≡ None }
     ensures unseen { (W : World) → IsWorld W → unseen W ≡ None }
-    ensures split { (W : World) → IsWorld W → split W ≡ None }
+    ensures split { (W : World) → IsWorld W → split_finding W ≡ None }
 {}
 
 /// In a world a write is observed before another exactly where a path of parents leads from it to the other, and before a read

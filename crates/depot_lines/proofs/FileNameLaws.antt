@@ -5,7 +5,7 @@ use Rattle.std.proofs.lemmas.Bool.{false_from_ne_true, leb-true, lt-ltb, and_par
 use Rattle.std.proofs.lemmas.Str.{IsUtf8-from_is_utf8, is_utf8-from_IsUtf8}
 use Rattle.std.specs.List.{list_all}
 use Rattle.depot_lines.specs.declared.line_fault.LineFault.TheVariants as is
-use Rattle.depot_lines.specs.Spelling.{is_word, is_word_byte, is_within, is_name}
+use Rattle.depot_lines.specs.Spelling.{is_word, is_word_byte, is_within, is_plain_name}
 use Rattle.depot_lines.proofs.LanguageLaws.{LawfulWord, need_ok, ok_is}
 use Rattle.depot_lines.specs.FileNames.{is_file_name, file_name}
 
@@ -17,7 +17,7 @@ is_no_text bytes h = false_from_ne_true (is_utf8 bytes) (λ e. h (IsUtf8-from_is
 
 plain_name : (name : List ℕ) → is_file_name name ≡ true → is_word name ≡ true
 plain_name name e =
-    let n = and_parts (is_name name) (is_utf8 name) e in
+    let n = and_parts (is_plain_name name) (is_utf8 name) e in
     let p = and_parts (is_within 1 4096 (length name)) (list_all is_word_byte name) n.0 in
     let some : 1 ≤ length name = leb-true _ _ (and_parts (leb 1 (length name)) (leb (length name) 4096) p.0).0 in
     and_from _ _ (lt-ltb _ _ some) p.1

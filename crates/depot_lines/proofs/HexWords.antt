@@ -12,7 +12,7 @@ use Rattle.depot_model.specs.Checkpoints.{is_checkpoint_key}
 use Rattle.depot_model.specs.Receipts.{receipt_of}
 use Rattle.depot_lines.specs.declared.line_fault.LineFault.TheVariants as is
 use Rattle.depot_lines.specs.Spelling.{is_word, is_word_byte, is_within, is_lower_digit, hex_word, sized}
-use Rattle.depot_lines.specs.Vocabulary.{hex, key, put_key, value, raw_bytes, digest}
+use Rattle.depot_lines.specs.Vocabulary.{hex, key, put_key, value, raw_bytes, digest_word}
 use Rattle.depot_lines.proofs.LanguageLaws.{LawfulWord, bind_ok, or_fault_ok, such_that_lawful, or_empty_lawful, if_some, never}
 use Rattle.depot_lines.proofs.Splitting.{all_weaker}
 
@@ -154,5 +154,5 @@ value_lawful {C = C} = or_empty_lawful (hex (is_within 1 65536)) (hex_lawful (is
 pub raw_lawful : {C : Type 0} → LawfulWord (raw_bytes {C = C})
 raw_lawful {C = C} = or_empty_lawful (hex (leb 1)) (hex_lawful (leb 1) refl) (λ c fits. never fits.0) (λ c. (is.Hex, refl))
 
-pub digest_lawful : {C : Type 0} → LawfulWord (digest {C = C})
+pub digest_lawful : {C : Type 0} → LawfulWord (digest_word {C = C})
 digest_lawful = hex_lawful (is_within 32 32) refl

@@ -10,7 +10,7 @@ use Rattle.depot_lines.specs.declared.line_fault.LineFault.{LineFault}
 use Rattle.depot_lines.specs.declared.line_fault.LineFault.TheVariants as is
 use Rattle.depot_lines.specs.Spelling.{is_word, is_within}
 use Rattle.depot_base.specs.Format.{◌>>=◌}
-use Rattle.depot_lines.specs.Language.{or_fault, Word, Words, such_that, dash, or_none, or_empty, FitsOption, FitsIfAny, next, word, made, optional, last, counted, texts_of}
+use Rattle.depot_lines.specs.Language.{or_fault, Word, Words, such_that, dash, or_none, or_empty, FitsOption, FitsIfAny, next, word, line_made, optional, last, counted_words, texts_of}
 use Rattle.depot_lines.proofs.GatherSteps.{ok}
 
 -- Each word is read as its value and as nothing else, and it is a word of a line.
@@ -151,7 +151,7 @@ word_lawful {A = A} first part more low high fl heads ml = record {
   few = λ c e fits. let f = (ml (part e)).few c e fits.1 in (omega arith, omega arith);
 }
 
-pub made_lawful : {C E : Type 0} (e : E) → LawfulWithin (made {C = C} e) 0 0
+pub made_lawful : {C E : Type 0} (e : E) → LawfulWithin (line_made {C = C} e) 0 0
 made_lawful {C = C} {E = E} e = record {
   lawful = record {
     takes = λ c ws d r.
@@ -198,7 +198,7 @@ optional_lawful {A = A} {E = E} first part make l is_part = record {
   few = λ c e fits. (omega arith, (last_plain first l c (part e) fits.0).1);
 }
 
-pub counted_lawful : {C E : Type 0} (low high : ℕ) (f : Words C E) → LawfulWithin f low high → Lawful (counted low high f)
+pub counted_lawful : {C E : Type 0} (low high : ℕ) (f : Words C E) → LawfulWithin f low high → Lawful (counted_words low high f)
 counted_lawful low high f l = record {
   takes = λ c ws e r. l.lawful.takes c ws e (need_ok (is_within low high (length ws)) (f.read c ws) is.Fields e r).1;
   again = λ c e fits.
@@ -217,11 +217,11 @@ word_line first part more remade low high fl is_part rest = record {
   made = λ c e fits. (rest (part e)).made c e fits.1;
 }
 
-pub made_line : {C E : Type 0} (e : E) → LawfulLine (made {C = C} e) 0 0 (λ d. e)
+pub made_line : {C E : Type 0} (e : E) → LawfulLine (line_made {C = C} e) 0 0 (λ d. e)
 made_line e = record { within = made_lawful e; made = λ c d fits. fits }
 
 pub optional_line : {C A E : Type 0} (first : Word C A) (part : E → Option A) (make : Option A → E) → LawfulWord first → ((o : Option A) → part (make o) ≡ o) → LawfulLine (optional first part make) 0 1 (λ e. make (part e))
 optional_line first part make l is_part = record { within = optional_lawful first part make l is_part; made = λ c e fits. fits.1 }
 
-pub counted_line : {C E : Type 0} (low high : ℕ) (f : Words C E) (remade : E → E) → LawfulLine f low high remade → LawfulLine (counted low high f) low high remade
+pub counted_line : {C E : Type 0} (low high : ℕ) (f : Words C E) (remade : E → E) → LawfulLine f low high remade → LawfulLine (counted_words low high f) low high remade
 counted_line low high f remade l = record { within = record { lawful = counted_lawful low high f l.within; few = l.within.few }; made = l.made }

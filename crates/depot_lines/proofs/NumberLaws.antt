@@ -10,7 +10,7 @@ use Rattle.depot_lines.specs.declared.line_fault.LineFault.{LineFault}
 use Rattle.depot_lines.specs.declared.line_fault.LineFault.TheVariants as is
 use Rattle.depot_lines.specs.Spelling.{is_word, is_word_byte, is_digit, value_behind, has_no_leading_zero, is_within, is_number, number_word}
 use Rattle.depot_lines.specs.Language.{or_fault}
-use Rattle.depot_lines.specs.Vocabulary.{number_or, number}
+use Rattle.depot_lines.specs.Vocabulary.{number_or, number_between}
 use Rattle.depot_lines.proofs.LanguageLaws.{LawfulWord, or_fault_ok}
 use Rattle.depot_lines.proofs.Splitting.{all_weaker}
 
@@ -101,5 +101,5 @@ number_or_lawful fault low high small = record {
   plain = λ c n fits. plain_decimal n (omega (arith, small, fits.1));
 }
 
-pub number_lawful : {C : Type 0} (low high : ℕ) → high < 10 ^ 19 → LawfulWord (number {C = C} low high)
+pub number_lawful : {C : Type 0} (low high : ℕ) → high < 10 ^ 19 → LawfulWord (number_between {C = C} low high)
 number_lawful low high small = number_or_lawful is.Number low high small

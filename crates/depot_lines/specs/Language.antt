@@ -149,8 +149,8 @@ word first part more = record {
 }
 
 -- the end of a line, whose words make this value
-abbrev pub made : {C E : Type 0} → E → Words C E
-made e = record {
+abbrev pub line_made : {C E : Type 0} → E → Words C E
+line_made e = record {
   fits = λ c d. d ≡ e;
   text = λ d. [];
   read = λ c words. if length words == 0 then Ok e else Err is.Fields;
@@ -174,8 +174,8 @@ optional first part make = record {
 }
 
 -- a line of low to high words: how many they are is looked at before any word is
-abbrev pub counted : {C E : Type 0} → ℕ → ℕ → Words C E → Words C E
-counted low high line = record {
+abbrev pub counted_words : {C E : Type 0} → ℕ → ℕ → Words C E → Words C E
+counted_words low high line = record {
   fits = line.fits;
   text = line.text;
   read = λ c words. if is_within low high (length words) then line.read c words else Err is.Fields;

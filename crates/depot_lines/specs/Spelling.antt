@@ -77,5 +77,5 @@ is_label (b ∷ bs) = is_letter b && list_all is_label_byte bs && nat_le (length
 -- ---- names of files
 
 -- 1 to 4,096 bytes without space or LF
-abbrev pub is_name : List ℕ → Bool
-is_name word = is_within 1 MOST_NAME (length word) && list_all is_word_byte word
+abbrev pub is_plain_name : List ℕ → Bool
+is_plain_name word = is_within 1 MOST_NAME (length word) && list_all is_word_byte word

@@ -31,24 +31,24 @@ number_or fault low high = record {
 }
 
 -- a number from low to high in decimal
-abbrev pub number : {C : Type 0} → ℕ → ℕ → Word C ℕ
-number low high = number_or is.Number low high
+abbrev pub number_between : {C : Type 0} → ℕ → ℕ → Word C ℕ
+number_between low high = number_or is.Number low high
 
 -- the id of a node
 abbrev pub id : {C : Type 0} → Word C ℕ
-id = number 1 65535
+id = number_between 1 65535
 
 -- any number of 32 bits
 abbrev pub any_u32 : {C : Type 0} → Word C ℕ
-any_u32 = number 0 4294967295
+any_u32 = number_between 0 4294967295
 
 -- a clock, from 1 to 2^63 - 1
 abbrev pub clock : {C : Type 0} → Word C ℕ
-clock = number 1 9223372036854775807
+clock = number_between 1 9223372036854775807
 
 -- a number of nodes
 abbrev pub node_count : {C : Type 0} → Word C ℕ
-node_count = number 1 MOST_NODES
+node_count = number_between 1 MOST_NODES
 
 -- ---- bytes
 
@@ -77,8 +77,8 @@ abbrev pub raw_bytes : {C : Type 0} → Word C (List ℕ)
 raw_bytes = or_empty (hex (nat_le 1))
 
 -- a digest of 32 bytes
-abbrev pub digest : {C : Type 0} → Word C (List ℕ)
-digest = hex (is_within 32 32)
+abbrev pub digest_word : {C : Type 0} → Word C (List ℕ)
+digest_word = hex (is_within 32 32)
 
 -- ---- labels
 

@@ -6,7 +6,7 @@ ghost use Rattle.std.specs.Str.{bytes_eq};
 ghost use Rattle.depot_model.specs.Checkpoints.{is_checkpoint_key};
 ghost use Rattle.depot_model.specs.Lines.{name_of_kind};
 ghost use Rattle.depot_model.specs.Receipts.{receipt_of};
-ghost use Rattle.depot_lines.specs.Spelling.{is_word_byte, is_within, is_lower_digit, is_digit, hex_word, has_no_leading_zero, is_number, value_behind, number_word, is_name};
+ghost use Rattle.depot_lines.specs.Spelling.{is_word_byte, is_within, is_lower_digit, is_digit, hex_word, has_no_leading_zero, is_number, value_behind, number_word, is_plain_name};
 
 use depot_base::limits::MOST_NAME;
 use depot_base::{Bytes, Kind, Memory};
@@ -131,7 +131,7 @@ fn are_word_bytes(bytes: &[u8]) -> bool
 
 /// Whether the bytes are 1 to 4,096 in number, and none is a space or LF: these name files.
 pub fn is_name(bytes: &[u8]) -> bool
-    ensures { result ≡ is_name bytes.now }
+    ensures { result ≡ is_plain_name bytes.now }
 {
     has_length(bytes, 1, MOST_NAME) && are_word_bytes(bytes)
 }

@@ -2,7 +2,7 @@
 ghost use Rattle.std.specs.Prelude.{◌≤◌, length, IfOk};
 ghost use Rattle.depot_lines.specs.Spelling.{is_within};
 ghost use Rattle.depot_lines.specs.Language.{nothing, next};
-ghost use Rattle.depot_lines.specs.Vocabulary.{number, id, any_u32, clock, node_count, hex, key, put_key, value, raw_bytes, digest, label, kind};
+ghost use Rattle.depot_lines.specs.Vocabulary.{number_between, id, any_u32, clock, node_count, hex, key, put_key, value, raw_bytes, digest_word, label, kind};
 ghost use Rattle.depot_lines.specs.LineReading.{AnswersReading, TakesReading};
 
 pub use crate::changes::changes;
@@ -17,7 +17,7 @@ use std::alloc::Global;
 
 /// The number from low to high that a word is.
 pub fn number_of(word: &[u8], low: u64, high: u64) -> Result<u64, LineError>
-    ensures gives { AnswersReading result ((number low high).read nothing word.now) }
+    ensures gives { AnswersReading result ((number_between low high).read nothing word.now) }
     ensures range { IfOk result (λ n. (low ≤ n) × (n ≤ high)) }
 {
     match number_word(word, low, high) {
@@ -100,7 +100,7 @@ pub(crate) fn put_key_of(alloc: Global, word: &[u8]) -> Result<Key, LineError>
 
 /// The digest that a word is, of 32 bytes.
 pub fn digest_of(alloc: Global, word: &[u8]) -> Result<Hash32, LineError>
-    ensures { AnswersReading result (digest.read nothing word.now) }
+    ensures { AnswersReading result (digest_word.read nothing word.now) }
 {
     let bytes = hex_of(alloc, word, 32, 32)?;
     match Hash32::from_slice(bytes.as_slice()) {
@@ -164,7 +164,7 @@ pub fn raw_bytes(alloc: Global, words: &mut Parts<'_>) -> Result<Bytes, LineErro
 
 /// A digest.
 pub fn digest(alloc: Global, words: &mut Parts<'_>) -> Result<Hash32, LineError>
-    ensures { TakesReading result words.new (next (digest.read nothing) words.old) }
+    ensures { TakesReading result words.new (next (digest_word.read nothing) words.old) }
 {
     let word = words.word()?;
     digest_of(alloc, word)

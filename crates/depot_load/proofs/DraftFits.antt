@@ -10,7 +10,7 @@ use Rattle.depot_lines.specs.Spelling.{is_letter}
 use Rattle.depot_schedule.specs.EventWords.{label_made}
 use Rattle.depot_schedule.specs.Schedules.{FitsEvent, FitEvents}
 use Rattle.depot_load.specs.declared.load_draft.LoadDraft.{LoadDraft}
-use Rattle.depot_load.specs.Loads.{number_at, drawn, draw, value_of, label_of, round_hello, round_bundle, round_update, faulty_node, some_node, some_key, other_than, with_event, put_round, get_round, given, bundled, exchange_round, update_round, faulty_round, round_by, round, giver, taker, schedule_with}
+use Rattle.depot_load.specs.Loads.{number_at, drawn, draw, value_of, label_of, round_hello, round_bundle, round_update, faulty_node, some_node, some_key, other_than, draft_with, put_round, get_round, given, bundled, exchange_round, update_round, faulty_round, round_by, round, giver, taker, schedule_with}
 use Rattle.depot_load.proofs.Fresh.{rank, IsFree, NamesBytes, free-from, free-more, free-made, made-now, made-before}
 use Rattle.depot_load.proofs.EventFits.{fits-more, IsCorrect, IsSize, put-fits, get-fits, restart-fits, hello-fits, bundle-fits, give-fits, update-fits}
 
@@ -32,7 +32,7 @@ longer : (es : List Event) (e : Event) (n : ℕ) → length es ≤ n → length 
 longer es e n le = omega (arith, length-append es (e ∷ []))
 
 -- one event more, which makes no label
-pub good-more : (k u n : ℕ) (d : LoadDraft) (e : Event) → label_made e ≡ None → FitsEvent (schedule_with d.events) e → IsGood k u n d → IsGood k u (n + 1) (with_event d e)
+pub good-more : (k u n : ℕ) (d : LoadDraft) (e : Event) → label_made e ≡ None → FitsEvent (schedule_with d.events) e → IsGood k u n d → IsGood k u (n + 1) (draft_with d e)
 good-more k u n d e none fits good = record {
   fits = fits-more [] d.events e good.fits fits;
   free = free-more k d.events e none good.free;
@@ -41,7 +41,7 @@ good-more k u n d e none fits good = record {
 }
 
 -- one event more, which makes a label
-pub good-made : (k u n c m : ℕ) (d : LoadDraft) (e : Event) (what : Made) → label_made e ≡ Some (label_of c m, what) → m < 2 ^ 32 → k ≤ rank c m → FitsEvent (schedule_with d.events) e → IsGood k u n d → IsGood (rank c m + 1) u (n + 1) (with_event d e)
+pub good-made : (k u n c m : ℕ) (d : LoadDraft) (e : Event) (what : Made) → label_made e ≡ Some (label_of c m, what) → m < 2 ^ 32 → k ≤ rank c m → FitsEvent (schedule_with d.events) e → IsGood k u n d → IsGood (rank c m + 1) u (n + 1) (draft_with d e)
 good-made k u n c m d e what is small from fits good = record {
   fits = fits-more [] d.events e good.fits fits;
   free = free-made k d.events e c m what is small from good.free;
@@ -74,7 +74,7 @@ good-bundled k u n v r c b m d one two small giver taker from above good =
     let f = Bundle v (label_of c m) (label_of b m) in
     let next : rank c m + 1 ≤ rank b m = below_next (rank c m) (rank b m) above in
     let first = good-made k u n c m d e made.Bytes refl small from (hello-fits d.events r c m one small taker (good.free c m small from)) good in
-    let second = good-made (rank c m + 1) u (n + 1) b m (with_event d e) f made.Bytes refl small next
+    let second = good-made (rank c m + 1) u (n + 1) b m (draft_with d e) f made.Bytes refl small next
     (bundle-fits (d.events ++ e ∷ []) v c b m one two small giver (made-now d.events e (label_of c m) made.Bytes refl refl) (first.free b m small next)) first in (
       good-still (rank b m + 1) (rank b m + 1) u u (n + 1 + 1) (n + 2) (bundled v r (label_of c m) (label_of b m) d) (omega arith) (omega arith) (omega arith) second,
       made-now (d.events ++ e ∷ []) f (label_of b m) made.Bytes refl refl,
@@ -83,7 +83,7 @@ good-bundled k u n v r c b m d one two small giver taker from above good =
       below_next x y lt = omega arith
 
 -- bytes that a label has are given to a node
-pub good-give : (k u n r c m : ℕ) (size : Option ℕ) (d : LoadDraft) → is_letter c ≡ true → m < 2 ^ 32 → IsCorrect r → IsSize size → NamesBytes d.events (label_of c m) → IsGood k u n d → IsGood k u (n + 1) (with_event d (Give r (label_of c m) size))
+pub good-give : (k u n r c m : ℕ) (size : Option ℕ) (d : LoadDraft) → is_letter c ≡ true → m < 2 ^ 32 → IsCorrect r → IsSize size → NamesBytes d.events (label_of c m) → IsGood k u n d → IsGood k u (n + 1) (draft_with d (Give r (label_of c m) size))
 good-give k u n r c m size d letter small taker fits names good = good-more k u n d (Give r (label_of c m) size) refl (give-fits d.events r c m size letter small taker fits names) good
 
 -- ---- rounds
@@ -94,8 +94,8 @@ either k u n false x y p q = q
 
 good-given : (k u n c r t : ℕ) (d : LoadDraft) → t < 2 ^ 32 → IsCorrect r → NamesBytes d.events (round_bundle t) → IsGood k u n d → IsGood k u (n + 2) (given c r (round_bundle t) d)
 good-given k u n c r t d small taker names good =
-    let one = with_event d (Give r (round_bundle t) None) in
-    let pieces = with_event d (Give r (round_bundle t) (Some 1460)) in
+    let one = draft_with d (Give r (round_bundle t) None) in
+    let pieces = draft_with d (Give r (round_bundle t) (Some 1460)) in
     let given_once = good-give k u n r 98 t None d refl small taker tt names good in
     let given_twice = good-give k u (n + 1) r 98 t None one refl small taker tt (made-before d.events (Give r (round_bundle t) None) (round_bundle t) refl names) given_once in
     let in_pieces = good-give k u n r 98 t (Some 1460) d refl small taker (omega arith, omega arith) names good in
@@ -155,9 +155,9 @@ good-update t n d early taker good =
     let small : t < 2 ^ 32 = omega (arith, early) in
     let e = Update (round_update t) faulty_node a.updates 1 None (some_key a) (value_of t) [] Right in
     let first = good-made (3 * t) t (4 * t) 102 t a e made.Update refl small (omega arith) (update-fits a.events t a.updates (draw 40 a) small few (ready.free 102 t small (omega arith))) ready in
-    let b = with_event a e in
+    let b = draft_with a e in
     let second = good-give (3 * t + 2 + 1) t (4 * t + 1) n 102 t None b refl small taker tt (made-now a.events e (round_update t) made.Update refl refl) first in
-    let all = one_update_more (3 * t + 2 + 1) t (4 * t + 1 + 1) (with_event b (Give n (round_update t) None)) second in
+    let all = one_update_more (3 * t + 2 + 1) t (4 * t + 1 + 1) (draft_with b (Give n (round_update t) None)) second in
     good-still (3 * t + 2 + 1) (3 * t + 3) (t + 1) (t + 1) (4 * t + 1 + 1) (4 * t + 4) (update_round t n d) (omega arith) (omega arith) (omega arith) all
 
 good-faulty : (t : ℕ) (d : LoadDraft) → t < 2000 → IsBeforeRound t d → AfterRound t (faulty_round t d)
@@ -166,8 +166,8 @@ good-faulty t d early good =
     let b = drawn a in
     let n = some_node a in
     let ready = good-drawn (3 * t) t (4 * t) a (good-drawn (3 * t) t (4 * t) d good) in
-    either (3 * t + 3) (t + 1) (4 * t + 4) (eqb (draw 4 b) 0) (with_event b (Restart n)) (update_round t n b)
-    (after (3 * t) (4 * t + 1) t (with_event b (Restart n)) (omega arith) (omega arith) (good-more (3 * t) t (4 * t) b (Restart n) refl (restart-fits b.events n (some-correct a)) ready))
+    either (3 * t + 3) (t + 1) (4 * t + 4) (eqb (draw 4 b) 0) (draft_with b (Restart n)) (update_round t n b)
+    (after (3 * t) (4 * t + 1) t (draft_with b (Restart n)) (omega arith) (omega arith) (good-more (3 * t) t (4 * t) b (Restart n) refl (restart-fits b.events n (some-correct a)) ready))
     (good-update t n b early (some-correct a) ready)
 
 -- one round more

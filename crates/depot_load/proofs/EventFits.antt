@@ -15,7 +15,7 @@ use Rattle.depot_schedule.specs.EventWords.{correct, new_label, made_label, is_c
 use Rattle.depot_lines.specs.Vocabulary.{key, put_key, value}
 use Rattle.depot_schedule.specs.Schedules.{FitsEvent, FitEvents}
 use Rattle.depot_world.proofs.OnlyBytes.{by_places, only_numeral}
-use Rattle.depot_load.specs.Loads.{key_of, value_of, label_of, members, faulty_node, schedule_with, round_update}
+use Rattle.depot_load.specs.Loads.{load_key, value_of, label_of, members, faulty_node, schedule_with, round_update}
 use Rattle.depot_load.proofs.Fresh.{NamesBytes}
 use Rattle.depot_load.proofs.WordLaws.{is_label_of}
 
@@ -45,12 +45,12 @@ IsCorrect v = (1 ≤ v) × (v ≤ 5)
 node-fits : (es : List Event) (v : ℕ) → IsCorrect v → correct.fits (schedule_with es) v
 node-fits es v is = ((is.0, omega (arith, is.1)), is_declared v is.0 is.1)
 
-key-fits : (es : List Event) (n : ℕ) → key.fits (schedule_with es) (key_of n)
+key-fits : (es : List Event) (n : ℕ) → key.fits (schedule_with es) (load_key n)
 unfolding numeral
 key-fits es n = (refl, by_places (numeral w16 n) (only_numeral w16 n))
 
 -- it has neither a receipt's form nor a checkpoint's
-put-key-fits : (es : List Event) (n : ℕ) → put_key.fits (schedule_with es) (key_of n)
+put-key-fits : (es : List Event) (n : ℕ) → put_key.fits (schedule_with es) (load_key n)
 unfolding numeral receipt_of is_checkpoint_key
 put-key-fits es n = (key-fits es n, refl)
 
@@ -66,11 +66,11 @@ made-fits es c n letter small names = (is_label_of c n letter small, names)
 
 -- ---- events
 
-pub put-fits : (es : List Event) (v n t : ℕ) → IsCorrect v → FitsEvent (schedule_with es) (Put v (key_of n) (value_of t))
+pub put-fits : (es : List Event) (v n t : ℕ) → IsCorrect v → FitsEvent (schedule_with es) (Put v (load_key n) (value_of t))
 unfolding put_line
 put-fits es v n t node = (node-fits es v node, (put-key-fits es n, (value-fits es t, refl)))
 
-pub get-fits : (es : List Event) (v n : ℕ) → IsCorrect v → FitsEvent (schedule_with es) (Get v (key_of n))
+pub get-fits : (es : List Event) (v n : ℕ) → IsCorrect v → FitsEvent (schedule_with es) (Get v (load_key n))
 unfolding get_line
 get-fits es v n node = (node-fits es v node, (key-fits es n, refl))
 
@@ -98,7 +98,7 @@ give-fits es v c n None letter small node fits names = (node-fits es v node, (ma
 give-fits es v c n (Some size) letter small node fits names = (node-fits es v node, (made-fits es c n letter small names, (fits, refl)))
 
 pub update-fits : (es : List Event) (t q n : ℕ) → t < 2 ^ 32 → q < 4096 → named_by es (round_update t) ≡ None
-    → FitsEvent (schedule_with es) (Update (round_update t) faulty_node q 1 None (key_of n) (value_of t) [] Right)
+    → FitsEvent (schedule_with es) (Update (round_update t) faulty_node q 1 None (load_key n) (value_of t) [] Right)
 unfolding update_line
 update-fits es t q n small few none =
     (new-fits es 102 t refl small none, (((omega arith, omega arith), refl), (((omega arith, omega arith), lt-ltb q 4096 few), ((omega arith, omega arith), (tt, (key-fits es n, (value-fits es t, (tt, (tt, refl)))))))))

@@ -5,7 +5,7 @@ use Rattle.std.specs.List.{filter_map}
 use Rattle.std.proofs.lemmas.List.{drop-map, length-map, append-nil, take_all}
 use Rattle.std.proofs.lemmas.List.Elements.{filter_map-append}
 use Rattle.std.proofs.lemmas.List.Folds.{list_all-map}
-use Rattle.depot_load.specs.Summaries.{last_of}
+use Rattle.depot_load.specs.Summaries.{last_items}
 
 pub ruleset kept = (list_all-map)
 
@@ -26,7 +26,7 @@ some_more h xs i x y lt at some =
     item_more h xs i x lt at ∙ rw one refl
 
 -- the last of a list, seen otherwise
-pub last_seen : {X Y : Type 0} (view : X → Y) (n : ℕ) (all xs : List X) (ys : List Y) (k : ℕ) → all ≡ xs → map view xs ≡ ys → k ≡ length all - n → map view (take (length all - k) (drop k all)) ≡ last_of n ys
+pub last_seen : {X Y : Type 0} (view : X → Y) (n : ℕ) (all xs : List X) (ys : List Y) (k : ℕ) → all ≡ xs → map view xs ≡ ys → k ≡ length all - n → map view (take (length all - k) (drop k all)) ≡ last_items n ys
 last_seen view n all xs ys k same are is =
     let whole : take (length all - k) (drop k all) ≡ drop k all = take_all (length all - k) (drop k all) (omega (arith, length-drop k all)) in
     let seen : map view all ≡ ys = ap (λ (l : List _). map view l) same ∙ are in

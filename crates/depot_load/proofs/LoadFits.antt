@@ -5,7 +5,7 @@ use Rattle.depot_schedule.specs.declared.event.Event.TheVariants.{Get, Hello, Gi
 use Rattle.depot_schedule.specs.declared.verb.Made.TheVariants as made
 use Rattle.depot_schedule.specs.Schedules.{FitMembers, IsSchedule, before_members}
 use Rattle.depot_load.specs.declared.load_draft.LoadDraft.{LoadDraft}
-use Rattle.depot_load.specs.Loads.{begun, bundled, drafted, exchange, farewell, giver, greet, key_of, last_bundle, last_hello, load_of, members, read, round, schedule_with, steps, taker, with_event}
+use Rattle.depot_load.specs.Loads.{begun, bundled, whole_draft, exchange, farewell, giver, greet, load_key, last_bundle, last_hello, load_of, members, read, round, schedule_with, steps, taker, draft_with}
 use Rattle.depot_load.proofs.Fresh.{free-none}
 use Rattle.depot_load.proofs.EventFits.{IsCorrect, get-fits, hello-fits}
 use Rattle.depot_load.proofs.DraftFits.{IsGood, IsBeforeRound, good-still, good-more, good-made, good-bundled, good-give, good-round, other-correct}
@@ -31,7 +31,7 @@ good-exchange j d early good =
     let made = good-bundled k 2000 (8000 + 3 * j) (giver j) (taker j) 101 103 j d refl refl small (giver-correct j) (taker-correct j) (omega arith) (omega arith) good in
     let b = bundled (giver j) (taker j) (last_hello j) (last_bundle j) d in
     let given = good-give (6001 + 2 * j + 1) 2000 (8000 + 3 * j + 2) (taker j) 103 j None b refl small (taker-correct j) tt made.1 made.0 in
-    good-still (6001 + 2 * j + 1) (6000 + 2 * (j + 1)) 2000 2000 (8000 + 3 * j + 2 + 1) (8000 + 3 * (j + 1)) (with_event b (Give (taker j) (last_bundle j) None)) (omega arith) (omega arith) (omega arith) given
+    good-still (6001 + 2 * j + 1) (6000 + 2 * (j + 1)) 2000 2000 (8000 + 3 * j + 2 + 1) (8000 + 3 * (j + 1)) (draft_with b (Give (taker j) (last_bundle j) None)) (omega arith) (omega arith) (omega arith) given
 
 -- one read more
 abbrev IsBeforeRead : ℕ → LoadDraft → Type 0
@@ -42,8 +42,8 @@ unfolding read
 good-read i d early good =
     let lt : i % 5 < 5 = mod_below i 5 (omega arith) in
     let node : IsCorrect (1 + i % 5) = (omega arith, omega (arith, lt)) in
-    let e = Get (1 + i % 5) (key_of (i / 5)) in
-    good-still 6080 6080 2000 2000 (8120 + i + 1) (8120 + (i + 1)) (with_event d e) (omega arith) (omega arith) (omega arith) (good-more 6080 2000 (8120 + i) d e refl (get-fits d.events (1 + i % 5) (i / 5) node) good)
+    let e = Get (1 + i % 5) (load_key (i / 5)) in
+    good-still 6080 6080 2000 2000 (8120 + i + 1) (8120 + (i + 1)) (draft_with d e) (omega arith) (omega arith) (omega arith) (good-more 6080 2000 (8120 + i) d e refl (get-fits d.events (1 + i % 5) (i / 5) node) good)
 
 -- one hello more
 abbrev IsBeforeHello : ℕ → LoadDraft → Type 0
@@ -56,15 +56,15 @@ good-greet i d early good =
     let node : IsCorrect (1 + i) = (omega arith, omega (arith, early)) in
     let e = Hello (1 + i) (farewell (1 + i)) in
     let said = good-made (6080 + i) 2000 (8320 + i) 122 (1 + i) d e made.Bytes refl small (omega arith) (hello-fits d.events (1 + i) 122 (1 + i) refl small node (good.free 122 (1 + i) small (omega arith))) good in
-    good-still (6079 + (1 + i) + 1) (6080 + (i + 1)) 2000 2000 (8320 + i + 1) (8320 + (i + 1)) (with_event d e) (omega arith) (omega arith) (omega arith) said
+    good-still (6079 + (1 + i) + 1) (6080 + (i + 1)) 2000 2000 (8320 + i + 1) (8320 + (i + 1)) (draft_with d e) (omega arith) (omega arith) (omega arith) said
 
 -- ---- all of it
 
 good-begun : (number : ℕ) → IsBeforeRound 0 (begun number)
 good-begun number = record { fits = tt; free = free-none; few = omega arith; short = omega arith }
 
-good-drafted : (number : ℕ) → IsBeforeHello 5 (drafted number)
-unfolding drafted
+good-drafted : (number : ℕ) → IsBeforeHello 5 (whole_draft number)
+unfolding whole_draft
 good-drafted number =
     let rounds = steps round 2000 (begun number) in
     let exchanges = steps exchange 40 rounds in

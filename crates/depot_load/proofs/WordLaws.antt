@@ -7,9 +7,9 @@ use Rattle.depot_base.specs.Cursor.{numeral}
 use Rattle.depot_lines.specs.Spelling.{is_digit, is_label, is_label_byte, is_letter}
 use Rattle.depot_lines.proofs.Splitting.{all_weaker}
 use Rattle.depot_lines.proofs.NumberLaws.{digits_of_decimal}
-use Rattle.depot_load.specs.Loads.{key_of, value_of, label_of}
+use Rattle.depot_load.specs.Loads.{load_key, value_of, label_of}
 
-pub length_key_of : (n : ℕ) → length (key_of n) ≡ 2
+pub length_key_of : (n : ℕ) → length (load_key n) ≡ 2
 unfolding numeral
 length_key_of n = refl
 

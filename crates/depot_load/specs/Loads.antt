@@ -34,8 +34,8 @@ draw m d = number_at m d.state
 -- ---- words of events
 
 -- the key of a number, in two bytes
-abbrev pub key_of : ℕ → List ℕ
-key_of n = numeral w16 n
+abbrev pub load_key : ℕ → List ℕ
+load_key n = numeral w16 n
 
 -- the value of a round, in four bytes
 abbrev pub value_of : ℕ → List ℕ
@@ -75,7 +75,7 @@ abbrev pub some_node : LoadDraft → ℕ
 some_node d = 1 + draw 5 d
 
 abbrev pub some_key : LoadDraft → List ℕ
-some_key d = key_of (draw 40 d)
+some_key d = load_key (draw 40 d)
 
 -- the r-th of the nodes 1 to 5 but for v, from 1
 abbrev pub other_than : ℕ → ℕ → ℕ
@@ -84,33 +84,33 @@ other_than v r = if nat_le v r then r + 1 else r
 -- ---- rounds
 
 -- one event more
-abbrev pub with_event : LoadDraft → Event → LoadDraft
-with_event d e = record d { events = d.events ++ e ∷ [] }
+abbrev pub draft_with : LoadDraft → Event → LoadDraft
+draft_with d e = record d { events = d.events ++ e ∷ [] }
 
 -- a node puts the number of the round under a key
 abbrev pub put_round : ℕ → LoadDraft → LoadDraft
 put_round t d =
     let a = drawn d in
     let b = drawn a in
-    with_event b (Put (some_node a) (some_key b) (value_of t))
+    draft_with b (Put (some_node a) (some_key b) (value_of t))
 
 -- a node reads a key
 abbrev pub get_round : LoadDraft → LoadDraft
 get_round d =
     let a = drawn d in
     let b = drawn a in
-    with_event b (Get (some_node a) (some_key b))
+    draft_with b (Get (some_node a) (some_key b))
 
 -- a bundle is lost (0), or given twice (1), in pieces (2), or once
 abbrev pub given : ℕ → ℕ → List ℕ → LoadDraft → LoadDraft
 given c r bundle d =
     if c == 0 then d else
-    if c == 1 then with_event (with_event d (Give r bundle None)) (Give r bundle None) else
-    if c == 2 then with_event d (Give r bundle (Some 1460)) else with_event d (Give r bundle None)
+    if c == 1 then draft_with (draft_with d (Give r bundle None)) (Give r bundle None) else
+    if c == 2 then draft_with d (Give r bundle (Some 1460)) else draft_with d (Give r bundle None)
 
 -- a node makes a bundle for another's hello
 abbrev pub bundled : ℕ → ℕ → List ℕ → List ℕ → LoadDraft → LoadDraft
-bundled v r hello bundle d = with_event (with_event d (Hello r hello)) (Bundle v hello bundle)
+bundled v r hello bundle d = draft_with (draft_with d (Hello r hello)) (Bundle v hello bundle)
 
 -- a node takes another's bundle, or doesn't
 abbrev pub exchange_round : ℕ → LoadDraft → LoadDraft
@@ -126,8 +126,8 @@ exchange_round t d =
 abbrev pub update_round : ℕ → ℕ → LoadDraft → LoadDraft
 update_round t n d =
     let a = drawn d in
-    let b = with_event a (Update (round_update t) faulty_node a.updates 1 None (some_key a) (value_of t) [] Right) in
-    let c = with_event b (Give n (round_update t) None) in
+    let b = draft_with a (Update (round_update t) faulty_node a.updates 1 None (some_key a) (value_of t) [] Right) in
+    let c = draft_with b (Give n (round_update t) None) in
     record c { updates = c.updates + 1 }
 
 -- a node starts again (0), or takes an update of the faulty node
@@ -136,7 +136,7 @@ faulty_round t d =
     let a = drawn d in
     let b = drawn a in
     let n = some_node a in
-    if draw 4 b == 0 then with_event b (Restart n) else update_round t n b
+    if draw 4 b == 0 then draft_with b (Restart n) else update_round t n b
 
 -- of ten rounds, five are puts, two are reads, and two are exchanges
 abbrev pub round_by : ℕ → ℕ → LoadDraft → LoadDraft
@@ -155,15 +155,15 @@ abbrev pub taker : ℕ → ℕ
 taker j = other_than (giver j) (1 + j % 4)
 
 unfoldable pub exchange : ℕ → LoadDraft → LoadDraft
-exchange j d = with_event (bundled (giver j) (taker j) (last_hello j) (last_bundle j) d) (Give (taker j) (last_bundle j) None)
+exchange j d = draft_with (bundled (giver j) (taker j) (last_hello j) (last_bundle j) d) (Give (taker j) (last_bundle j) None)
 
 -- each key is read by each node: the reads are numbered from 0, and the first five are of key 0
 unfoldable pub read : ℕ → LoadDraft → LoadDraft
-read i d = with_event d (Get (1 + i % 5) (key_of (i / 5)))
+read i d = draft_with d (Get (1 + i % 5) (load_key (i / 5)))
 
 -- each node says hello
 unfoldable pub greet : ℕ → LoadDraft → LoadDraft
-greet i d = with_event d (Hello (1 + i) (farewell (1 + i)))
+greet i d = draft_with d (Hello (1 + i) (farewell (1 + i)))
 
 -- ---- the whole load
 
@@ -176,8 +176,8 @@ steps step (suc n) a = step n (steps step n a)
 abbrev pub begun : ℕ → LoadDraft
 begun number = record { state = number; updates = 0; events = [] }
 
-unfoldable pub drafted : ℕ → LoadDraft
-drafted number = steps greet 5 (steps read 200 (steps exchange 40 (steps round 2000 (begun number))))
+unfoldable pub whole_draft : ℕ → LoadDraft
+whole_draft number = steps greet 5 (steps read 200 (steps exchange 40 (steps round 2000 (begun number))))
 
 -- the nodes 1 to 5, and the faulty one
 abbrev pub member : ℕ → Bool → Member
@@ -192,4 +192,4 @@ schedule_with events = record { winter = false; height = 12; members = members; 
 
 -- the schedule that a number makes
 unfoldable pub load_of : ℕ → Schedule
-load_of number = schedule_with (drafted number).events
+load_of number = schedule_with (whole_draft number).events

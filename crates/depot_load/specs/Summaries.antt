@@ -12,28 +12,28 @@ use Rattle.depot_load.specs.declared.load_totals.Count.TheVariants as count
 use Rattle.depot_load.specs.TranscriptLines.{told_lines_of}
 
 -- the last n of a list, or all where they are fewer
-abbrev pub last_of : {A : Type 0} → ℕ → List A → List A
-last_of n list = drop (length list - n) list
+abbrev pub last_items : {A : Type 0} → ℕ → List A → List A
+last_items n list = drop (length list - n) list
 
 -- ---- puts and reports
 
-abbrev pub is_put : TranscriptLine → Bool
-is_put Put = true
-is_put (Read key writes) = false
-is_put (Report accepted known refused) = false
-is_put (Hello convicted) = false
-is_put Other = false
+abbrev pub is_put_line : TranscriptLine → Bool
+is_put_line Put = true
+is_put_line (Read key writes) = false
+is_put_line (Report accepted known refused) = false
+is_put_line (Hello convicted) = false
+is_put_line Other = false
 
 -- one of the numbers of a report
-abbrev pub counted : Count → ℕ → ℕ → ℕ → ℕ
-counted count.Accepted accepted known refused = accepted
-counted count.Known accepted known refused = known
-counted count.Refused accepted known refused = refused
+abbrev pub report_count : Count → ℕ → ℕ → ℕ → ℕ
+report_count count.Accepted accepted known refused = accepted
+report_count count.Known accepted known refused = known
+report_count count.Refused accepted known refused = refused
 
 abbrev pub counted_in : Count → TranscriptLine → ℕ
 counted_in which Put = 0
 counted_in which (Read key writes) = 0
-counted_in which (Report accepted known refused) = counted which accepted known refused
+counted_in which (Report accepted known refused) = report_count which accepted known refused
 counted_in which (Hello convicted) = 0
 counted_in which Other = 0
 
@@ -52,7 +52,7 @@ convicted_in Other = None
 
 -- how many nodes the last five hellos name as convicted, all together
 abbrev pub convicted_last : List TranscriptLine → ℕ
-convicted_last told_lines = sum (last_of 5 (filter_map convicted_in told_lines))
+convicted_last told_lines = sum (last_items 5 (filter_map convicted_in told_lines))
 
 -- ---- reads
 
@@ -70,7 +70,7 @@ are_same (text ∷ texts) = list_all (λ other. bytes_eq other text) texts
 
 -- whether the last five reads of a key show the same writes
 abbrev pub agree_on : List ℕ → List TranscriptLine → Bool
-agree_on key told_lines = are_same (last_of 5 (filter_map (writes_under key) told_lines))
+agree_on key told_lines = are_same (last_items 5 (filter_map (writes_under key) told_lines))
 
 -- the same of the key that is read, if one is
 abbrev pub agrees : List TranscriptLine → TranscriptLine → Bool
@@ -99,7 +99,7 @@ agreement_text agree = spaced (codes "agree") ++ spaced (name_of_agreement agree
 -- of the load of this number
 abbrev pub summary_line : ℕ → List TranscriptLine → List ℕ
 summary_line number told_lines =
-    ended (text_of_number (codes "load") number ++ (spaced (text_of_number (codes "puts") (count_by is_put told_lines)) ++ (reports_text told_lines ++ (spaced (text_of_number (codes "convicted") (convicted_last told_lines)) ++ agreement_text (agree told_lines)))))
+    ended (text_of_number (codes "load") number ++ (spaced (text_of_number (codes "puts") (count_by is_put_line told_lines)) ++ (reports_text told_lines ++ (spaced (text_of_number (codes "convicted") (convicted_last told_lines)) ++ agreement_text (agree told_lines)))))
 
 -- the line that sums up a transcript
 unfoldable pub summary_of : ℕ → List ℕ → List ℕ

@@ -8,12 +8,12 @@ use Rattle.depot_load.specs.declared.transcript_lines.TranscriptLine.{Transcript
 use Rattle.depot_load.specs.declared.transcript_lines.TranscriptLine.TheVariants.{Put, Read, Report, Hello, Other}
 
 -- a number of a transcript in decimal: no clock and no count is over 2^63 - 1
-abbrev pub number_in : List ℕ → Option ℕ
-number_in word = number_word 0 9223372036854775807 word
+abbrev pub transcript_number : List ℕ → Option ℕ
+transcript_number word = number_word 0 9223372036854775807 word
 
 -- two numbers
 abbrev pub are_two : List (List ℕ) → Bool
-are_two (seq ∷ clock ∷ []) = is_some (number_in seq) && is_some (number_in clock)
+are_two (seq ∷ clock ∷ []) = is_some (transcript_number seq) && is_some (transcript_number clock)
 are_two parts = false
 
 -- two numbers with a slash (47) between them
@@ -24,7 +24,7 @@ is_pair word = are_two (split 47 word)
 abbrev pub named_number : List ℕ → List (List ℕ) → Option (ℕ × List (List ℕ))
 named_number name [] = None
 named_number name (word ∷ []) = None
-named_number name (word ∷ number ∷ words) = if bytes_eq word name then option_map (λ n. (n, words)) (number_in number) else None
+named_number name (word ∷ number ∷ words) = if bytes_eq word name then option_map (λ n. (n, words)) (transcript_number number) else None
 
 -- ---- answers, by their words
 
@@ -54,13 +54,13 @@ told_by name word answer =
     if bytes_eq name (codes "hello") then unwrap_or (hello_in answer) Other else Other
 
 -- by the words of a line: the arrow is the fourth word of each line that tells something
-abbrev pub told_of : List (List ℕ) → TranscriptLine
-told_of [] = Other
-told_of (name ∷ []) = Other
-told_of (name ∷ node ∷ []) = Other
-told_of (name ∷ node ∷ word ∷ []) = Other
-told_of (name ∷ node ∷ word ∷ arrow ∷ answer) = if bytes_eq arrow (codes "->") then told_by name word answer else Other
+abbrev pub line_of_words : List (List ℕ) → TranscriptLine
+line_of_words [] = Other
+line_of_words (name ∷ []) = Other
+line_of_words (name ∷ node ∷ []) = Other
+line_of_words (name ∷ node ∷ word ∷ []) = Other
+line_of_words (name ∷ node ∷ word ∷ arrow ∷ answer) = if bytes_eq arrow (codes "->") then told_by name word answer else Other
 
 -- line by line: lines stand between LFs (10), words between spaces (32)
 unfoldable pub told_lines_of : List ℕ → List TranscriptLine
-told_lines_of transcript = map (λ line. told_of (split 32 line)) (split 10 transcript)
+told_lines_of transcript = map (λ line. line_of_words (split 32 line)) (split 10 transcript)

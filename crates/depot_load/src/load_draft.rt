@@ -1,6 +1,6 @@
 //! A load as it grows.
 ghost use Rattle.std.specs.Prelude.{◌≡◌, ◌<◌, OnOk};
-ghost use Rattle.depot_load.specs.Loads.{begun, draw, drawn, with_event};
+ghost use Rattle.depot_load.specs.Loads.{begun, draw, drawn, draft_with};
 
 use depot_base::{Memory, Sequence};
 use depot_schedule::{Event, Events};
@@ -49,7 +49,7 @@ impl LoadDraft {
 
     /// Adds an event.
     pub fn push(&mut self, event: Event) -> Result<(), Memory>
-        ensures { OnOk result (self.new ≡ with_event self.old event) }
+        ensures { OnOk result (self.new ≡ draft_with self.old event) }
     {
         self.events.push(event)
     }

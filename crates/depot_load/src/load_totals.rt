@@ -1,7 +1,7 @@
 //! Sums over what lines tell.
 ghost use Rattle.std.specs.Prelude.{◌≡◌, count_by, sum, IfOk};
 ghost use Rattle.std.specs.List.{filter_map};
-ghost use Rattle.depot_load.specs.Summaries.{convicted_in, convicted_last, counted_in, is_put, total};
+ghost use Rattle.depot_load.specs.Summaries.{convicted_in, convicted_last, counted_in, is_put_line, total};
 
 use crate::transcript_lines::TranscriptLine;
 use depot_base::Memory;
@@ -20,7 +20,7 @@ pub enum Count {
 
 /// Whether a put was done.
 fn is_put(told: &TranscriptLine) -> bool
-    ensures { result ≡ is_put told.now }
+    ensures { result ≡ is_put_line told.now }
 {
     match told {
         TranscriptLine::Put => true,
@@ -33,7 +33,7 @@ fn is_put(told: &TranscriptLine) -> bool
 
 /// How many puts were done.
 pub fn puts(told_lines: &[TranscriptLine]) -> usize
-    ensures { result ≡ count_by is_put told_lines.now }
+    ensures { result ≡ count_by is_put_line told_lines.now }
 {
     told_lines.iter().filter(|told| is_put(told)).count()
 }

@@ -1,6 +1,6 @@
 //! A whole load.
 ghost use Rattle.std.specs.Prelude.{◌≡◌, ◌<◌, ◌++◌, ◌∷◌, [], OnOk, IfOk};
-ghost use Rattle.depot_load.specs.Loads.{begun, drafted, exchange, greet, load_of, member, members, read, round, steps};
+ghost use Rattle.depot_load.specs.Loads.{begun, whole_draft, exchange, greet, load_of, member, members, read, round, steps};
 
 use crate::closing::{exchange, greet, read};
 use crate::load_draft::LoadDraft;
@@ -59,9 +59,9 @@ fn all_hellos(alloc: Global, draft: &mut LoadDraft) -> Result<(), Memory>
 }
 
 /// All events.
-#[tactic(auto, unfolding(crate::specs::Loads::drafted))]
+#[tactic(auto, unfolding(crate::specs::Loads::whole_draft))]
 fn drafted(alloc: Global, number: u32) -> Result<LoadDraft, Memory>
-    ensures { IfOk result (λ draft. draft ≡ drafted number) }
+    ensures { IfOk result (λ draft. draft ≡ whole_draft number) }
 {
     let mut draft = all_rounds(alloc, number)?;
     all_exchanges(alloc, &mut draft)?;

@@ -1,6 +1,6 @@
 //! The rounds of a load.
 ghost use Rattle.std.specs.Prelude.{◌≡◌, ◌^◌, ◌<◌, ◌≤◌, IsTrue, OnOk, IfOk};
-ghost use Rattle.depot_load.specs.Loads.{bundled, drawn, exchange_round, faulty_round, get_round, given, label_of, other_than, put_round, round, round_by, some_key, some_node, update_round, with_event};
+ghost use Rattle.depot_load.specs.Loads.{bundled, drawn, exchange_round, faulty_round, get_round, given, label_of, other_than, put_round, round, round_by, some_key, some_node, update_round, draft_with};
 ghost use Rattle.depot_lines.specs.Spelling.{is_letter};
 ghost use Rattle.depot_schedule.specs.declared.event.Event.TheVariants.{Give};
 
@@ -106,7 +106,7 @@ pub fn give(
     size: Option<u32>,
 ) -> Result<(), Memory>
     requires { IsTrue (is_letter letter) }
-    ensures { OnOk result (draft.new ≡ with_event draft.old (Give node (label_of letter number) size)) }
+    ensures { OnOk result (draft.new ≡ draft_with draft.old (Give node (label_of letter number) size)) }
 {
     let label = label(alloc, letter, number)?;
     draft.push(Event::Give { node, label, size })

@@ -2,7 +2,7 @@
 ghost use Rattle.std.specs.Prelude.{◌≡◌, None, Some, IfOk, MatchOption};
 ghost use Rattle.depot_lines.specs.Language.{split};
 ghost use Rattle.depot_lines.specs.LineReading.{behind_spaces};
-ghost use Rattle.depot_load.specs.TranscriptLines.{hello_in, is_pair, named_number, report_in, told_by, told_by_put, told_of, told_lines_of};
+ghost use Rattle.depot_load.specs.TranscriptLines.{hello_in, is_pair, named_number, report_in, told_by, told_by_put, line_of_words, told_lines_of};
 
 use depot_base::{Bytes, Memory};
 use depot_lines::Parts;
@@ -149,8 +149,8 @@ fn told_by(
 }
 
 /// What a line tells.
-fn told_of(alloc: Global, line: &[u8]) -> Result<TranscriptLine, Memory>
-    ensures { IfOk result (λ told. told ≡ told_of (split 32 line.now)) }
+fn line_of_words(alloc: Global, line: &[u8]) -> Result<TranscriptLine, Memory>
+    ensures { IfOk result (λ told. told ≡ line_of_words (split 32 line.now)) }
 {
     let mut words = Parts::new(line, b' ');
     let Some(name) = words.next() else {
@@ -180,7 +180,7 @@ pub fn told_lines_of(alloc: Global, text: &[u8]) -> Result<Vec<TranscriptLine>, 
     let mut told_lines = Vec::new(alloc);
     let mut lines = Parts::new(text, b'\n');
     while let Some(line) = lines.next() {
-        told_lines.push(told_of(alloc, line)?)?;
+        told_lines.push(line_of_words(alloc, line)?)?;
     }
     Ok(told_lines)
 }

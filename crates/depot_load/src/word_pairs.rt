@@ -1,6 +1,6 @@
 //! The words of a load's events.
 ghost use Rattle.std.specs.Prelude.{◌≡◌, ◌<◌, IsTrue, IfOk};
-ghost use Rattle.depot_load.specs.Loads.{key_of, label_of, value_of};
+ghost use Rattle.depot_load.specs.Loads.{load_key, label_of, value_of};
 ghost use Rattle.depot_lines.specs.Spelling.{is_letter};
 
 use depot_base::{Bytes, Key, Memory, NodeId, Value};
@@ -21,7 +21,7 @@ pub fn node(number: u16) -> NodeId
 /// The key of this number.
 #[tactic(auto, using(crate::proofs::WordLaws::length_key_of))]
 pub fn key(alloc: Global, number: u16) -> Result<Key, Memory>
-    ensures { IfOk result (λ key. key ≡ key_of number) }
+    ensures { IfOk result (λ key. key ≡ load_key number) }
 {
     let mut bytes = Bytes::new(alloc);
     bytes.push_u16(number)?;

@@ -14,7 +14,7 @@ ghost use Rattle.depot_local.specs.ShownValues.{IsWrittenAt};
 use depot_base::{Changes, Key, NamedValue, Value};
 use depot_graph::Graph;
 use depot_model::{Past, Peer, PutDone, PutError};
-use depot_readings::Counts;
+use depot_readings::JournalCounts;
 
 /// A node beside its program: it puts, and what it accepted and holds can be read while it runs.
 pub trait LocalNode: Peer {
@@ -53,7 +53,7 @@ pub trait LocalNode: Peer {
         ensures { IsWrittenAt (Self.records self.now) item key.now (option_copied result) };
 
     /// How much its journal takes. It takes no memory.
-    fn counts(&self) -> Counts
+    fn counts(&self) -> JournalCounts
         requires { Self.stopped self.now ≡ false }
         ensures { AreCountsOf (Self.stands self.now).me (Self.records self.now) result };
 }

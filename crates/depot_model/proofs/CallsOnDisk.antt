@@ -37,15 +37,6 @@ pub called_well : {N : Type 0} {v : JournalView N} {was failed : Type 0}
     → (old new : N) (a b : List Record) → (was → ⊥) → (failed → ⊥) → CallsDisk v old new a was → CallsDisk v old new b failed
 called_well old new a b was_well well c = record { whole = λ _. c.whole was_well; part = λ f. absurd (well f); still = c.still }
 
--- the same failure in other words, and the same records
-pub calls_alike : {N : Type 0} {v : JournalView N} {was failed : Type 0}
-    → (old new : N) (a b : List Record) → (failed → was) → (was → failed) → a ≡ b → CallsDisk v old new a was → CallsDisk v old new b failed
-calls_alike {v = v} old new a b back on is c = record {
-  whole = λ well. c.whole (λ f. well (on f));
-  part = λ f. subst (λ (adds : List Record). FailsAmong v.after old new (calls_to_record (v.records old) adds)) is (c.part (back f));
-  still = c.still;
-}
-
 -- of more records to append the disk fails on one, too
 pub calls_longer : {N : Type 0} {v : JournalView N} {failed : Type 0}
     → (old new : N) (a b : List Record) → CallsDisk v old new a failed → CallsDisk v old new (a ++ b) failed

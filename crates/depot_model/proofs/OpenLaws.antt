@@ -7,7 +7,7 @@ use Rattle.std.proofs.lemmas.List.{length-append, length-replicate}
 use Rattle.std.proofs.lemmas.Nat.{be_bytes_4}
 use Rattle.depot_base.specs.Cursor.{numeral}
 use Rattle.depot_base.proofs.FormatLaws.{IsBytes}
-use Rattle.depot_model.specs.Frames.{Frame, text_of_frame, IsFrame, FrameAt, whole_frame, open_frame, no_frame, is_tag, least_length, most_length, may_be_within, is_no_flag, goes_astray, framed, frame_at}
+use Rattle.depot_model.specs.Frames.{Frame, text_of_frame, IsFrame, FrameAt, whole_frame, open_frame, no_frame, is_tag, least_length, most_length, may_be_within, is_no_flag, goes_astray, payload_in, frame_at}
 use Rattle.depot_model.proofs.FrameLaws.{worth}
 
 -- with more bytes behind them these are the text of a frame
@@ -100,7 +100,7 @@ bounds a b c d e = let p = and_parts (leb a b) (leb c d) e in (leb-true _ _ p.0,
 zeros_small : AreSmall 0 0 0 0
 zeros_small = record { first = omega arith; second = omega arith; third = omega arith; fourth = omega arith }
 
-plain : (tag : ℕ) (l : List ℕ) → 1 ≤ tag → tag ≤ 4 → (tag ≡ 4 → ⊥) → IsBytes l → IsWithin 0 131072 l → cond (ltb (length l) 4) open_frame (framed tag (from_be_bytes w32 (take 4 l)) (drop 4 l)) ≡ open_frame → CanGoOn (tag ∷ l)
+plain : (tag : ℕ) (l : List ℕ) → 1 ≤ tag → tag ≤ 4 → (tag ≡ 4 → ⊥) → IsBytes l → IsWithin 0 131072 l → cond (ltb (length l) 4) open_frame (payload_in tag (from_be_bytes w32 (take 4 l)) (drop 4 l)) ≡ open_frame → CanGoOn (tag ∷ l)
 unfolding IsWithin
 plain tag [] least most not_end small may told = fewer (tag ∷ []) (0 ∷ 0 ∷ 0 ∷ 0 ∷ []) (filled_frame tag 0 0 0 0 [] zeros_small least most not_end (omega arith) (omega arith))
 plain tag (x ∷ []) least most not_end small may told =
@@ -115,13 +115,13 @@ plain tag (x ∷ y ∷ z ∷ []) least most not_end small may told =
 plain tag (x ∷ y ∷ z ∷ w ∷ r) least most not_end small may told =
     let b = bounds (from_be_bytes w32 (x ∷ y ∷ z ∷ w ∷ [])) 131072 0 (from_be_bytes w32 (x ∷ y ∷ z ∷ w ∷ [])) may in
     let enough : ltb (length (x ∷ y ∷ z ∷ w ∷ r)) 4 ≡ false = le-ltb _ _ (omega arith) in
-    let short = still_short (ltb (length r) (from_be_bytes w32 (x ∷ y ∷ z ∷ w ∷ []))) (record { tag = tag; payload = take (from_be_bytes w32 (x ∷ y ∷ z ∷ w ∷ [])) r }) (behind_four (ltb (length (x ∷ y ∷ z ∷ w ∷ r)) 4) (framed tag (from_be_bytes w32 (x ∷ y ∷ z ∷ w ∷ [])) r) enough told) in
+    let short = still_short (ltb (length r) (from_be_bytes w32 (x ∷ y ∷ z ∷ w ∷ []))) (record { tag = tag; payload = take (from_be_bytes w32 (x ∷ y ∷ z ∷ w ∷ [])) r }) (behind_four (ltb (length (x ∷ y ∷ z ∷ w ∷ r)) 4) (payload_in tag (from_be_bytes w32 (x ∷ y ∷ z ∷ w ∷ [])) r) enough told) in
     filled_frame tag x y z w r (record { first = small 0; second = small 1; third = small 2; fourth = small 3 }) least most not_end b.0 (omega (arith, ltb-true _ _ short))
 
 same_end : (bytes more : List ℕ) → bytes ++ more ≡ 4 ∷ 0 ∷ 0 ∷ 0 ∷ 1 ∷ [] → CanGoOn bytes
 same_end bytes more e = fewer bytes more (subst (λ (b : List ℕ). CanGoOn b) (sym e) end_goes_on)
 
-last : (l : List ℕ) → IsWithin 1 1 l → cond (ltb (length l) 4) open_frame (framed 4 (from_be_bytes w32 (take 4 l)) (drop 4 l)) ≡ open_frame → CanGoOn (4 ∷ l)
+last : (l : List ℕ) → IsWithin 1 1 l → cond (ltb (length l) 4) open_frame (payload_in 4 (from_be_bytes w32 (take 4 l)) (drop 4 l)) ≡ open_frame → CanGoOn (4 ∷ l)
 unfolding IsWithin
 last [] may told = same_end (4 ∷ []) (0 ∷ 0 ∷ 0 ∷ 1 ∷ []) refl
 last (x ∷ []) may told =
@@ -147,7 +147,7 @@ last (x ∷ y ∷ z ∷ w ∷ r) may told =
     let z_zero : z ≡ 0 = omega (arith, b.0, b.1, one) in
     let w_one : w ≡ 1 = omega (arith, b.0, b.1, one) in
     let enough : ltb (length (x ∷ y ∷ z ∷ w ∷ r)) 4 ≡ false = le-ltb _ _ (omega arith) in
-    let short = still_short (ltb (length r) (from_be_bytes w32 (x ∷ y ∷ z ∷ w ∷ []))) (record { tag = 4; payload = take (from_be_bytes w32 (x ∷ y ∷ z ∷ w ∷ [])) r }) (behind_four (ltb (length (x ∷ y ∷ z ∷ w ∷ r)) 4) (framed 4 (from_be_bytes w32 (x ∷ y ∷ z ∷ w ∷ [])) r) enough told) in
+    let short = still_short (ltb (length r) (from_be_bytes w32 (x ∷ y ∷ z ∷ w ∷ []))) (record { tag = 4; payload = take (from_be_bytes w32 (x ∷ y ∷ z ∷ w ∷ [])) r }) (behind_four (ltb (length (x ∷ y ∷ z ∷ w ∷ r)) 4) (payload_in 4 (from_be_bytes w32 (x ∷ y ∷ z ∷ w ∷ [])) r) enough told) in
     let few : length r < 1 = omega (arith, ltb-true _ _ short, b.0) in
     same_end (4 ∷ x ∷ y ∷ z ∷ w ∷ r) [] (rw (x_zero, y_zero, z_zero, w_one, nothing r few) refl)
   where
@@ -157,20 +157,20 @@ last (x ∷ y ∷ z ∷ w ∷ r) may told =
 
 -- ---- the law
 
-by_tag : (b : Bool) (tag : ℕ) (l : List ℕ) → (tag == 4) ≡ b → 1 ≤ tag → tag ≤ 4 → IsBytes l → IsWithin (cond b 1 0) (cond b 1 131072) l → cond (ltb (length l) 4) open_frame (framed tag (from_be_bytes w32 (take 4 l)) (drop 4 l)) ≡ open_frame → CanGoOn (tag ∷ l)
+by_tag : (b : Bool) (tag : ℕ) (l : List ℕ) → (tag == 4) ≡ b → 1 ≤ tag → tag ≤ 4 → IsBytes l → IsWithin (cond b 1 0) (cond b 1 131072) l → cond (ltb (length l) 4) open_frame (payload_in tag (from_be_bytes w32 (take 4 l)) (drop 4 l)) ≡ open_frame → CanGoOn (tag ∷ l)
 by_tag false tag l e least most small may told = plain tag l least most (λ is. not_four tag is e) small may told where
   not_four : (t : ℕ) → t ≡ 4 → (t == 4) ≡ false → ⊥
   not_four t is e = grind (arith, nat_tests, is, e)
 by_tag true tag l e least most small may told =
     let is_four : tag ≡ 4 = grind (arith, nat_tests, e) in
-    subst (λ (t : ℕ). CanGoOn (t ∷ l)) (sym is_four) (last l may (subst (λ (t : ℕ). cond (ltb (length l) 4) open_frame (framed t (from_be_bytes w32 (take 4 l)) (drop 4 l)) ≡ open_frame) is_four told))
+    subst (λ (t : ℕ). CanGoOn (t ∷ l)) (sym is_four) (last l may (subst (λ (t : ℕ). cond (ltb (length l) 4) open_frame (payload_in t (from_be_bytes w32 (take 4 l)) (drop 4 l)) ≡ open_frame) is_four told))
 
 -- Bytes that are told to be open can go on to a frame.
 pub open_can_go_on : (bytes : List ℕ) → IsBytes bytes → frame_at bytes ≡ open_frame → CanGoOn bytes
 unfolding frame_at IsWithin
 open_can_go_on [] small told = fewer [] (1 ∷ []) (fewer (1 ∷ []) (0 ∷ 0 ∷ 0 ∷ 0 ∷ []) (filled_frame 1 0 0 0 0 [] zeros_small (omega arith) (omega arith) (λ is. absurd (omega (arith, is))) (omega arith) (omega arith)))
 open_can_go_on (tag ∷ l) small told =
-    let t = not_astray (not (is_tag tag) || goes_astray tag (take 4 l) (drop 4 l)) (cond (ltb (length l) 4) open_frame (framed tag (from_be_bytes w32 (take 4 l)) (drop 4 l))) told in
+    let t = not_astray (not (is_tag tag) || goes_astray tag (take 4 l) (drop 4 l)) (cond (ltb (length l) 4) open_frame (payload_in tag (from_be_bytes w32 (take 4 l)) (drop 4 l))) told in
     let a = cleared (is_tag tag) (goes_astray tag (take 4 l) (drop 4 l)) t.0 in
     let b = cleared (may_be_within (least_length tag) (most_length tag) (take 4 l)) ((tag == 4) && is_no_flag (drop 4 l)) a.1 in
     let tags = bounds 1 tag tag 4 a.0 in

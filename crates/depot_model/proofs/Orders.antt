@@ -130,20 +130,6 @@ precedes_irreflexive ids (x ∷ xs) u c p =
 
 -- ---- ids that stand before the list
 
--- the same ids in any order
-pub causal_same : (ids others : List (List ℕ)) → ((h : List ℕ) → IsIn h ids → IsIn h others) → ((h : List ℕ) → IsIn h others → IsIn h ids) → (us : List Update) → IsCausal ids us → IsCausal others us
-unfolding IsCausal
-causal_same ids others to back [] c = tt
-causal_same ids others to back (u ∷ us) c = (
-  all_from (λ h. IsIn h others) (parents u) (λ h on. to h (all_at (λ k. IsIn k ids) (parents u) h c.0 on)),
-  (
-    (λ was. c.1.0 (back (id_of_update u) was)),
-    causal_same (id_of_update u ∷ ids) (id_of_update u ∷ others)
-        (λ h on. elim on [ inl here ↦ inl here | inr old ↦ inr (to h old) ])
-        (λ h on. elim on [ inl here ↦ inl here | inr old ↦ inr (back h old) ]) us c.1.1,
-  ),
-)
-
 -- ---- longer lists
 
 -- what stands in front

@@ -16,7 +16,7 @@ use Rattle.depot_model.specs.Checks.{Setting, Given, given_statement, given_proo
 use Rattle.depot_model.specs.Room.{full_by}
 use Rattle.depot_model.specs.Limits.{IsCutShort}
 use Rattle.depot_base.specs.declared.limits.TheConstants.{MOST_VALUE}
-use Rattle.depot_model.specs.Taking.{Form, as_statement, as_proof, as_value, TakesAs, IsSettled, answer_of, appended_by, answer_to_text, growth_of_text, Takes, TakesStatement, TakesProof, TakesValue, Outcome, no_room, answered, outcome_within, outcome_of, at_start, given_as}
+use Rattle.depot_model.specs.Taking.{Form, as_statement, as_proof, as_value, TakesAs, IsUndisturbed, answer_of, appended_by, answer_to_text, growth_of_text, Takes, TakesStatement, TakesProof, TakesValue, Outcome, no_room, answered, outcome_within, outcome_of, at_start, given_as}
 use Rattle.depot_model.specs.Feeding.{given_by, take_frame}
 use Rattle.depot_model.proofs.TextLaws.{signed_lawful, proof_lawful}
 
@@ -97,7 +97,7 @@ value_frame_tells here J payload result then t = takes_tells (rest_of 65536) _ (
 -- ---- the answer as a function
 
 -- what an outcome tells is its answer, and what it appends
-told_is_answer : (o : Outcome) (J : List Record) (result : Result Taken TakeError) (then : List Record) → Tells o J result then → IsSettled result → (result ≡ answer_of o) × (then ≡ J ++ appended_by o)
+told_is_answer : (o : Outcome) (J : List Record) (result : Result Taken TakeError) (then : List Record) → Tells o J result then → IsUndisturbed result → (result ≡ answer_of o) × (then ≡ J ++ appended_by o)
 told_is_answer o J (Ok taken) then t s = (ap answer_of (sym t.is), t.grown ∙ ap (λ (o : Outcome). J ++ appended_by o) (sym t.is))
 told_is_answer o J (Err refused.Memory) then t s = absurd s
 told_is_answer o J (Err refused.Disk) then t s = absurd s
@@ -107,7 +107,7 @@ told_is_answer o J (Err (refused.Refused c)) then t s = (ap answer_of (sym t.is)
 
 -- what a node answers to a text is the function's answer
 pub one_answer : (form : Form) (here : Setting) (J : List Record) (text : List ℕ) (result : Result Taken TakeError) (then : List Record)
-    → TakesAs form here J text result then → IsSettled result → (result ≡ answer_to_text here J form text) × (then ≡ J ++ growth_of_text here J form text)
+    → TakesAs form here J text result then → IsUndisturbed result → (result ≡ answer_to_text here J form text) × (then ≡ J ++ growth_of_text here J form text)
 unfolding answer_to_text growth_of_text given_as
 one_answer as_statement here J text result then t s = told_is_answer _ J result then (takes_tells (closing signed) _ (closing_lawful signed _ signed_lawful) (λ s. given_statement s) here J text result then t) s
 one_answer as_proof here J text result then t s = told_is_answer _ J result then (takes_tells (closing proof) _ (closing_lawful proof _ proof_lawful) (λ p. given_proof p) here J text result then t) s

@@ -244,7 +244,8 @@ end_of_chain h (u ∷ us) = end_of_chain (id_of_update u) us
 
 -- an update behind others isn't behind its prev, or isn't next in the chain of a writer who isn't convicted
 abbrev pub breaks_chain : List ℕ → List Update → Update → Bool
-breaks_chain accused us u = (not (bytes_eq u.prev zeros) && not (has_its_prev us u)) || (not (is_one_of u.writer accused) && not (bytes_eq u.prev (end_of_chain zeros (filter (λ t. t.writer == u.writer) us))))
+breaks_chain accused us u = (not (bytes_eq u.prev zeros) && not (has_its_prev us u))
+    || (not (is_one_of u.writer accused) && not (bytes_eq u.prev (end_of_chain zeros (filter (λ t. t.writer == u.writer) us))))
 
 -- with a record behind others the updates and the statements of others aren't separate branches any more
 unfoldable pub breaks_off : List ℕ → List Record → Record → Bool
@@ -257,8 +258,8 @@ unfoldable pub first_break : List ℕ → List Record → ℕ → List Record �
 first_break accused before place [] = None
 first_break accused before place (r ∷ rs) = if breaks_off accused before r then Some place else first_break accused (before ++ r ∷ []) (place + 1) rs
 
-unfoldable pub split : World → Option Finding
-split W = first (map (λ c. option_map (λ place. split_found c.node place) (first_break (convicted c.journal) [] 0 c.journal)) W.nodes)
+unfoldable pub split_finding : World → Option Finding
+split_finding W = first (map (λ c. option_map (λ place. split_found c.node place) (first_break (convicted c.journal) [] 0 c.journal)) W.nodes)
 
 -- the record convicts a node of the world
 abbrev pub names_one_of : World → Record → Bool
@@ -271,4 +272,4 @@ named_node W = first (map (λ c. option_map (λ place. named_found c.node place)
 
 -- the first part that fails, else yes
 unfoldable pub finding_in : World → Finding
-finding_in W = unwrap_or (first (circle W ∷ unordered W ∷ unseen W ∷ wrong W ∷ split W ∷ named_node W ∷ [])) yes_found
+finding_in W = unwrap_or (first (circle W ∷ unordered W ∷ unseen W ∷ wrong W ∷ split_finding W ∷ named_node W ∷ [])) yes_found

@@ -61,12 +61,12 @@ abbrev pub goes_astray : ℕ → List ℕ → List ℕ → Bool
 goes_astray tag length_bytes payload = not (may_be_within (least_length tag) (most_length tag) length_bytes) || ((tag == 4) && is_no_flag payload)
 
 -- the payload in front of these bytes, where they have so many
-abbrev pub framed : ℕ → ℕ → List ℕ → FrameAt
-framed tag n bytes = if nat_lt (length bytes) n then open_frame else whole_frame (record { tag = tag; payload = take n bytes })
+abbrev pub payload_in : ℕ → ℕ → List ℕ → FrameAt
+payload_in tag n bytes = if nat_lt (length bytes) n then open_frame else whole_frame (record { tag = tag; payload = take n bytes })
 
 -- What the bytes from a frame's start on are. That there is no frame is seen at the first byte that decides it.
 unfoldable pub frame_at : List ℕ → FrameAt
 frame_at [] = open_frame
 frame_at (tag ∷ bytes) =
     if not (is_tag tag) || goes_astray tag (take 4 bytes) (drop 4 bytes) then no_frame
-    else (if nat_lt (length bytes) 4 then open_frame else framed tag (from_be_bytes w32 (take 4 bytes)) (drop 4 bytes))
+    else (if nat_lt (length bytes) 4 then open_frame else payload_in tag (from_be_bytes w32 (take 4 bytes)) (drop 4 bytes))

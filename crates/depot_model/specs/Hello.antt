@@ -3,7 +3,7 @@ use Rattle.std.specs.Prelude.{ℕ, List, length, take, map, filter, position, Bo
 use Rattle.std.specs.List.{flat_map}
 use Rattle.std.specs.Int.{w16}
 use Rattle.depot_base.specs.declared.limits.TheConstants.{MOST_NODES, MOST_LEAVES, MOST_WANTED}
-use Rattle.depot_base.specs.Format.{Format, number, constant, field, made, list_of}
+use Rattle.depot_base.specs.Format.{Format, number, constant, field, made_of_fields, list_of}
 use Rattle.depot_base.specs.Parts.{node_number, node_rises, digest, digests, is_below}
 use Rattle.depot_base.specs.declared.update.Update.{Update}
 use Rattle.depot_base.specs.declared.record.Record.{Record}
@@ -23,7 +23,7 @@ unfoldable pub hello_leaf : Format HelloLeaf
 hello_leaf =
     field node_number (λ l. l.writer) λ writer.
     field digest (λ l. l.id) λ id.
-    made (record { writer = writer; id = id })
+    made_of_fields (record { writer = writer; id = id })
 
 -- leaves rise strictly by (writer, id)
 abbrev pub hello_leaf_rises : Option HelloLeaf → HelloLeaf → Bool
@@ -43,7 +43,7 @@ hello =
     field (list_of leaf_count hello_leaf hello_leaf_rises) (λ h. h.leaves) λ leaves.
     field (number w16 0 MOST_WANTED) (λ h. length h.wanted) λ wanted_count.
     field (digests wanted_count) (λ h. h.wanted) λ wanted.
-    made (record { node = node; roster = roster; convicted = convicted; leaves = leaves; wanted = wanted })
+    made_of_fields (record { node = node; roster = roster; convicted = convicted; leaves = leaves; wanted = wanted })
 
 -- which hellos have a text, and that text
 abbrev pub IsHello : Hello → Type 0

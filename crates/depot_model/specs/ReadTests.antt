@@ -14,13 +14,13 @@ use Rattle.depot_model.specs.Texts.{text_of_update}
 -- ---- the writes of an update
 
 -- the value that a write names; none of a deletion
-abbrev pub named_in : Wrote → Option NamedValue
-named_in (Put hash size) = Some (record { hash = hash; size = size })
-named_in Gone = None
+abbrev pub value_named : Wrote → Option NamedValue
+value_named (Put hash size) = Some (record { hash = hash; size = size })
+value_named Gone = None
 
 -- the value that an update's write of a key names; none where it doesn't write the key, or deletes it
 abbrev pub value_written : List ℕ → Update → Option NamedValue
-value_written key u = option_and_then named_in (wrote_under key u.writes)
+value_written key u = option_and_then value_named (wrote_under key u.writes)
 
 -- ---- tests of what a read shows
 

@@ -119,14 +119,14 @@ told_of_value R v =
     else (if is_named_by (kept R) v then told (Ok New) (record R { held = R.held ++ v ∷ [] })
     else told (Err (check.Unwanted (sha256 v))) R)
 
-unfoldable pub told_of : Reader → Given → ReaderOutcome
-told_of R (given_statement s) = told_above R s (below_of R.here R.journal R.trimmed s)
-told_of R (given_proof p) = told_as_node R (given_proof p)
-told_of R (given_value v) = told_of_value R v
+unfoldable pub reader_outcome : Reader → Given → ReaderOutcome
+reader_outcome R (given_statement s) = told_above R s (below_of R.here R.journal R.trimmed s)
+reader_outcome R (given_proof p) = told_as_node R (given_proof p)
+reader_outcome R (given_value v) = told_of_value R v
 
 abbrev pub told_as : Reader → Result Given ℕ → ReaderOutcome
 told_as R (Err at) = told (Err (check.IllFormed at)) R
-told_as R (Ok x) = told_of R x
+told_as R (Ok x) = reader_outcome R x
 
 -- what becomes of a text that is given as a form: one that goes wrong is refused at its offset
 unfoldable pub reader_takes : Reader → Form → List ℕ → ReaderOutcome

@@ -81,7 +81,7 @@ pub record IsFull (here : Setting) (J : List Record) (x : Given) (full : Full) (
   pub same : then ≡ J
 
 -- there is room for the growth for what is given, and the disk cut it short
-pub record IsBroken (here : Setting) (J : List Record) (x : Given) (then : List Record) : Type 0 where
+pub record IsCutByDisk (here : Setting) (J : List Record) (x : Given) (then : List Record) : Type 0 where
   pub room : full_by here.me J (growth here J x) ≡ None
   pub cut : IsCutShort J (growth here J x) then
 
@@ -95,7 +95,7 @@ OfGiven {V} f give text P = (v : V) × (f.fits v × ((text ≡ f.text v) × P (g
 abbrev pub Takes : {V : Type 0} → Closed V → (V → Given) → Setting → List Record → List ℕ → Result Taken TakeError → List Record → Type 0
 Takes f give here J text (Ok taken) then = OfGiven f give text (λ x. IsAnswered here J x (Ok taken) then)
 Takes f give here J text (Err refused.Memory) then = then ≡ J
-Takes f give here J text (Err refused.Disk) then = OfGiven f give text (λ x. IsBroken here J x then)
+Takes f give here J text (Err refused.Disk) then = OfGiven f give text (λ x. IsCutByDisk here J x then)
 Takes f give here J text (Err refused.Stopped) then = then ≡ J
 Takes f give here J text (Err (refused.Full full)) then = OfGiven f give text (λ x. IsFull here J x full then)
 Takes f give here J text (Err (refused.Refused (check.IllFormed at))) then = f.fault text at × (then ≡ J)
@@ -118,15 +118,15 @@ TakesAs as_proof = TakesProof
 TakesAs as_value = TakesValue
 
 -- The answer isn't one that want of memory or the disk gave in place of another.
-abbrev pub IsSettled : Result Taken TakeError → Type 0
-IsSettled (Err refused.Memory) = ⊥
-IsSettled (Err refused.Disk) = ⊥
-IsSettled (Err refused.Stopped) = ⊥
-IsSettled other = Unit {0}
+abbrev pub IsUndisturbed : Result Taken TakeError → Type 0
+IsUndisturbed (Err refused.Memory) = ⊥
+IsUndisturbed (Err refused.Disk) = ⊥
+IsUndisturbed (Err refused.Stopped) = ⊥
+IsUndisturbed other = Unit {0}
 
 -- Texts of a form have one answer: where neither memory nor the disk gave out, what is answered and what the journal is then are
 -- the functions'.
 abbrev pub HaveOneAnswer : Form → Type 0
 HaveOneAnswer form = (here : Setting) (J : List Record) (text : List ℕ) (result : Result Taken TakeError) (then : List Record)
-    → TakesAs form here J text result then → IsSettled result
+    → TakesAs form here J text result then → IsUndisturbed result
     → (result ≡ answer_to_text here J form text) × (then ≡ J ++ growth_of_text here J form text)

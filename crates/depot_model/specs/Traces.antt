@@ -110,7 +110,14 @@ abbrev pub AreNodesOf : Verifies → List RosterEntry → List Trace → List Co
 AreNodesOf verifies listed [] [] = Unit {0}
 AreNodesOf verifies listed [] (c ∷ cs) = ⊥
 AreNodesOf verifies listed (t ∷ ts) [] = ⊥
-AreNodesOf verifies listed (t ∷ ts) (c ∷ cs) = ((J : List Record) × (AreTextsOf (at_node verifies listed t) J t.texts × (AreRightReads J 0 t.reads × (c ≡ traced_node t J)))) × AreNodesOf verifies listed ts cs
+AreNodesOf verifies listed (t ∷ ts) (c ∷ cs) =
+    ((J : List Record) × (AreTextsOf (at_node verifies listed t) J t.texts × (AreRightReads J 0 t.reads × (c ≡ traced_node t J))))
+    × AreNodesOf verifies listed ts cs
+
+-- its nodes are those of these traces, in their order, and it is a world
+pub record IsWorldOf (traces : List Trace) (W : World) : Type 0 where
+  pub nodes : AreNodesOf W.verifies W.listed traces W.nodes
+  pub is_world : IsWorld W
 
 -- the world that traces make, in rising order of the nodes, without judged proofs
 pub record AreTraced (verifies : Verifies) (listed : List RosterEntry) (traces : List Trace) (W : World) : Type 0 where
@@ -122,7 +129,8 @@ pub record AreTraced (verifies : Verifies) (listed : List RosterEntry) (traces :
 -- what is found in the world that the traces make.
 abbrev pub IsFindingOf : Verifies → List RosterEntry → List Trace → Finding → Type 0
 IsFindingOf verifies listed traces (unlawful n place fault) = FirstAt (IsLawfulTrace verifies listed) (by_node traces) (λ t. (t.node ≡ n) × HaveFaultAt (at_node verifies listed t) t.texts place fault)
-IsFindingOf verifies listed traces (answer_found n place) = AllByRecursion (IsLawfulTrace verifies listed) (by_node traces) × FirstAt (HasRightReads verifies listed) (by_node traces) (λ t. (t.node ≡ n) × IsFirstBad verifies listed t place)
+IsFindingOf verifies listed traces (answer_found n place) = AllByRecursion (IsLawfulTrace verifies listed) (by_node traces)
+    × FirstAt (HasRightReads verifies listed) (by_node traces) (λ t. (t.node ≡ n) × IsFirstBad verifies listed t place)
 IsFindingOf verifies listed traces f = (W : World) × (AreTraced verifies listed traces W × (finding_in W ≡ f))
 
 -- the traces make a world, which is fork-join-causal, and in which no conviction names a node

@@ -17,16 +17,16 @@ use Rattle.depot_model.specs.Records.{text_of_record}
 use Rattle.depot_model.specs.Stops.{HasAll, HasFront, LeavesAll, calls_to_record}
 use Rattle.depot_journal.specs.JournalAnswers.{KeepsLimits, LeavesRunning, MakesCalls}
 use Rattle.depot_journal.specs.Stable as stable
-use Rattle.depot_journal.specs.JournalView.{View, Covers}
+use Rattle.depot_journal.specs.JournalView.{JournalContents, HasMemoryFor}
 use Rattle.depot_journal.specs.declared.journal_error.AppendError.{AppendError}
 use Rattle.depot_journal.specs.declared.journal_error.AppendError.TheVariants as refused
 use Rattle.depot_journal.proofs.Moments as runs
 use Rattle.depot_laws.proofs.OwnTexts.{lawful_is_light, lawful_is_short}
 use Rattle.depot_laws.proofs.Splits.{lawful_front}
 use Rattle.depot_outside.specs.declared.disk.Disk.{Ghosts}
-use Rattle.depot_readings.specs.NewRecords.{bytes_of}
+use Rattle.depot_readings.specs.NewRecords.{taken_bytes}
 use Rattle.depot_node.specs.Holdings.{Holding, journal_on}
-use Rattle.depot_node.specs.JournalRecords.{AreTextsFor, records_of}
+use Rattle.depot_node.specs.JournalRecords.{AreTextsFor, records_in_texts}
 use Rattle.depot_node.proofs.JournalTexts.{IsReadTo, all_of_records, as_many, blocks_long, both_texts, cut_texts, front_of_records, passes_none, read_all}
 
 untrue : true ≡ false → ⊥
@@ -35,12 +35,12 @@ untrue e = cc
 -- ---- what may be answered
 
 -- the memory found covers the texts of these records
-pub covers : {D : Type 0} (v : View D) (new : List Record) (more : List (List ℕ)) → AreTextsFor new more → length new ≤ v.room_records → bytes_of new ≤ v.room_bytes + 5 * length new → Covers v more
+pub covers : {D : Type 0} (v : JournalContents D) (new : List Record) (more : List (List ℕ)) → AreTextsFor new more → length new ≤ v.room_records → taken_bytes new ≤ v.room_bytes + 5 * length new → HasMemoryFor v more
 covers v new more u records bytes = (omega (arith, as_many new more u, records), omega (arith, as_many new more u, bytes, blocks_long new more u))
 
 -- then the disk alone is left to fail
-pub disk_failed : {D : Type 0} (here : Setting) (v : View D) (J new : List Record) (more : List (List ℕ)) (result : Result (Unit {0}) AppendError) (e : AppendError) → result ≡ Err e → AreTextsFor J v.records → AreTextsFor new more → IsLawful here (J ++ new) → Covers v more
-    → v.is_stopped ≡ false → KeepsLimits v.records (length more) (length (blocks more)) result → (Covers v more → IsErrOf result refused.Memory → ⊥) → (IsErrOf result refused.Stopped ↔ (v.is_stopped ≡ true)) → IsErrOf result refused.Disk
+pub disk_failed : {D : Type 0} (here : Setting) (v : JournalContents D) (J new : List Record) (more : List (List ℕ)) (result : Result (Unit {0}) AppendError) (e : AppendError) → result ≡ Err e → AreTextsFor J v.records → AreTextsFor new more → IsLawful here (J ++ new) → HasMemoryFor v more
+    → v.is_stopped ≡ false → KeepsLimits v.records (length more) (length (blocks more)) result → (HasMemoryFor v more → IsErrOf result refused.Memory → ⊥) → (IsErrOf result refused.Stopped ↔ (v.is_stopped ≡ true)) → IsErrOf result refused.Disk
 disk_failed here v J new more result refused.Memory is t u lawful covered ran limits memory stopped = absurd (memory covered is)
 disk_failed here v J new more result refused.Disk is t u lawful covered ran limits memory stopped = is
 disk_failed here v J new more result (refused.Full full) is t u lawful covered ran limits memory stopped =
@@ -59,14 +59,14 @@ pub record IsCut (n : ℕ) (J new : List Record) (then : List (List ℕ)) : Type
   pub fewer : count < length new
   pub reads : IsReadTo n then (J ++ take count new) []
 
-pub cut_appended : (n : ℕ) (J new : List Record) (texts more then : List (List ℕ)) (told : Type 0) (images : List ℕ → Type 0) → AreTextsFor J texts → AreTextsFor new more → files.IsCutShort texts more then told images → n ≡ length then → IsCut n J new then
+pub cut_appended : (n : ℕ) (J new : List Record) (texts more then : List (List ℕ)) (told : Type 0) (images : List ℕ → Type 0) → AreTextsFor J texts → AreTextsFor new more → files.AreBodiesCutShort texts more then told images → n ≡ length then → IsCut n J new then
 cut_appended n J new texts more then told images t u cut all = record {
   count = cut.count;
   fewer = omega (arith, cut.fewer, as_many new more u);
   reads = read_all n then (J ++ take cut.count new) (cut_texts J new texts more then told images t u cut) all;
 }
 
-pub cut_short : (n : ℕ) (J new : List Record) (then : List (List ℕ)) → IsCut n J new then → IsCutShort J new (records_of (take n then))
+pub cut_short : (n : ℕ) (J new : List Record) (then : List (List ℕ)) → IsCut n J new then → IsCutShort J new (records_in_texts (take n then))
 cut_short n J new then cut = record { count = cut.count; fewer = cut.fewer; grown = cut.reads.records }
 
 -- what was cut short is lawful too
@@ -105,7 +105,7 @@ ok_gives : {E : Type 0} (result : Result (Unit {0}) E) (P : Type 0) → OnOk res
 ok_gives result P p ok = subst (λ (r : Result (Unit {0}) _). OnOk r P) ok p
 
 -- a store as it is seen over this journal
-abbrev pub store_over : {D : Type 0} → ℕ → List RosterEntry → List Record → List (List ℕ) → View D → Holding D
+abbrev pub store_over : {D : Type 0} → ℕ → List RosterEntry → List Record → List (List ℕ) → JournalContents D → Holding D
 store_over me listed K unread v = record { me = me; listed = listed; records = K; unread = unread; stopped = v.is_stopped; disk = v.disk }
 
 module _ {D : Type 0} (g : Ghosts D) (only_now : (d : D) (image : List ℕ) → g.left_since d (g.moment d) image → g.may_leave d image) (after_more : (a b c : D) (calls more : List Made) → g.after a calls b → g.after b more c → g.after a (calls ++ more) c) where
@@ -130,7 +130,7 @@ module _ {D : Type 0} (g : Ghosts D) (only_now : (d : D) (image : List ℕ) → 
 
   -- a call that finds memory on the disk, and appends nothing
   pub unwritten_call : (old then : Holding D) (texts : List (List ℕ)) (new : List Record) {failed nothing : Type 0} → old.stopped ≡ false → AreTextsFor old.records texts → then.records ≡ old.records → then.stopped ≡ old.stopped → IsFound g old.disk then.disk
-      → (IsTrue (g.tells old.disk) → stable.LeavesAll texts old.stopped (g.may_leave old.disk)) → (failed → ⊥) → IsJournalCall (journal_on g) old then new ⊥ failed nothing
+      → (IsTrue (g.tells old.disk) → stable.LeavesAllBodies texts old.stopped (g.may_leave old.disk)) → (failed → ⊥) → IsJournalCall (journal_on g) old then new ⊥ failed nothing
   unwritten_call old then texts new {failed} {nothing} ran t same stopped f stays well =
       let all : IsTrue (g.tells old.disk) → LeavesAll old.records false (g.may_leave old.disk) =
       λ told. subst (λ (b : Bool). LeavesAll old.records b (g.may_leave old.disk)) ran (all_of_records old.records texts old.stopped (g.may_leave old.disk) t (stays told)) in
@@ -155,16 +155,16 @@ module _ {D : Type 0} (g : Ghosts D) (only_now : (d : D) (image : List ℕ) → 
       }
 
   -- a call that finds memory on the disk, and then appends records, all or up to the one on which the disk fails
-  pub written_call : (old : Holding D) (me : ℕ) (listed : List RosterEntry) (K new : List Record) (unread more : List (List ℕ)) (mid last : View D) (result : Result (Unit {0}) AppendError) {failed nothing : Type 0}
+  pub written_call : (old : Holding D) (me : ℕ) (listed : List RosterEntry) (K new : List Record) (unread more : List (List ℕ)) (mid last : JournalContents D) (result : Result (Unit {0}) AppendError) {failed nothing : Type 0}
       → old.stopped ≡ false → mid.is_stopped ≡ false → AreTextsFor old.records mid.records → AreTextsFor new more → AreTextsFor K last.records → IsFound g old.disk mid.disk → (IsTrue (g.tells old.disk) → LeavesAll old.records false (g.may_leave old.disk))
-      → MakesCalls g.handle g.tells g.faults g.is_faultless g.after mid last more result → LeavesRunning g.tells g.moment g.left_since mid last (files.HasFront mid.records more) → (IsTrue (g.tells mid.disk) → stable.LeavesAll last.records last.is_stopped (g.may_leave last.disk))
+      → MakesCalls g.handle g.tells g.faults g.is_faultless g.after mid last more result → LeavesRunning g.tells g.moment g.left_since mid last (files.HasBodyFront mid.records more) → (IsTrue (g.tells mid.disk) → stable.LeavesAllBodies last.records last.is_stopped (g.may_leave last.disk))
       → (failed ↔ IsErrOf result refused.Disk) → ((last.is_stopped ≡ true) ↔ failed) → (nothing → ⊥) → ((failed → ⊥) → (K ≡ old.records ++ new) × (result ≡ Ok tt))
       → IsJournalCall (journal_on g) old (store_over me listed K unread last) new ⊥ failed nothing
   written_call old me listed K new unread more mid last result {failed} {nothing} ran mid_ran t u w f all calls left stands fails stops never grew =
       let then : Holding D = store_over me listed K unread last in
       let texts : calls_to_append_all (length (blocks mid.records)) more ≡ calls_to_record old.records new = calls_of_texts old.records new mid.records more t u in
       let fronts : IsTrue (g.tells mid.disk) → LeavesOnly g.moment g.left_since mid.disk last.disk (HasFront old.records new) = λ told.
-      runs.weaker g.moment g.left_since mid.disk last.disk (files.HasFront mid.records more) (HasFront old.records new) (left told mid_ran) (λ file front. front_of_records old.records new mid.records more file t u front) in
+      runs.weaker g.moment g.left_since mid.disk last.disk (files.HasBodyFront mid.records more) (HasFront old.records new) (left told mid_ran) (λ file front. front_of_records old.records new mid.records more file t u front) in
       record {
         stops = record {
           answered = (λ is. absurd is, λ was. absurd (untrue (sym was ∙ ran)));

@@ -20,7 +20,7 @@ use Rattle.depot_model.specs.Taking.{Form, TakesAs, growth_of_text}
 use Rattle.depot_model.proofs.JournalCallLaws.{idle_call, renamed_call}
 use Rattle.depot_model.proofs.TakeLaws.{one_answer}
 use Rattle.depot_outside.specs.declared.disk.Disk.{Ghosts}
-use Rattle.depot_decide.specs.Deciding.{Answered, IsCarriedOut}
+use Rattle.depot_decide.specs.Deciding.{AnswersAs, IsCarriedOut}
 use Rattle.depot_node.specs.Holdings.{Holding, journal_on}
 use Rattle.depot_node.specs.StoreCalls.{IsCarryCall, IsCommitCall, IsWriteCall}
 use Rattle.depot_node.specs.declared.commit.CommitError.{CommitError}
@@ -76,7 +76,7 @@ voucher_call g old new appends given result same call = subst (λ (rs : List Rec
 
 -- ---- and one that carries a decision out
 
-pub answered_call : {D : Type 0} (g : Ghosts D) (old new : Holding D) (appends : List Record) (answer : Result Taken Check) (result : Result Taken TakeError) → Answered answer result → IsCommitCall g old new appends (Ok tt) → IsCarryCall g old new appends result
+pub answered_call : {D : Type 0} (g : Ghosts D) (old new : Holding D) (appends : List Record) (answer : Result Taken Check) (result : Result Taken TakeError) → AnswersAs answer result → IsCommitCall g old new appends (Ok tt) → IsCarryCall g old new appends result
 answered_call g old new appends (Ok taken) result is call = subst (λ (r : Result Taken TakeError). IsCarryCall g old new appends r) (sym is) (renamed_call (λ s. s, λ s. s) (λ e. cc, λ e. cc) (λ e. absurd cc) call)
 answered_call g old new appends (Err c) result is call = subst (λ (r : Result Taken TakeError). IsCarryCall g old new appends r) (sym is) (renamed_call (λ s. s, λ s. s) (λ e. cc, λ e. cc) (λ e. absurd cc) call)
 

@@ -6,7 +6,7 @@ use Rattle.depot_model.specs.Checks.{Setting}
 use Rattle.depot_model.specs.Lawful.{IsLawful}
 use Rattle.depot_model.specs.Records.{IsRecord, text_of_record}
 use Rattle.depot_model.proofs.RecordLaws.{record_text_lawful}
-use Rattle.depot_node.specs.JournalRecords.{listed_ok, record_of, records_of}
+use Rattle.depot_node.specs.JournalRecords.{listed_ok, record_of, records_in_texts}
 
 -- ---- one text
 
@@ -18,9 +18,9 @@ record_of_text r fits = ap listed_ok (record_text_lawful.again 0 r fits)
 -- ---- many texts
 
 -- the records of the texts of records
-pub records_of_texts : (rs : List Record) → AllByRecursion IsRecord rs → records_of (map text_of_record rs) ≡ rs
+pub records_of_texts : (rs : List Record) → AllByRecursion IsRecord rs → records_in_texts (map text_of_record rs) ≡ rs
 records_of_texts [] all = refl
-records_of_texts (r ∷ rs) all = ap (λ (xs : List Record). xs ++ records_of (map text_of_record rs)) (record_of_text r all.0) ∙ ap (λ (xs : List Record). r ∷ xs) (records_of_texts rs all.1)
+records_of_texts (r ∷ rs) all = ap (λ (xs : List Record). xs ++ records_in_texts (map text_of_record rs)) (record_of_text r all.0) ∙ ap (λ (xs : List Record). r ∷ xs) (records_of_texts rs all.1)
 
 -- ---- the records of a lawful journal
 

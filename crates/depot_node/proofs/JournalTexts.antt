@@ -1,9 +1,8 @@
 -- The records of a journal, and their texts as they stand on its disk.
-use Rattle.std.proofs.Common.{◌≡◌, ◌<◌, ◌≤◌, ◌^◌, ℕ, ◌+◌, zero, suc, Bool, List, [], ◌∷◌, ◌++◌, length, map, take, drop, refl, sym, ap, subst, ◌∙◌, arith, length-append, length-drop, append-nil, Some, slice_get}
+use Rattle.std.proofs.Common.{◌≡◌, ◌≤◌, ◌^◌, ℕ, ◌+◌, zero, suc, Bool, List, [], ◌∷◌, ◌++◌, length, map, take, drop, refl, sym, ap, subst, ◌∙◌, arith, length-append, length-drop, append-nil}
 use Rattle.std.proofs.Math.Seq.{drop-append-add, drop-length, take-append-add, take-append_seam, take-length}
 use Rattle.std.specs.List.{AllByRecursion}
-use Rattle.std.proofs.lemmas.List.{map-append, get_or-take, length-map, length-take-le, take-map, take-append-drop}
-use Rattle.std.proofs.lemmas.Option.{get_or_from_slice_get, slice_get-get_or}
+use Rattle.std.proofs.lemmas.List.{map-append, length-map, length-take-le, take-map, take-append-drop}
 use Rattle.std.proofs.lemmas.List.Sums.{sum_by-cons}
 use Rattle.depot_base.specs.File as files
 use Rattle.depot_base.specs.File.{IsFileOf, PassesLimit, blocks, framed}
@@ -16,22 +15,22 @@ use Rattle.depot_model.specs.Stops.{HasFront, LeavesAll}
 use Rattle.depot_journal.specs.Stable as stable
 use Rattle.depot_laws.proofs.Counts.{bytes_more}
 use Rattle.depot_base.proofs.GeneralLaws.{all_both}
-use Rattle.depot_readings.specs.NewRecords.{bytes_of}
-use Rattle.depot_node.specs.JournalRecords.{AreTexts, AreTextsFor, records_of}
+use Rattle.depot_readings.specs.NewRecords.{taken_bytes}
+use Rattle.depot_node.specs.JournalRecords.{AreRecordTexts, AreTextsFor, records_in_texts}
 use Rattle.depot_node.proofs.JournalRecordLaws.{records_of_texts}
 
 -- ---- records and their texts
 
 -- the records are read back
-pub read_back : (J : List Record) (texts : List (List ℕ)) → AreTextsFor J texts → records_of texts ≡ J
-read_back J texts t = ap records_of t.are ∙ records_of_texts J t.fit
+pub read_back : (J : List Record) (texts : List (List ℕ)) → AreTextsFor J texts → records_in_texts texts ≡ J
+read_back J texts t = ap records_in_texts t.are ∙ records_of_texts J t.fit
 
-pub are_texts : (J : List Record) (texts : List (List ℕ)) → AreTextsFor J texts → AreTexts texts
+pub are_texts : (J : List Record) (texts : List (List ℕ)) → AreTextsFor J texts → AreRecordTexts texts
 are_texts J texts t =
     let back = read_back J texts t in
     record { fit = subst (λ (rs : List Record). AllByRecursion IsRecord rs) (sym back) t.fit; are = t.are ∙ ap (map text_of_record) (sym back) }
 
-pub texts_for : (texts : List (List ℕ)) → AreTexts texts → AreTextsFor (records_of texts) texts
+pub texts_for : (texts : List (List ℕ)) → AreRecordTexts texts → AreTextsFor (records_in_texts texts) texts
 texts_for texts t = record { fit = t.fit; are = t.are }
 
 -- as many as the records
@@ -57,7 +56,7 @@ front_texts n J texts t = record { fit = all_front IsRecord n J t.fit; are = ap 
 -- ---- bytes
 
 -- the bytes of records are those of their blocks
-pub bytes_are_blocks : (J : List Record) → length (blocks (map text_of_record J)) ≡ bytes_of J
+pub bytes_are_blocks : (J : List Record) → length (blocks (map text_of_record J)) ≡ taken_bytes J
 bytes_are_blocks [] = refl
 bytes_are_blocks (r ∷ J) =
     omega (
@@ -68,7 +67,7 @@ bytes_are_blocks (r ∷ J) =
       sum_by-cons (λ (x : Record). 5 + length (text_of_record x)) r J,
     )
 
-pub blocks_long : (J : List Record) (texts : List (List ℕ)) → AreTextsFor J texts → length (blocks texts) ≡ bytes_of J
+pub blocks_long : (J : List Record) (texts : List (List ℕ)) → AreTextsFor J texts → length (blocks texts) ≡ taken_bytes J
 blocks_long J texts t = ap (λ (x : List (List ℕ)). length (blocks x)) t.are ∙ bytes_are_blocks J
 
 pub journal_long : (J : List Record) (texts : List (List ℕ)) → AreTextsFor J texts → 1 + length (blocks texts) ≡ journal_bytes J
@@ -76,13 +75,13 @@ journal_long J texts t = omega (arith, blocks_long J texts t)
 
 -- ---- what a stop leaves
 
-pub front_of_records : (J new : List Record) (texts more : List (List ℕ)) (file : List ℕ) → AreTextsFor J texts → AreTextsFor new more → files.HasFront texts more file → HasFront J new file
+pub front_of_records : (J new : List Record) (texts more : List (List ℕ)) (file : List ℕ) → AreTextsFor J texts → AreTextsFor new more → files.HasBodyFront texts more file → HasFront J new file
 front_of_records J new texts more file t u front = record {
   count = front.count;
   has = subst (IsFileOf file) (both_texts J (take front.count new) texts (take front.count more) t (front_texts front.count new more u)).are front.is;
 }
 
-pub all_of_records : (J : List Record) (texts : List (List ℕ)) (stopped : Bool) (images : List ℕ → Type 0) → AreTextsFor J texts → stable.LeavesAll texts stopped images → LeavesAll J stopped images
+pub all_of_records : (J : List Record) (texts : List (List ℕ)) (stopped : Bool) (images : List ℕ → Type 0) → AreTextsFor J texts → stable.LeavesAllBodies texts stopped images → LeavesAll J stopped images
 all_of_records J texts stopped images t all = λ file left.
     let has = all file left in
     record { more = has.more; has = subst (λ (x : List (List ℕ)). IsFileOf file (x ++ has.more)) t.are has.has; none = has.none }
@@ -90,7 +89,7 @@ all_of_records J texts stopped images t all = λ file left.
 -- ---- a failed append
 
 -- the records that were appended before it
-pub cut_texts : (J new : List Record) (texts more kept : List (List ℕ)) (told : Type 0) (images : List ℕ → Type 0) → AreTextsFor J texts → AreTextsFor new more → (cut : files.IsCutShort texts more kept told images)
+pub cut_texts : (J new : List Record) (texts more kept : List (List ℕ)) (told : Type 0) (images : List ℕ → Type 0) → AreTextsFor J texts → AreTextsFor new more → (cut : files.AreBodiesCutShort texts more kept told images)
     → AreTextsFor (J ++ take cut.count new) kept
 cut_texts J new texts more kept told images t u cut =
     subst (λ (x : List (List ℕ)). AreTextsFor (J ++ take cut.count new) x) (sym cut.front) (both_texts J (take cut.count new) texts (take cut.count more) t (front_texts cut.count new more u))
@@ -107,22 +106,15 @@ passes_none J new texts more t u few small full_of.Writers number passes = passe
 -- ---- what was read of a journal's texts
 
 -- so many were read
-pub read_count : (n : ℕ) (texts : List (List ℕ)) → AreTexts (take n texts) → n ≤ length texts → length (records_of (take n texts)) ≡ n
-read_count n texts t within = sym (as_many (records_of (take n texts)) (take n texts) (texts_for (take n texts) t)) ∙ length-take-le n texts within
+pub read_count : (n : ℕ) (texts : List (List ℕ)) → AreRecordTexts (take n texts) → n ≤ length texts → length (records_in_texts (take n texts)) ≡ n
+read_count n texts t within = sym (as_many (records_in_texts (take n texts)) (take n texts) (texts_for (take n texts) t)) ∙ length-take-le n texts within
 
 -- where none is left, all were read
 pub all_read : (n : ℕ) (texts : List (List ℕ)) → drop n texts ≡ [] → take n texts ≡ texts
 all_read n texts none = sym (append-nil (take n texts)) ∙ ap (λ (x : List (List ℕ)). take n texts ++ x) (sym none) ∙ take-append-drop n texts
 
-pub whole_texts : (n : ℕ) (texts : List (List ℕ)) → AreTexts (take n texts) → drop n texts ≡ [] → AreTextsFor (records_of (take n texts)) texts
-whole_texts n texts t none = let all = all_read n texts none in subst (λ (x : List (List ℕ)). AreTextsFor (records_of (take n texts)) x) all (texts_for (take n texts) t)
-
--- the text of a record that was read
-pub text_at : (n : ℕ) (texts : List (List ℕ)) (place : ℕ) (text : List ℕ) → AreTexts (take n texts) → n ≤ length texts → place < n → slice_get texts place ≡ Some text → slice_get (map text_of_record (records_of (take n texts))) place ≡ Some text
-text_at n texts place text t within before is =
-    ap (λ (x : List (List ℕ)). slice_get x place) (sym t.are)
-    ∙ slice_get-get_or (take n texts) place text (omega (arith, before, length-take-le n texts within))
-    ∙ ap Some (get_or-take n texts place text before ∙ get_or_from_slice_get texts place text text is)
+pub whole_texts : (n : ℕ) (texts : List (List ℕ)) → AreRecordTexts (take n texts) → drop n texts ≡ [] → AreTextsFor (records_in_texts (take n texts)) texts
+whole_texts n texts t none = let all = all_read n texts none in subst (λ (x : List (List ℕ)). AreTextsFor (records_in_texts (take n texts)) x) all (texts_for (take n texts) t)
 
 -- ---- more is read
 
@@ -144,22 +136,22 @@ drop_more_texts n m texts within =
 
 -- what a reading leaves: these records were read, and no more texts than there are
 pub record IsReadTo (n : ℕ) (texts : List (List ℕ)) (J : List Record) (rest : List (List ℕ)) : Type 0 where
-  pub are : AreTexts (take n texts)
+  pub are : AreRecordTexts (take n texts)
   pub within : n ≤ length texts
-  pub records : records_of (take n texts) ≡ J
+  pub records : records_in_texts (take n texts) ≡ J
   pub left : drop n texts ≡ rest
 
-pub read_more : (n m : ℕ) (texts more rest : List (List ℕ)) (new : List Record) → AreTexts (take n texts) → n ≤ length texts → AreTextsFor new more → m ≡ length more → drop n texts ≡ map text_of_record new ++ rest
-    → IsReadTo (n + m) texts (records_of (take n texts) ++ new) (drop (length new) (drop n texts))
+pub read_more : (n m : ℕ) (texts more rest : List (List ℕ)) (new : List Record) → AreRecordTexts (take n texts) → n ≤ length texts → AreTextsFor new more → m ≡ length more → drop n texts ≡ map text_of_record new ++ rest
+    → IsReadTo (n + m) texts (records_in_texts (take n texts) ++ new) (drop (length new) (drop n texts))
 read_more n m texts more rest new t within u many is =
     let here : drop n texts ≡ more ++ rest = is ∙ ap (λ (x : List (List ℕ)). x ++ rest) (sym u.are) in
     let same : take (n + m) texts ≡ take n texts ++ more = ap (λ (k : ℕ). take (n + k) texts) many ∙ take_more_texts n texts more rest within here in
-    let all = both_texts (records_of (take n texts)) new (take n texts) more (texts_for (take n texts) t) u in
-    let both = subst (λ (x : List (List ℕ)). AreTextsFor (records_of (take n texts) ++ new) x) (sym same) all in
+    let all = both_texts (records_in_texts (take n texts)) new (take n texts) more (texts_for (take n texts) t) u in
+    let both = subst (λ (x : List (List ℕ)). AreTextsFor (records_in_texts (take n texts) ++ new) x) (sym same) all in
     record {
-      are = are_texts (records_of (take n texts) ++ new) (take (n + m) texts) both;
+      are = are_texts (records_in_texts (take n texts) ++ new) (take (n + m) texts) both;
       within = omega (arith, within, many, length-drop n texts, ap length here, length-append more rest);
-      records = read_back (records_of (take n texts) ++ new) (take (n + m) texts) both;
+      records = read_back (records_in_texts (take n texts) ++ new) (take (n + m) texts) both;
       left = drop_more_texts n m texts within ∙ ap (λ (k : ℕ). drop k (drop n texts)) (many ∙ as_many new more u);
     }
 
@@ -168,8 +160,8 @@ pub read_all : (n : ℕ) (texts : List (List ℕ)) (J : List Record) → AreText
 read_all n texts J t all =
     let whole : take n texts ≡ texts = ap (λ (k : ℕ). take k texts) all ∙ take-length texts in
     record {
-      are = subst (λ (x : List (List ℕ)). AreTexts x) (sym whole) (are_texts J texts t);
+      are = subst (λ (x : List (List ℕ)). AreRecordTexts x) (sym whole) (are_texts J texts t);
       within = omega (arith, all);
-      records = ap records_of whole ∙ read_back J texts t;
+      records = ap records_in_texts whole ∙ read_back J texts t;
       left = ap (λ (k : ℕ). drop k texts) all ∙ drop-length texts;
     }

@@ -8,7 +8,7 @@ use Rattle.depot_model.specs.RecordFaults.{IsFault, AreTextsOf}
 use Rattle.depot_model.specs.Records.{text_of_record}
 use Rattle.depot_model.specs.Roster.{Verifies}
 use Rattle.depot_laws.proofs.Splits.{lawful_none}
-use Rattle.depot_node.specs.Holdings.{Holding, standing, with_records}
+use Rattle.depot_node.specs.Holdings.{Holding, node_setting, with_records}
 use Rattle.depot_decide.specs.ReadRecords.{IsReadFrom}
 use Rattle.depot_node.specs.StartReading.{IsReadOn, IsNextWrong, AreWrong}
 use Rattle.depot_node.specs.declared.start_error.StartError.{StartError}
@@ -66,8 +66,8 @@ reading_goes_on here there old now new r on stands =
     }
 
 -- where the node stands stays the same
-pub reading_stands : {D : Type 0} (verifies : Verifies) (here : Setting) (old now : Holding D) → IsReading here old now → standing verifies now ≡ standing verifies old
-reading_stands verifies here old now r = ap (λ (v : Holding _). standing verifies v) r.same
+pub reading_stands : {D : Type 0} (verifies : Verifies) (here : Setting) (old now : Holding D) → IsReading here old now → node_setting verifies now ≡ node_setting verifies old
+reading_stands verifies here old now r = ap (λ (v : Holding _). node_setting verifies v) r.same
 
 -- after the last text
 pub reading_ends : {D : Type 0} (here : Setting) (old now : Holding D) → IsReading here old now → now.unread ≡ [] → AreTextsOf here now.records old.unread

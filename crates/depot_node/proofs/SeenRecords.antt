@@ -8,7 +8,7 @@ use Rattle.depot_model.specs.Records.{text_of_record}
 use Rattle.depot_readings.specs.ReadingsView.{Known}
 use Rattle.depot_readings.specs.RecordTexts.{given_of}
 use Rattle.depot_node.specs.Holdings.{Holding, known, with_records, IsWhole}
-use Rattle.depot_node.specs.JournalRecords.{AreTexts, AreTextsFor, records_of}
+use Rattle.depot_node.specs.JournalRecords.{AreRecordTexts, AreTextsFor, records_in_texts}
 use Rattle.depot_node.proofs.JournalRecordLaws.{all_fit}
 use Rattle.depot_node.proofs.JournalTexts.{IsReadTo, read_more}
 
@@ -38,8 +38,8 @@ given_texts here J new texts rest l are is = record { fit = all_fit here J new l
 
 -- ---- more is read
 
-pub read_seen : {D : Type 0} (here : Setting) (inside seen : Holding D) (n m : ℕ) (texts : List (List ℕ)) (J new : List Record) → inside ≡ seen → inside.unread ≡ drop n texts → AreTexts (take n texts) → n ≤ length texts → m ≡ length (map text_of_record new)
-    → IsLawful here (J ++ new) → (rest : List (List ℕ)) × (seen.unread ≡ map text_of_record new ++ rest) → IsReadTo (n + m) texts (records_of (take n texts) ++ new) (drop (length new) (drop n texts))
+pub read_seen : {D : Type 0} (here : Setting) (inside seen : Holding D) (n m : ℕ) (texts : List (List ℕ)) (J new : List Record) → inside ≡ seen → inside.unread ≡ drop n texts → AreRecordTexts (take n texts) → n ≤ length texts → m ≡ length (map text_of_record new)
+    → IsLawful here (J ++ new) → (rest : List (List ℕ)) × (seen.unread ≡ map text_of_record new ++ rest) → IsReadTo (n + m) texts (records_in_texts (take n texts) ++ new) (drop (length new) (drop n texts))
 read_seen {D} here inside seen n m texts J new same left t within many l next =
     read_more n m texts (map text_of_record new) next.0 new t within (new_texts here J new l) many (sym left ∙ ap (λ (x : Holding D). x.unread) same ∙ next.1)
 

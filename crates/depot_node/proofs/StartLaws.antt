@@ -15,7 +15,7 @@ use Rattle.depot_model.specs.Records.{text_of_record}
 use Rattle.depot_model.specs.Roster.{key_of, has_node}
 use Rattle.depot_model.specs.Stops.{HasRecords}
 use Rattle.depot_model.specs.Texts.{hash_of_roster}
-use Rattle.depot_node.specs.JournalRecords.{records_of}
+use Rattle.depot_node.specs.JournalRecords.{records_in_texts}
 use Rattle.depot_node.proofs.JournalRecordLaws.{all_fit, records_of_texts}
 use Rattle.depot_node.specs.Starting.{BeginWithBirth, IsNotStarted, IsStartedFrom, LeavesFile, OfFile, started}
 use Rattle.depot_node.specs.declared.start_error.StartError.{StartError}
@@ -106,5 +106,5 @@ lawful_file_starts here key told file J (refused.NotLawful place f) tells keyed 
 pub lawful_file_is_read : (here : Setting) (file : List ℕ) (J records : List Record) → HasRecords J file → IsLawful here J → IsStartedFrom here file records → records ≡ started here J
 lawful_file_is_read here file J records has l s =
     let texts : map text_of_record s.journal ≡ map text_of_record J = one_list file (map text_of_record s.journal) (map text_of_record J) s.read has in
-    let same : s.journal ≡ J = sym (records_of_texts s.journal (all_fit here [] s.journal s.lawful)) ∙ ap records_of texts ∙ records_of_texts J (all_fit here [] J l) in
+    let same : s.journal ≡ J = sym (records_of_texts s.journal (all_fit here [] s.journal s.lawful)) ∙ ap records_in_texts texts ∙ records_of_texts J (all_fit here [] J l) in
     s.is ∙ ap (started here) same

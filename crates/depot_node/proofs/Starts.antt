@@ -18,13 +18,13 @@ use Rattle.depot_node.specs.declared.start_error.StartError.TheVariants as refus
 -- ---- what a stop may leave
 
 -- of a journal that is started: a file of at most one byte has no records, as the one before it
-journal_leaves : (new : List Record) (file : List ℕ) (before : List ℕ → Type 0) (image : List ℕ) → files.StartLeaves before file image → LeavesNew new (IsFileOf file []) before image
+journal_leaves : (new : List Record) (file : List ℕ) (before : List ℕ → Type 0) (image : List ℕ) → files.StartLeavesFile before file image → LeavesNew new (IsFileOf file []) before image
 journal_leaves new file before image (inl might) = inl might
 journal_leaves new file before image (inr short) = inr (inl (short.0, refl), record { count = 0; has = inl (short.1, refl) })
 
 module _ {D : Type 0} (moment : D → ℕ) (left_since : D → ℕ → List ℕ → Type 0) (new : List Record) (file : List ℕ) (before : List ℕ → Type 0) where
   -- a journal was started, and that was all
-  pub left_by_journal : (disk end : D) → LeavesOnly moment left_since disk end (files.StartLeaves before file) → LeavesOnly moment left_since disk end (LeavesNew new (IsFileOf file []) before)
+  pub left_by_journal : (disk end : D) → LeavesOnly moment left_since disk end (files.StartLeavesFile before file) → LeavesOnly moment left_since disk end (LeavesNew new (IsFileOf file []) before)
   left_by_journal disk end leaves = record {
     later = leaves.later;
     each = λ image left. journal_leaves new file before image (leaves.each image left);

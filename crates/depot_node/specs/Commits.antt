@@ -18,7 +18,7 @@ Commits me J new (Err refused.Disk) after = (full_by me J new ≡ None) × IsCut
 Commits me J new (Err (refused.Full full)) after = HadNoRoom me J new full after
 
 -- Records are appended for which there is room: all; or none for want of memory; or those before the one on which the disk failed.
-abbrev pub Appends : List Record → List Record → Result (Unit {0}) WriteError → List Record → Type 0
-Appends J new (Ok done) after = after ≡ J ++ new
-Appends J new (Err unwritten.Memory) after = after ≡ J
-Appends J new (Err unwritten.Disk) after = IsCutShort J new after
+abbrev pub AppendsRecords : List Record → List Record → Result (Unit {0}) WriteError → List Record → Type 0
+AppendsRecords J new (Ok done) after = after ≡ J ++ new
+AppendsRecords J new (Err unwritten.Memory) after = after ≡ J
+AppendsRecords J new (Err unwritten.Disk) after = IsCutShort J new after

@@ -25,12 +25,14 @@ holding_of (me, (listed, (records, (unread, (stopped, disk))))) = record { me = 
 
 abbrev pub holding_code : {D : Type 0} → Coded D → Coded (Holding D)
 holding_code {D} code_of =
-    code_by (ℕ × (List RosterEntry × (List Record × (List (List ℕ) × (Bool × D))))) (coded× coded_ℕ (coded× (coded_list coded_roster_entry) (coded× (coded_list coded_record) (coded× (coded_list (coded_list coded_ℕ)) (coded× coded_bool code_of)))))
+    code_by (ℕ × (List RosterEntry × (List Record × (List (List ℕ) × (Bool × D)))))
+    (coded× coded_ℕ (coded× (coded_list coded_roster_entry) (coded× (coded_list coded_record)
+    (coded× (coded_list (coded_list coded_ℕ)) (coded× coded_bool code_of)))))
     (λ v. (v.me, (v.listed, (v.records, (v.unread, (v.stopped, v.disk)))))) holding_of (λ _. refl)
 
 -- where the node stands
-abbrev pub standing : {D : Type 0} → Verifies → Holding D → Setting
-standing verifies v = record { verifies = verifies; me = v.me; listed = v.listed }
+abbrev pub node_setting : {D : Type 0} → Verifies → Holding D → Setting
+node_setting verifies v = record { verifies = verifies; me = v.me; listed = v.listed }
 
 -- what is read off its records
 abbrev pub known : {D : Type 0} → Holding D → Known

@@ -13,13 +13,13 @@ unfoldable pub record_of : List ℕ → List Record
 record_of text = listed_ok (record_text.read (record { at = 0; rest = text }))
 
 -- the records of texts
-abbrev pub records_of : List (List ℕ) → List Record
-records_of texts = flat_map record_of texts
+abbrev pub records_in_texts : List (List ℕ) → List Record
+records_in_texts texts = flat_map record_of texts
 
 -- each is the text of a record
-pub record AreTexts (texts : List (List ℕ)) : Type 0 where
-  pub fit : AllByRecursion IsRecord (records_of texts)
-  pub are : texts ≡ map text_of_record (records_of texts)
+pub record AreRecordTexts (texts : List (List ℕ)) : Type 0 where
+  pub fit : AllByRecursion IsRecord (records_in_texts texts)
+  pub are : texts ≡ map text_of_record (records_in_texts texts)
 
 -- these are the texts of these records
 pub record AreTextsFor (new : List Record) (texts : List (List ℕ)) : Type 0 where

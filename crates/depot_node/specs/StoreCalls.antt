@@ -4,13 +4,12 @@ use Rattle.depot_base.specs.declared.record.Record.{Record}
 use Rattle.depot_base.specs.declared.write.Change.{Change}
 use Rattle.depot_model.specs.JournalCalls.{IsJournalCall}
 use Rattle.depot_model.specs.Lawful.{IsLawful, is_empty}
-use Rattle.depot_model.specs.Putting.{Puts, put_records}
+use Rattle.depot_model.specs.Putting.{put_records}
 use Rattle.depot_model.specs.Roster.{Verifies}
 use Rattle.depot_model.specs.Taking.{Form, growth_of_text}
 use Rattle.depot_model.specs.Vouching.{new_vouchers, records_of}
 use Rattle.depot_model.specs.declared.bundle.VoucherError.{VoucherError}
 use Rattle.depot_model.specs.declared.bundle.VoucherError.TheVariants as unvouched
-use Rattle.depot_model.specs.declared.node_state.NodeState as node_state
 use Rattle.depot_model.specs.declared.put_answers.PutDone.{PutDone}
 use Rattle.depot_model.specs.declared.put_answers.PutError.{PutError}
 use Rattle.depot_model.specs.declared.put_answers.PutError.TheVariants as unput
@@ -18,7 +17,7 @@ use Rattle.depot_model.specs.declared.taken.TakeError.{TakeError}
 use Rattle.depot_model.specs.declared.taken.TakeError.TheVariants as untaken
 use Rattle.depot_model.specs.declared.taken.Taken.{Taken}
 use Rattle.depot_outside.specs.declared.disk.Disk.{Ghosts}
-use Rattle.depot_node.specs.Holdings.{Holding, journal_on, standing}
+use Rattle.depot_node.specs.Holdings.{Holding, journal_on, node_setting}
 use Rattle.depot_node.specs.declared.commit.CommitError.{CommitError}
 use Rattle.depot_node.specs.declared.commit.CommitError.TheVariants as refused
 use Rattle.depot_node.specs.declared.commit.WriteError.{WriteError}
@@ -43,19 +42,19 @@ IsCarryCall g old new appends result = IsJournalCall (journal_on g) old new appe
 -- the call was given a text of this form, and answered so; after Memory nothing is appended
 abbrev pub IsStoreTake : {D : Type 0} → Ghosts D → Verifies → Form → Holding D → Holding D → List ℕ → Result Taken TakeError → Type 0
 IsStoreTake g verifies form old new text result =
-    IsJournalCall (journal_on g) old new (growth_of_text (standing verifies old) old.records form text)
+    IsJournalCall (journal_on g) old new (growth_of_text (node_setting verifies old) old.records form text)
     (IsErrOf result untaken.Stopped) (IsErrOf result untaken.Disk) (IsErrOf result untaken.Memory)
 
 -- the call was to put these changes, and answered so; after each error but Disk nothing is appended
 abbrev pub IsStorePut : {D : Type 0} → Ghosts D → Verifies → Holding D → Holding D → List Change → Result PutDone PutError → Type 0
 IsStorePut g verifies old new changes result =
-    IsJournalCall (journal_on g) old new (put_records (standing verifies old) old.records changes)
+    IsJournalCall (journal_on g) old new (put_records (node_setting verifies old) old.records changes)
     (IsErrOf result unput.Stopped) (IsErrOf result unput.Disk) (IsErrAnd result (λ e. e ≢ unput.Disk))
 
 -- the call was to vouch for these ids, and answered so; after each error but Disk nothing is appended
 abbrev pub IsStoreVouch : {D : Type 0} → Ghosts D → Verifies → Holding D → Holding D → List (List ℕ) → Result (Unit {0}) VoucherError → Type 0
 IsStoreVouch g verifies old new ids result =
-    IsJournalCall (journal_on g) old new (records_of (new_vouchers (standing verifies old).me old.records ids))
+    IsJournalCall (journal_on g) old new (records_of (new_vouchers (node_setting verifies old).me old.records ids))
     (IsErrOf result unvouched.Stopped) (IsErrOf result unvouched.Disk) (IsErrAnd result (λ e. e ≢ unvouched.Disk))
 
 -- ---- the store of a node
@@ -63,9 +62,5 @@ IsStoreVouch g verifies old new ids result =
 -- All its records were read. They are a lawful journal where the node stands, and there is one.
 pub record IsKept {D : Type 0} (verifies : Verifies) (v : Holding D) : Type 0 where
   pub read : v.unread ≡ []
-  pub lawful : IsLawful (standing verifies v) v.records
+  pub lawful : IsLawful (node_setting verifies v) v.records
   pub some : is_empty v.records ≡ false
-
--- what a node answers to a put of changes, and its journal after it
-abbrev pub PutsOn : {N : Type 0} → node_state.Ghosts N → N → N → List Change → Result PutDone PutError → Type 0
-PutsOn g old new changes result = Puts (g.stands old) (g.records old) changes result (g.records new)

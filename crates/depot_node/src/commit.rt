@@ -7,8 +7,8 @@ ghost use Rattle.depot_model.specs.Room.{full_by};
 ghost use Rattle.depot_readings.specs.NewRecords.{MayGrow};
 ghost use Rattle.depot_readings.specs.RecordTexts.{IsGiven};
 ghost use Rattle.depot_decide.specs.Deciding.{AreJoined};
-ghost use Rattle.depot_node.specs.Commits.{Appends, Commits};
-ghost use Rattle.depot_node.specs.Holdings.{IsWhole, standing};
+ghost use Rattle.depot_node.specs.Commits.{AppendsRecords, Commits};
+ghost use Rattle.depot_node.specs.Holdings.{IsWhole, node_setting};
 ghost use Rattle.depot_node.specs.StoreCalls.{IsCommitCall, IsKept, IsWriteCall};
 ghost use Rattle.depot_node.specs.declared.commit.WriteError.TheVariants as write_error;
 
@@ -16,6 +16,7 @@ use crate::store::Store;
 use depot_accept::Parents;
 use depot_base::{Full, Memory};
 use depot_decide::keep_parents;
+use depot_journal::AppendError;
 use depot_model::Scheme;
 use depot_outside::Disk;
 use depot_readings::Growth;
@@ -64,11 +65,11 @@ impl<D: Disk, S: Scheme> Store<D, S> {
     ) -> Result<(), CommitError>
         requires runs { self.old.stopped ≡ false }
         requires kept { IsKept S.verifies self.old }
-        requires may { MayGrow (standing S.verifies self.old) self.old.records new }
+        requires may { MayGrow (node_setting S.verifies self.old) self.old.records new }
         requires joined { AreJoined (accepted self.old.records) parents }
         requires given { IsGiven new given.now }
         ensures commits { Commits self.old.me self.old.records new result self.new.records }
-        ensures stands { standing S.verifies self.new ≡ standing S.verifies self.old }
+        ensures stands { node_setting S.verifies self.new ≡ node_setting S.verifies self.old }
         ensures kept { IsKept S.verifies self.new }
         ensures full { (what : Full) → full_by self.old.me self.old.records new ≡ Some what → self.new ≡ self.old }
         ensures call { IsCommitCall D.Disk self.old self.new new result }
@@ -97,11 +98,11 @@ impl<D: Disk, S: Scheme> Store<D, S> {
         given: &[u8],
     ) -> Result<(), WriteError>
         requires whole { IsWhole self.old }
-        requires lawful { IsLawful (standing S.verifies self.old) (self.old.records ++ new) }
+        requires lawful { IsLawful (node_setting S.verifies self.old) (self.old.records ++ new) }
         requires joined { AreJoined (accepted self.old.records) parents }
         requires given { IsGiven new given.now }
-        ensures appends { Appends self.old.records new result self.new.records }
-        ensures stands { standing S.verifies self.new ≡ standing S.verifies self.old }
+        ensures appends { AppendsRecords self.old.records new result self.new.records }
+        ensures stands { node_setting S.verifies self.new ≡ node_setting S.verifies self.old }
         ensures read { self.new.unread ≡ [] }
         ensures call { IsWriteCall D.Disk self.old self.new new result }
     {
@@ -127,8 +128,9 @@ impl<D: Disk, S: Scheme> Store<D, S> {
         self.read = self.journal.count();
         match written {
             Ok(()) => Ok(()),
-            // Memory and room were found before, and the store isn't stopped: the disk alone is left to fail.
-            Err(_) => Err(WriteError::Disk),
+            Err(AppendError::Disk) => Err(WriteError::Disk),
+            // Memory and room were found before, and the store isn't stopped.
+            Err(_) => unreachable!(),
         }
     }
 }

@@ -31,8 +31,7 @@ mod store;
 mod take;
 mod vouch;
 
-pub use depot_decide::{PlaceFault, check_records};
 pub use depot_model::{PutDone, PutError, RecordFault, TakeError, Taken};
-pub use node::Node;
+pub use node::{Node, OnDisk};
 pub use node_laws::lawful_files_start;
 pub use start_error::StartError;

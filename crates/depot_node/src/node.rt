@@ -1,23 +1,14 @@
 //! The node.
-ghost use Rattle.std.specs.Prelude.{◌≡◌, ◌<◌, ◌≤◌, length, true, false, refl, Some, All, option_copied, slice_get};
-ghost use Rattle.depot_base.specs.Pairs.{AllPairsByRecursion};
-ghost use Rattle.depot_base.specs.Parts.{is_below};
-ghost use Rattle.depot_base.specs.Writes.{one_change};
-ghost use Rattle.depot_base.specs.declared.limits.TheConstants.{MOST_WRITES};
-ghost use Rattle.depot_base.specs.declared.update.Update.{Update};
-ghost use Rattle.depot_model.specs.Journal.{accepted, held_as};
-ghost use Rattle.depot_model.specs.Contents.{Writes};
+ghost use Rattle.std.specs.Prelude.{◌≡◌, ◌<◌, length, false, refl, Some, All, slice_get};
+ghost use Rattle.depot_model.specs.Journal.{accepted};
 ghost use Rattle.depot_model.specs.Items.{updates_at};
 ghost use Rattle.depot_model.specs.Order.{AreLatestIn};
-ghost use Rattle.depot_model.specs.Putting.{IsPutCall};
 ghost use Rattle.depot_model.specs.Roster.{key_of};
 ghost use Rattle.depot_model.specs.TextFacts.{IsRoster-prop};
 ghost use Rattle.depot_model.specs.Texts.{IsRoster};
-ghost use Rattle.depot_readings.specs.Counts.{AreCountsOf};
-ghost use Rattle.depot_local.specs.ShownValues.{IsWrittenAt};
-ghost use Rattle.depot_node.specs.Holdings.{standing};
+ghost use Rattle.depot_node.specs.Holdings.{node_setting};
 ghost use Rattle.depot_node.specs.Keyed.{HasKey-prop, IsKept-prop};
-ghost use Rattle.depot_node.specs.StoreCalls.{IsKept, PutsOn};
+ghost use Rattle.depot_node.specs.StoreCalls.{IsKept};
 
 use crate::put::{put, put_all};
 use crate::store::Store;
@@ -28,7 +19,7 @@ use depot_local::LocalNode;
 use depot_model::{NodeState, Past, PutDone, PutError, Replica, Scheme, Signer, TakeError, Taken};
 use depot_outside::Disk;
 use depot_queries::held_as;
-use depot_readings::Counts;
+use depot_readings::JournalCounts;
 use std::alloc::Global;
 
 /// A node with its journal on a disk. The journal is lawful, and the roster has the signer's key for the node. Once the disk failed
@@ -43,42 +34,22 @@ pub struct Node<D: Disk, S: Scheme, G: Signer<Of = S>> {
     ghost keyed: { key_of store.listed store.me ≡ Some (G.key_of signer) } by { HasKey-prop store.listed store.me (G.key_of signer) },
 }
 
+/// What keeps its journal on a disk, which contracts see.
+pub trait OnDisk<D> {
+    /// The disk.
+    ghost disk: { Self → D };
+}
+
+impl<D: Disk, S: Scheme, G: Signer<Of = S>> OnDisk<D> for Node<D, S, G> {
+    ghost disk = { λ n. n.store.disk };
+}
+
 impl<D: Disk, S: Scheme, G: Signer<Of = S>> Node<D, S, G> {
     /// Its disk as it stands, of a node that is stopped too. It takes no memory.
     pub fn into_disk(self) -> D
-        ensures { result ≡ self.store.disk }
+        ensures { result ≡ ⟦<Node<D, S, G> as OnDisk<D>>⟧.disk self }
     {
         self.store.into_disk()
-    }
-
-    /// Puts a value under a key, as [`put_all`](Node::put_all) puts this one change.
-    pub fn put(&mut self, key: Key, value: Value) -> Result<PutDone, PutError>
-        ensures puts { PutsOn ⟦<Node<D, S, G> as NodeState>⟧ self.old self.new (one_change key value) result }
-        ensures call { IsPutCall ⟦<Node<D, S, G> as NodeState>⟧ self.old self.new (one_change key value) result }
-    {
-        put(self.alloc, &mut self.store, key, value)
-    }
-
-    /// Gives keys a value or deletes them, 1 to 16 of them at once, rising strictly: the journal grows by the next own update,
-    /// whose id, seq and clock are told. `Stopped` comes exactly where the disk failed in an earlier call. `Spent`,
-    /// `Tips`, `Collides` and `Full` come exactly where the definition says, in this order, and then, as after Memory, the
-    /// journal is as before. After `Disk` the node is stopped. A stop at any moment leaves the records from before, or these and
-    /// the new one; where another error is answered, those from before.
-    pub fn put_all(&mut self, changes: Changes) -> Result<PutDone, PutError>
-        requires few { (1 ≤ length changes) × (length changes ≤ MOST_WRITES) }
-        requires rising { AllPairsByRecursion (λ c d. is_below c.key d.key ≡ true) changes }
-        ensures puts { PutsOn ⟦<Node<D, S, G> as NodeState>⟧ self.old self.new changes result }
-        ensures call { IsPutCall ⟦<Node<D, S, G> as NodeState>⟧ self.old self.new changes result }
-    {
-        put_all(self.alloc, &mut self.store, changes)
-    }
-
-    /// The graph of the updates that it accepted, of a node that runs. It takes no memory.
-    pub fn graph(&self) -> &Graph
-        requires { ⟦<Node<D, S, G> as NodeState>⟧.stopped self.now ≡ false }
-        ensures { ⟦<Graph as Past>⟧.updates result.now ≡ accepted (⟦<Node<D, S, G> as NodeState>⟧.records self.now) }
-    {
-        self.store.readings().state().graph()
     }
 
     /// How many updates it accepted. It takes no memory.
@@ -87,14 +58,6 @@ impl<D: Disk, S: Scheme, G: Signer<Of = S>> Node<D, S, G> {
         ensures { result ≡ length (accepted (⟦<Node<D, S, G> as NodeState>⟧.records self.now)) }
     {
         self.store.readings().state().graph().count()
-    }
-
-    /// How much its journal takes, of a node that runs. It takes no memory.
-    pub fn counts(&self) -> Counts
-        requires { ⟦<Node<D, S, G> as NodeState>⟧.stopped self.now ≡ false }
-        ensures { AreCountsOf (⟦<Node<D, S, G> as NodeState>⟧.stands self.now).me (⟦<Node<D, S, G> as NodeState>⟧.records self.now) result }
-    {
-        self.store.readings().counts()
     }
 
     /// The items of the latest writes of a key among the accepted updates, in rising order of clock, writer, seq and id,
@@ -115,35 +78,10 @@ impl<D: Disk, S: Scheme, G: Signer<Of = S>> Node<D, S, G> {
     {
         self.store.readings().state().graph().update(item)
     }
-
-    /// The held value that an item's update writes under a key: that of the hash and the length that its write of this key names.
-    /// None exactly where this write is a deletion or its value isn't held. It takes no memory.
-    pub fn value_of(&self, item: u32, key: &Key) -> Option<&[u8]>
-        requires runs { ⟦<Node<D, S, G> as NodeState>⟧.stopped self.now ≡ false }
-        requires item { item < length (accepted (⟦<Node<D, S, G> as NodeState>⟧.records self.now)) }
-        requires writes { (u : Update) → slice_get (accepted (⟦<Node<D, S, G> as NodeState>⟧.records self.now)) item ≡ Some u → Writes key.now u }
-        ensures { IsWrittenAt (⟦<Node<D, S, G> as NodeState>⟧.records self.now) item key.now (option_copied result) }
-    {
-        let Some(wrote) = self.update(item).wrote(key.bytes()) else {
-            unreachable!();
-        };
-        let Some(name) = wrote.named() else {
-            return None;
-        };
-        self.held_as(&name)
-    }
-
-    /// The held value of this hash and of so many bytes, of a node that runs. None exactly where it isn't held. It takes no memory.
-    pub fn held_as(&self, name: &NamedValue) -> Option<&[u8]>
-        requires { ⟦<Node<D, S, G> as NodeState>⟧.stopped self.now ≡ false }
-        ensures { option_copied result ≡ held_as (⟦<Node<D, S, G> as NodeState>⟧.records self.now) name.now }
-    {
-        held_as(self.store.readings(), name)
-    }
 }
 
 impl<D: Disk, S: Scheme, G: Signer<Of = S>> NodeState for Node<D, S, G> {
-    ghost stands = { λ n. standing S.verifies n.store };
+    ghost stands = { λ n. node_setting S.verifies n.store };
 
     ghost records = { λ n. n.store.records };
 
@@ -236,26 +174,32 @@ impl<D: Disk, S: Scheme, G: Signer<Of = S>> Replica for Node<D, S, G> {
 
 impl<D: Disk, S: Scheme, G: Signer<Of = S>> LocalNode for Node<D, S, G> {
     fn put(&mut self, key: Key, value: Value) -> Result<PutDone, PutError> {
-        Node::put(self, key, value)
+        put(self.alloc, &mut self.store, key, value)
     }
 
     fn put_all(&mut self, changes: Changes) -> Result<PutDone, PutError> {
-        Node::put_all(self, changes)
+        put_all(self.alloc, &mut self.store, changes)
     }
 
     fn graph(&self) -> &Graph {
-        Node::graph(self)
+        self.store.readings().state().graph()
     }
 
     fn held_as(&self, name: &NamedValue) -> Option<&[u8]> {
-        Node::held_as(self, name)
+        held_as(self.store.readings(), name)
     }
 
     fn value_of(&self, item: u32, key: &Key) -> Option<&[u8]> {
-        Node::value_of(self, item, key)
+        let Some(wrote) = self.update(item).wrote(key.bytes()) else {
+            unreachable!();
+        };
+        let Some(name) = wrote.named() else {
+            return None;
+        };
+        self.held_as(&name)
     }
 
-    fn counts(&self) -> Counts {
-        Node::counts(self)
+    fn counts(&self) -> JournalCounts {
+        self.store.readings().counts()
     }
 }

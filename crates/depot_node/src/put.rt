@@ -5,7 +5,7 @@ ghost use Rattle.depot_base.specs.Parts.{is_below};
 ghost use Rattle.depot_base.specs.Writes.{one_change};
 ghost use Rattle.depot_base.specs.declared.limits.TheConstants.{MOST_WRITES};
 ghost use Rattle.depot_model.specs.Putting.{Puts};
-ghost use Rattle.depot_node.specs.Holdings.{standing};
+ghost use Rattle.depot_node.specs.Holdings.{node_setting};
 ghost use Rattle.depot_node.specs.StoreCalls.{IsKept, IsStorePut};
 
 use crate::commit::CommitError;
@@ -24,8 +24,8 @@ pub fn put<D: Disk, S: Scheme>(
     value: Value,
 ) -> Result<PutDone, PutError>
     requires kept { IsKept S.verifies store.old }
-    ensures puts { Puts (standing S.verifies store.old) store.old.records (one_change key value) result store.new.records }
-    ensures stands { standing S.verifies store.new ≡ standing S.verifies store.old }
+    ensures puts { Puts (node_setting S.verifies store.old) store.old.records (one_change key value) result store.new.records }
+    ensures stands { node_setting S.verifies store.new ≡ node_setting S.verifies store.old }
     ensures kept { IsKept S.verifies store.new }
     ensures call { IsStorePut D.Disk S.verifies store.old store.new (one_change key value) result }
 {
@@ -46,8 +46,8 @@ pub fn put_all<D: Disk, S: Scheme>(
     requires kept { IsKept S.verifies store.old }
     requires few { (1 ≤ length changes) × (length changes ≤ MOST_WRITES) }
     requires rising { AllPairsByRecursion (λ c d. is_below c.key d.key ≡ true) changes }
-    ensures puts { Puts (standing S.verifies store.old) store.old.records changes result store.new.records }
-    ensures stands { standing S.verifies store.new ≡ standing S.verifies store.old }
+    ensures puts { Puts (node_setting S.verifies store.old) store.old.records changes result store.new.records }
+    ensures stands { node_setting S.verifies store.new ≡ node_setting S.verifies store.old }
     ensures kept { IsKept S.verifies store.new }
     ensures call { IsStorePut D.Disk S.verifies store.old store.new changes result }
 {

@@ -4,10 +4,10 @@ ghost use Rattle.depot_base.specs.declared.record.Record.{Record};
 ghost use Rattle.depot_model.specs.Lawful.{IsLawful};
 ghost use Rattle.depot_model.specs.Roster.{has_node, key_of};
 ghost use Rattle.depot_accept.specs.StateView.{IsStateOf, setting};
-ghost use Rattle.depot_node.specs.Holdings.{standing, IsWhole};
+ghost use Rattle.depot_node.specs.Holdings.{node_setting, IsWhole};
 ghost use Rattle.depot_node.specs.Starting.{IsDiskFault, IsDiskThen, IsHandedBack, IsKeyFault, IsNodeAt, IsNotStarted, IsStartedOn, disk_left, of_journal, placed, started};
 
-use crate::node::Node;
+use crate::node::{Node, OnDisk};
 use crate::start_error::StartError;
 use crate::start_reading::fill;
 use crate::store::Store;
@@ -35,12 +35,12 @@ impl<D: Disk, S: Scheme, G: Signer<Of = S>> Node<D, S, G> {
         me: NodeId,
     ) -> Result<Node<D, S, G>, Back<StartError, D>>
         ensures node { IfOk result (IsNodeAt ⟦<Node<D, S, G> as NodeState>⟧ (placed S.verifies me roster) (G.key_of signer) (G.signature_of signer)) }
-        ensures started { IfOk result (λ n. IsStartedOn D.Disk (placed S.verifies me roster) disk n.store.disk (⟦<Node<D, S, G> as NodeState>⟧.records n)) }
+        ensures started { IfOk result (λ n. IsStartedOn D.Disk (placed S.verifies me roster) disk (⟦<Node<D, S, G> as OnDisk<D>>⟧.disk n) (⟦<Node<D, S, G> as NodeState>⟧.records n)) }
         ensures refused { IfErr result (λ b. IsNotStarted (placed S.verifies me roster) (G.key_of signer) (IsTrue (D.tells disk)) (D.seen disk) b.error) }
         ensures untouched { IfErr result (λ b. IsKeyFault roster me (G.key_of signer) b.error → b.disk ≡ disk) }
         ensures back { IfErr result (IsHandedBack D.Disk (placed S.verifies me roster) disk) }
         // The disk that comes back, in the node or without it.
-        ensures disk { IsDiskThen D.Disk (placed S.verifies me roster) disk (disk_left result (λ n. n.store.disk)) }
+        ensures disk { IsDiskThen D.Disk (placed S.verifies me roster) disk (disk_left result ⟦<Node<D, S, G> as OnDisk<D>>⟧.disk) }
     {
         if let Some(error) = key_fault(&roster, &signer, me) {
             return Err(Back { error, disk });
@@ -70,7 +70,7 @@ fn open<D: Disk, S: Scheme>(
 ) -> Result<Store<D, S>, Back<StartError, D>>
     requires empty { IsStateOf [] state }
     requires listed { has_node state.listed state.me ≡ true }
-    ensures stands { IfOk result (λ s. standing S.verifies s ≡ setting S.verifies state) }
+    ensures stands { IfOk result (λ s. node_setting S.verifies s ≡ setting S.verifies state) }
     ensures whole { IfOk result IsWhole }
     ensures lawful { IfOk result (λ s. (J : List Record) × (IsLawful (setting S.verifies state) J × (s.records ≡ started (setting S.verifies state) J))) }
     ensures started { IfOk result (λ s. IsStartedOn D.Disk (setting S.verifies state) disk s.disk s.records) }

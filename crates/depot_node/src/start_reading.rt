@@ -5,7 +5,7 @@ ghost use Rattle.depot_model.specs.RecordFaults.{AreTextsOf};
 ghost use Rattle.depot_model.specs.Roster.{has_node};
 ghost use Rattle.depot_model.specs.Stops.{LeavesAll};
 ghost use Rattle.depot_model.specs.Texts.{hash_of_roster};
-ghost use Rattle.depot_node.specs.Holdings.{IsWhole, journal_on, standing};
+ghost use Rattle.depot_node.specs.Holdings.{IsWhole, journal_on, node_setting};
 ghost use Rattle.depot_node.specs.Starting.{AreOwn, LeavesFile, birth_after, started};
 ghost use Rattle.depot_node.specs.StartReading.{IsBirthCall, IsDiskFilled, IsFilled, IsNotFilled, IsReadOn, IsNextWrong, AreWrong, IsOtherBirth, AreOther};
 
@@ -27,11 +27,11 @@ pub fn fill<D: Disk, S: Scheme>(alloc: Global, store: &mut Store<D, S>) -> Resul
     requires runs { store.old.stopped ≡ false }
     requires none { store.old.records ≡ [] }
     requires listed { has_node store.old.listed store.old.me ≡ true }
-    ensures filled { OnOk result (IsFilled D.Disk (standing S.verifies store.old) store.old store.new) }
-    ensures refused { IfErr result (IsNotFilled D.Disk (standing S.verifies store.old) store.old store.new) }
-    ensures stands { standing S.verifies store.new ≡ standing S.verifies store.old }
+    ensures filled { OnOk result (IsFilled D.Disk (node_setting S.verifies store.old) store.old store.new) }
+    ensures refused { IfErr result (IsNotFilled D.Disk (node_setting S.verifies store.old) store.old store.new) }
+    ensures stands { node_setting S.verifies store.new ≡ node_setting S.verifies store.old }
     ensures disk { KeepsDisk (journal_on D.Disk) store.old store.new (IsErrOf result StartError.Disk) }
-    ensures left { IsDiskFilled D.Disk (standing S.verifies store.old) store.old store.new }
+    ensures left { IsDiskFilled D.Disk (node_setting S.verifies store.old) store.old store.new }
 {
     let Some(text) = store.unread() else {
         return add_birth(alloc, store);
@@ -46,11 +46,11 @@ fn add_birth<D: Disk, S: Scheme>(alloc: Global, store: &mut Store<D, S>) -> Resu
     requires none { store.old.records ≡ [] }
     requires read { store.old.unread ≡ [] }
     requires listed { has_node store.old.listed store.old.me ≡ true }
-    ensures records { OnOk result (store.new.records ≡ started (standing S.verifies store.old) []) }
+    ensures records { OnOk result (store.new.records ≡ started (node_setting S.verifies store.old) []) }
     ensures whole { OnOk result (IsWhole store.new) }
     ensures refused { IfErr result (λ e. LeavesFile e → ⊥) }
-    ensures stands { standing S.verifies store.new ≡ standing S.verifies store.old }
-    ensures call { IsBirthCall D.Disk store.old store.new (birth_after (standing S.verifies store.old) []) result }
+    ensures stands { node_setting S.verifies store.new ≡ node_setting S.verifies store.old }
+    ensures call { IsBirthCall D.Disk store.old store.new (birth_after (node_setting S.verifies store.old) []) result }
 {
     let node = store.me();
     let roster = store.roster();
@@ -71,8 +71,8 @@ fn check_origin<D: Disk, S: Scheme>(
     store: &Store<D, S>,
     first: &[u8],
 ) -> Result<(), StartError>
-    ensures own { OnOk result ((rest : List (List ℕ)) → AreOwn (standing S.verifies store.now) (first.now ∷ rest)) }
-    ensures other { IfErr result (λ e. (rest : List (List ℕ)) → AreOther (standing S.verifies store.now) (first.now ∷ rest) e) }
+    ensures own { OnOk result ((rest : List (List ℕ)) → AreOwn (node_setting S.verifies store.now) (first.now ∷ rest)) }
+    ensures other { IfErr result (λ e. (rest : List (List ℕ)) → AreOther (node_setting S.verifies store.now) (first.now ∷ rest) e) }
 {
     let item = match decode_record(alloc, first) {
         Ok(item) => item,
@@ -94,7 +94,7 @@ fn check_birth<D: Disk, S: Scheme>(
     roster: Hash32,
 ) -> Result<(), StartError>
     ensures own { OnOk result ((node ≡ store.now.me) × (roster ≡ hash_of_roster store.now.listed)) }
-    ensures other { IfErr result (IsOtherBirth (standing S.verifies store.now) node roster) }
+    ensures other { IfErr result (IsOtherBirth (node_setting S.verifies store.now) node roster) }
 {
     if node != store.me() {
         return Err(StartError::OtherNode(node));
@@ -113,10 +113,10 @@ fn check_birth<D: Disk, S: Scheme>(
 fn read_all<D: Disk, S: Scheme>(alloc: Global, store: &mut Store<D, S>) -> Result<(), StartError>
     requires runs { store.old.stopped ≡ false }
     requires none { store.old.records ≡ [] }
-    ensures read { OnOk result (AreTextsOf (standing S.verifies store.old) store.new.records store.old.unread) }
+    ensures read { OnOk result (AreTextsOf (node_setting S.verifies store.old) store.new.records store.old.unread) }
     ensures whole { OnOk result (IsWhole store.new) }
-    ensures wrong { IfErr result (AreWrong (standing S.verifies store.old) store.old.unread) }
-    ensures stands { standing S.verifies store.new ≡ standing S.verifies store.old }
+    ensures wrong { IfErr result (AreWrong (node_setting S.verifies store.old) store.old.unread) }
+    ensures stands { node_setting S.verifies store.new ≡ node_setting S.verifies store.old }
     ensures disk { store.new.disk ≡ store.old.disk }
     ensures stable { OnOk result (IsTrue (D.tells store.new.disk) → LeavesAll store.new.records false (D.may_leave store.new.disk)) }
 {
@@ -129,9 +129,9 @@ fn read_all<D: Disk, S: Scheme>(alloc: Global, store: &mut Store<D, S>) -> Resul
 /// Reads the first record that wasn't read yet. False where every record was.
 fn read_next<D: Disk, S: Scheme>(alloc: Global, store: &mut Store<D, S>) -> Result<bool, StartError>
     requires runs { store.old.stopped ≡ false }
-    ensures read { IfOk result (λ more. more ≡ true → IsReadOn (standing S.verifies store.old) store.old store.new) }
+    ensures read { IfOk result (λ more. more ≡ true → IsReadOn (node_setting S.verifies store.old) store.old store.new) }
     ensures end { IfOk result (λ more. more ≡ false → (store.old.unread ≡ []) × (store.new ≡ store.old)) }
-    ensures wrong { IfErr result (IsNextWrong (standing S.verifies store.old) store.old.records store.old.unread) }
+    ensures wrong { IfErr result (IsNextWrong (node_setting S.verifies store.old) store.old.records store.old.unread) }
     ensures same { OnErr result (store.new ≡ store.old) }
 {
     let Some(text) = store.unread() else {

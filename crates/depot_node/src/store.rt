@@ -6,7 +6,7 @@ ghost use Rattle.depot_model.specs.Records.{text_of_record};
 ghost use Rattle.depot_model.specs.Stops.{LeavesAll};
 ghost use Rattle.depot_accept.specs.StateView.{IsStateOf};
 ghost use Rattle.depot_decide.specs.Deciding.{AreJoined};
-ghost use Rattle.depot_node.specs.Holdings.{known, standing, with_records};
+ghost use Rattle.depot_node.specs.Holdings.{known, node_setting, with_records};
 
 use depot_accept::{Parents, State};
 use depot_base::{Memory, NodeId};
@@ -33,16 +33,23 @@ pub struct Store<D: Disk, S: Scheme> {
 impl<D: Disk, S: Scheme> Model for Store<D, S> {
     ghost use Rattle.std.specs.Prelude.{◌≡◌, ◌≤◌, take, drop, length, false};
     ghost use Rattle.depot_node.specs.Holdings.{Holding, holding_code};
-    ghost use Rattle.depot_node.specs.JournalRecords.{AreTexts, records_of};
+    ghost use Rattle.depot_node.specs.JournalRecords.{AreRecordTexts, records_in_texts};
 
     ghost Value = { Holding D };
 
     ghost coded = { holding_code D.code };
 
-    ghost view = { λ s. record { me = s.readings.me; listed = s.readings.listed; records = records_of (take s.read s.journal.records); unread = drop s.read s.journal.records; stopped = s.journal.is_stopped; disk = s.journal.disk } };
+    ghost view = { λ s. record {
+      me = s.readings.me;
+      listed = s.readings.listed;
+      records = records_in_texts (take s.read s.journal.records);
+      unread = drop s.read s.journal.records;
+      stopped = s.journal.is_stopped;
+      disk = s.journal.disk;
+    } };
 
-    ghost invariant = { λ s. AreTexts (take s.read s.journal.records) × (s.read ≤ length s.journal.records)
-        × (s.journal.is_stopped ≡ false → s.readings.records ≡ records_of (take s.read s.journal.records)) };
+    ghost invariant = { λ s. AreRecordTexts (take s.read s.journal.records) × (s.read ≤ length s.journal.records)
+        × (s.journal.is_stopped ≡ false → s.readings.records ≡ records_in_texts (take s.read s.journal.records)) };
 }
 
 impl<D: Disk, S: Scheme> Store<D, S> {
@@ -71,7 +78,7 @@ impl<D: Disk, S: Scheme> Store<D, S> {
     pub(crate) fn read(&mut self, new: Growth, parents: Option<Parents>) -> Result<(), Memory>
         requires runs { self.old.stopped ≡ false }
         requires next { (rest : List (List ℕ)) × (self.old.unread ≡ map text_of_record new ++ rest) }
-        requires lawful { IsLawful (standing S.verifies self.old) (self.old.records ++ new) }
+        requires lawful { IsLawful (node_setting S.verifies self.old) (self.old.records ++ new) }
         requires joined { AreJoined (accepted self.old.records) parents }
         ensures ok { OnOk result (self.new ≡ with_records self.old (self.old.records ++ new) (drop (length new) self.old.unread)) }
         ensures err { OnErr result (self.new ≡ self.old) }

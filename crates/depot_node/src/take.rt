@@ -7,7 +7,7 @@ ghost use Rattle.depot_model.specs.Taking.{TakesStatement, TakesProof, TakesValu
 ghost use Rattle.depot_readings.specs.NewRecords.{MayGrow};
 ghost use Rattle.depot_readings.specs.RecordTexts.{IsGiven};
 ghost use Rattle.depot_decide.specs.Deciding.{AreJoined, IsCarriedOut};
-ghost use Rattle.depot_node.specs.Holdings.{standing};
+ghost use Rattle.depot_node.specs.Holdings.{node_setting};
 ghost use Rattle.depot_node.specs.StoreCalls.{IsCarryCall, IsKept, IsStoreTake};
 
 use crate::commit::CommitError;
@@ -24,8 +24,8 @@ pub fn take_statement<D: Disk, S: Scheme>(
     text: &[u8],
 ) -> Result<Taken, TakeError>
     requires kept { IsKept S.verifies store.old }
-    ensures takes { TakesStatement (standing S.verifies store.old) store.old.records text.now result store.new.records }
-    ensures stands { standing S.verifies store.new ≡ standing S.verifies store.old }
+    ensures takes { TakesStatement (node_setting S.verifies store.old) store.old.records text.now result store.new.records }
+    ensures stands { node_setting S.verifies store.new ≡ node_setting S.verifies store.old }
     ensures kept { IsKept S.verifies store.new }
     ensures call { IsStoreTake D.Disk S.verifies as_statement store.old store.new text.now result }
 {
@@ -43,8 +43,8 @@ pub fn take_proof<D: Disk, S: Scheme>(
     text: &[u8],
 ) -> Result<Taken, TakeError>
     requires kept { IsKept S.verifies store.old }
-    ensures takes { TakesProof (standing S.verifies store.old) store.old.records text.now result store.new.records }
-    ensures stands { standing S.verifies store.new ≡ standing S.verifies store.old }
+    ensures takes { TakesProof (node_setting S.verifies store.old) store.old.records text.now result store.new.records }
+    ensures stands { node_setting S.verifies store.new ≡ node_setting S.verifies store.old }
     ensures kept { IsKept S.verifies store.new }
     ensures call { IsStoreTake D.Disk S.verifies as_proof store.old store.new text.now result }
 {
@@ -62,8 +62,8 @@ pub fn take_value<D: Disk, S: Scheme>(
     text: &[u8],
 ) -> Result<Taken, TakeError>
     requires kept { IsKept S.verifies store.old }
-    ensures takes { TakesValue (standing S.verifies store.old) store.old.records text.now result store.new.records }
-    ensures stands { standing S.verifies store.new ≡ standing S.verifies store.old }
+    ensures takes { TakesValue (node_setting S.verifies store.old) store.old.records text.now result store.new.records }
+    ensures stands { node_setting S.verifies store.new ≡ node_setting S.verifies store.old }
     ensures kept { IsKept S.verifies store.new }
     ensures call { IsStoreTake D.Disk S.verifies as_value store.old store.new text.now result }
 {
@@ -84,11 +84,11 @@ fn carry_out<D: Disk, S: Scheme>(
 ) -> Result<Taken, TakeError>
     requires runs { store.old.stopped ≡ false }
     requires kept { IsKept S.verifies store.old }
-    requires may { MayGrow (standing S.verifies store.old) store.old.records decision.growth }
+    requires may { MayGrow (node_setting S.verifies store.old) store.old.records decision.growth }
     requires joined { AreJoined (accepted store.old.records) decision.parents }
     requires given { IsGiven decision.growth given.now }
     ensures carried { IsCarriedOut store.old.me store.old.records decision.answer decision.growth result store.new.records }
-    ensures stands { standing S.verifies store.new ≡ standing S.verifies store.old }
+    ensures stands { node_setting S.verifies store.new ≡ node_setting S.verifies store.old }
     ensures kept { IsKept S.verifies store.new }
     ensures full { (what : Full) → full_by store.old.me store.old.records decision.growth ≡ Some what → store.new ≡ store.old }
     ensures call { IsCarryCall D.Disk store.old store.new decision.growth result }

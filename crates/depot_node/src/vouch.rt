@@ -4,7 +4,7 @@ ghost use Rattle.std.specs.List.{AllByRecursion};
 ghost use Rattle.depot_model.specs.Journal.{accepted, is_foreign};
 ghost use Rattle.depot_model.specs.Lists.{AreApart};
 ghost use Rattle.depot_model.specs.Vouching.{Vouches, is_mine_vouched};
-ghost use Rattle.depot_node.specs.Holdings.{standing};
+ghost use Rattle.depot_node.specs.Holdings.{node_setting};
 ghost use Rattle.depot_node.specs.StoreCalls.{IsKept, IsStoreVouch};
 
 use crate::commit::CommitError;
@@ -29,8 +29,8 @@ pub fn own_vouchers<D: Disk, S: Scheme>(
     requires apart { AreApart ids.now }
     requires foreign { AllByRecursion (λ h. is_foreign store.old.me (accepted store.old.records) h ≡ true) ids.now }
     requires fresh { AllByRecursion (λ h. is_mine_vouched store.old.records h ≡ false) ids.now }
-    ensures vouches { Vouches (standing S.verifies store.old) store.old.records ids.now result store.new.records }
-    ensures stands { standing S.verifies store.new ≡ standing S.verifies store.old }
+    ensures vouches { Vouches (node_setting S.verifies store.old) store.old.records ids.now result store.new.records }
+    ensures stands { node_setting S.verifies store.new ≡ node_setting S.verifies store.old }
     ensures kept { IsKept S.verifies store.new }
     ensures call { IsStoreVouch D.Disk S.verifies store.old store.new ids.now result }
 {

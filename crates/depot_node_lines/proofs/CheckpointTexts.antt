@@ -13,7 +13,7 @@ use Rattle.depot_model.specs.Limits.{Limit, limit_of_put}
 use Rattle.depot_model.specs.Opening.{MadeCheckpoint, no_leaves, many_leaves, made_text, make_of, Opened, opened_text, ill_at, of_roster, with_unknown}
 use Rattle.depot_model.specs.World.{Correct}
 use Rattle.depot_trim.specs.Making.{Makes}
-use Rattle.depot_trim.specs.Signing.{Signs, PutsCheckpoint}
+use Rattle.depot_trim.specs.Signing.{SignsCheckpoint, PutsCheckpoint}
 use Rattle.depot_trim.specs.declared.make_error.MakeError.{MakeError}
 use Rattle.depot_trim.specs.declared.make_error.MakeError.TheVariants as make
 use Rattle.depot_trim.specs.declared.sign_error.CheckpointError.{CheckpointError}
@@ -96,7 +96,7 @@ unsettled : (a b : Result PutDone PutError) → Put a ≡ Put b → SettlesPut b
 unsettled a b is settles = subst SettlesPut (sym (one_put a b is)) settles
 
 -- the signing came to what its put did
-pub signed_by_put : (here : Setting) (J : List Record) (text : List ℕ) (done : Result PutDone CheckpointError) (answer : Result PutDone PutError) (then : List Record) → sign_outcome done ≡ Put answer → SettlesSign done → Signs here J text done then → PutsCheckpoint here J text answer then
+pub signed_by_put : (here : Setting) (J : List Record) (text : List ℕ) (done : Result PutDone CheckpointError) (answer : Result PutDone PutError) (then : List Record) → sign_outcome done ≡ Put answer → SettlesSign done → SignsCheckpoint here J text done then → PutsCheckpoint here J text answer then
 signed_by_put here J text (Ok done) answer then is settles signs = as_put here J text then _ answer is signs
 signed_by_put here J text (Err sign.Memory) answer then is settles signs = absurd settles
 signed_by_put here J text (Err sign.Disk) answer then is settles signs = as_put here J text then _ answer is signs
@@ -164,7 +164,7 @@ why_is : (a b : Unopened) → NotOpened a ≡ NotOpened b → a ≡ b
 why_is a b is = cc
 
 -- what signing is answered says why
-pub signing_says_why : (here : Setting) (J : List Record) (text : List ℕ) (done : Result PutDone CheckpointError) (then : List Record) (why : Unopened) → sign_outcome done ≡ NotOpened why → Signs here J text done then → IsWhyUnopened here J text why
+pub signing_says_why : (here : Setting) (J : List Record) (text : List ℕ) (done : Result PutDone CheckpointError) (then : List Record) (why : Unopened) → sign_outcome done ≡ NotOpened why → SignsCheckpoint here J text done then → IsWhyUnopened here J text why
 signing_says_why here J text (Ok done) then why is signs = absurd cc
 signing_says_why here J text (Err sign.Memory) then why is signs = absurd cc
 signing_says_why here J text (Err sign.Disk) then why is signs = absurd cc

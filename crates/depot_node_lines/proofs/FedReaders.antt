@@ -46,7 +46,7 @@ use Rattle.depot_trim.specs.declared.trim_error.TrimTake.{TrimTake}
 use Rattle.depot_trim.specs.declared.trim_error.TrimTake.TheVariants as failed
 use Rattle.depot_trim.specs.declared.trimmed.Trimmed.{Trimmed}
 use Rattle.depot_node_lines.specs.Printing.{shown_text, shown_value}
-use Rattle.depot_node_lines.specs.ReaderPrinting.{AreCountedWithin, IsReaderFed, IsReaderTold, counted, goes_on}
+use Rattle.depot_node_lines.specs.ReaderPrinting.{AreCountedWithin, IsReaderFed, IsReaderTold, after_frame, goes_on}
 use Rattle.depot_node_lines.specs.declared.readers.ReaderFeedResult.{ReaderFeedResult}
 
 -- ---- frames
@@ -178,7 +178,7 @@ full_step s f fs what is = rw (is, reader_fed) refl
 
 -- the frame in front was answered, and those behind it are taken too
 pub fed_on : {S : Type 0} (verifies : Verifies) (whole : ReaderFeed) (n : ℕ) (bytes behind : List ℕ) (f : Frame) (t : ReaderFeedResult) (answer : Result Taken TrimTake) (old new : Trimmed S) (so : IsFedSoFar verifies whole n bytes t old)
-    → frames_from n bytes ≡ f ∷ frames_from (n - 1) behind → ReaderTakes verifies so.feed.reader (form_of f.tag) f.payload answer new → goes_on answer ≡ true → IsFedSoFar verifies whole (n - 1) behind (counted answer t) new
+    → frames_from n bytes ≡ f ∷ frames_from (n - 1) behind → ReaderTakes verifies so.feed.reader (form_of f.tag) f.payload answer new → goes_on answer ≡ true → IsFedSoFar verifies whole (n - 1) behind (after_frame answer t) new
 fed_on verifies whole n bytes behind f t (Ok New) old new so next takes on = record {
   feed = told_more (Ok New) takes.0 so.feed;
   none_full = so.none_full;
@@ -212,7 +212,7 @@ fed_on verifies whole n bytes behind f t (Err failed.Memory) old new so next tak
 
 -- there was no room for the frame in front
 pub fed_to_full : {S : Type 0} (verifies : Verifies) (whole : ReaderFeed) (n : ℕ) (bytes behind : List ℕ) (f : Frame) (t : ReaderFeedResult) (answer : Result Taken TrimTake) (old new : Trimmed S) (so : IsFedSoFar verifies whole n bytes t old)
-    → frames_from n bytes ≡ f ∷ frames_from (n - 1) behind → ReaderTakes verifies so.feed.reader (form_of f.tag) f.payload answer new → goes_on answer ≡ false → answer ≢ Err failed.Memory → IsReaderFed verifies whole (Ok (counted answer t)) new
+    → frames_from n bytes ≡ f ∷ frames_from (n - 1) behind → ReaderTakes verifies so.feed.reader (form_of f.tag) f.payload answer new → goes_on answer ≡ false → answer ≢ Err failed.Memory → IsReaderFed verifies whole (Ok (after_frame answer t)) new
 fed_to_full verifies whole n bytes behind f t (Ok New) old new so next takes on found = absurd cc
 fed_to_full verifies whole n bytes behind f t (Ok Known) old new so next takes on found = absurd cc
 fed_to_full verifies whole n bytes behind f t (Err (failed.Refused c)) old new so next takes on found = absurd cc
@@ -232,7 +232,7 @@ is_somebodys verifies R f (Err (failed.Full what)) new takes = (R, takes.1)
 is_somebodys verifies R f (Err failed.Memory) new takes = (R, takes)
 
 -- so many frames of each kind
-pub counted_more : (n : ℕ) (answer : Result Taken TrimTake) (t : ReaderFeedResult) → AreCountedWithin n t → AreCountedWithin (n + 1) (counted answer t)
+pub counted_more : (n : ℕ) (answer : Result Taken TrimTake) (t : ReaderFeedResult) → AreCountedWithin n t → AreCountedWithin (n + 1) (after_frame answer t)
 counted_more n (Ok New) t w = record { accepted = omega (arith, w.accepted); known = omega (arith, w.known); refused = omega (arith, w.refused); below = omega (arith, w.below) }
 counted_more n (Ok Known) t w = record { accepted = omega (arith, w.accepted); known = omega (arith, w.known); refused = omega (arith, w.refused); below = omega (arith, w.below) }
 counted_more n (Err (failed.Refused c)) t w = record { accepted = omega (arith, w.accepted); known = omega (arith, w.known); refused = omega (arith, w.refused); below = omega (arith, w.below) }
@@ -261,7 +261,7 @@ abbrev Takes : {S : Type 0} → Verifies → Trimmed S → ℕ → List ℕ → 
 Takes verifies old tag part answer new = (R : Reader) → IsReaderOf verifies R old → ReaderTakes verifies R (form_of tag) part answer new
 
 pub taking_on : {S : Type 0} (verifies : Verifies) (start : Trimmed S) (stream part : List ℕ) (at taken end : ℕ) (tag : FrameTag) (t now : ReaderFeedResult) (old new : Trimmed S) (answer : Result Taken TrimTake) → IsTaking verifies start stream at taken t old → taken < MOST_FRAMES → StandsAt (frame_at (drop at stream)) at (place.Frame tag end) → end ≤ length stream
-    → (frame_byte tag == 4) ≡ false → part ≡ take (end - (at + 5)) (drop (at + 5) stream) → Takes verifies old (frame_byte tag) part answer new → now ≡ counted answer t → goes_on answer ≡ true → IsTaking verifies start stream end (taken + 1) now new
+    → (frame_byte tag == 4) ≡ false → part ≡ take (end - (at + 5)) (drop (at + 5) stream) → Takes verifies old (frame_byte tag) part answer new → now ≡ after_frame answer t → goes_on answer ≡ true → IsTaking verifies start stream end (taken + 1) now new
 taking_on {S} verifies start stream part at taken end tag t now old new answer k some stands within going cut takes is on =
     let payload = stands.0 in
     let f : Frame = record { tag = frame_byte tag; payload = payload } in
@@ -274,12 +274,12 @@ taking_on {S} verifies start stream part at taken end tag t now old new answer k
       counts = counted_more taken answer t k.counts;
       somebodys = is_somebodys verifies k.somebodys.0 f answer new (takes_it k.somebodys.0 k.somebodys.1);
       so_far = λ R reads. let so = k.so_far R reads in
-          subst (λ (n : ℕ). IsFedSoFar verifies (reader_feed_of R stream) n (drop end stream) (counted answer t) new) count
+          subst (λ (n : ℕ). IsFedSoFar verifies (reader_feed_of R stream) n (drop end stream) (after_frame answer t) new) count
           (fed_on verifies (reader_feed_of R stream) (MOST_FRAMES - taken) (drop at stream) (drop end stream) f t answer old new so next (takes_it so.feed.reader so.is_reader) on);
     })
 
 pub taking_full : {S : Type 0} (verifies : Verifies) (start : Trimmed S) (stream part : List ℕ) (at taken end : ℕ) (tag : FrameTag) (t now : ReaderFeedResult) (old new : Trimmed S) (answer : Result Taken TrimTake) → IsTaking verifies start stream at taken t old → taken < MOST_FRAMES → StandsAt (frame_at (drop at stream)) at (place.Frame tag end)
-    → (frame_byte tag == 4) ≡ false → part ≡ take (end - (at + 5)) (drop (at + 5) stream) → Takes verifies old (frame_byte tag) part answer new → now ≡ counted answer t → goes_on answer ≡ false → answer ≢ Err failed.Memory → (R : Reader) → IsReaderOf verifies R start → IsReaderFed verifies (reader_feed_of R stream) (Ok now) new
+    → (frame_byte tag == 4) ≡ false → part ≡ take (end - (at + 5)) (drop (at + 5) stream) → Takes verifies old (frame_byte tag) part answer new → now ≡ after_frame answer t → goes_on answer ≡ false → answer ≢ Err failed.Memory → (R : Reader) → IsReaderOf verifies R start → IsReaderFed verifies (reader_feed_of R stream) (Ok now) new
 taking_full verifies start stream part at taken end tag t now old new answer k some stands going cut takes is on found R reads =
     let payload = stands.0 in
     let f : Frame = record { tag = frame_byte tag; payload = payload } in

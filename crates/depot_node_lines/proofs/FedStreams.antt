@@ -5,8 +5,8 @@ use Rattle.std.proofs.lemmas.List.{append-nil}
 use Rattle.depot_base.specs.declared.check.Full.{Full}
 use Rattle.depot_base.specs.declared.record.Record.{Record}
 use Rattle.depot_answers.specs.declared.exchange_answers.Closing.TheVariants as closing
-use Rattle.depot_feeds.specs.NodeCalls.{IsFeedCall, says_disk}
-use Rattle.depot_feeds.specs.Pieces.{AreOf, Feeds, Stream, at_work, stream_of, told_of}
+use Rattle.depot_feeds.specs.NodeCalls.{IsFeedCall}
+use Rattle.depot_feeds.specs.Pieces.{AreOf, Feeds, Stream, at_work, stream_of, report_of_stream}
 use Rattle.depot_feeds.specs.declared.feed_error.FeedError.{FeedError}
 use Rattle.depot_feeds.specs.declared.feed_error.FeedError.TheVariants as error
 use Rattle.depot_feeds.proofs.LawfulCalls.{renamed_on}
@@ -21,18 +21,18 @@ use Rattle.depot_node_lines.specs.Printing.{IsToldOf}
 -- ---- what is told
 
 -- what a feed keeps tells its report
-pub kept_tells : (s : Feeding) → report_of s ≡ told_of (stream_of s)
+pub kept_tells : (s : Feeding) → report_of s ≡ report_of_stream (stream_of s)
 unfolding report_of ending_of
 kept_tells s = refl
 
-told_by : (s : Feeding) (S : Stream) (report : Report) → report ≡ told_of S → S ≡ stream_of s → report_of s ≡ report
-told_by s S report is kept = kept_tells s ∙ sym (ap told_of kept) ∙ sym is
+told_by : (s : Feeding) (S : Stream) (report : Report) → report ≡ report_of_stream S → S ≡ stream_of s → report_of s ≡ report
+told_by s S report is kept = kept_tells s ∙ sym (ap report_of_stream kept) ∙ sym is
 
-pub told_ill : (here : Setting) (s : Feeding) (bytes : List ℕ) (S : Stream) (J : List Record) (at : ℕ) (report : Report) → report ≡ told_of S → Feeds here s bytes (Err (error.IllFormed at)) S J
+pub told_ill : (here : Setting) (s : Feeding) (bytes : List ℕ) (S : Stream) (J : List Record) (at : ℕ) (report : Report) → report ≡ report_of_stream S → Feeds here s bytes (Err (error.IllFormed at)) S J
     → IsToldOf (fed here s bytes) (record { report = report; closing = Some (closing.IllFormed at) }) × (J ≡ (fed here s bytes).journal)
 told_ill here s bytes S J at report is f = (record { report = told_by (fed here s bytes) S report is f.1.stream; closing = f.0 }, f.1.journal)
 
-pub told_full : (here : Setting) (s : Feeding) (bytes : List ℕ) (S : Stream) (J : List Record) (what : Full) (report : Report) → report ≡ told_of S → Feeds here s bytes (Err (error.Full what)) S J
+pub told_full : (here : Setting) (s : Feeding) (bytes : List ℕ) (S : Stream) (J : List Record) (what : Full) (report : Report) → report ≡ report_of_stream S → Feeds here s bytes (Err (error.Full what)) S J
     → IsToldOf (fed here s bytes) (record { report = report; closing = Some (closing.Full what) }) × (J ≡ (fed here s bytes).journal)
 told_full here s bytes S J what report is f = (record { report = told_by (fed here s bytes) S report is f.1.stream; closing = f.0 }, f.1.journal)
 
@@ -56,7 +56,7 @@ all_fed : (here : Setting) (s now : Feeding) (bytes rest : List ℕ) → rest �
 all_fed here s now bytes rest none u = ap (fed here s) (u.parts ∙ ap (λ (b : List ℕ). u.done ++ b) none ∙ append-nil u.done) ∙ u.is
 
 -- what is told of it then
-pub told_all : (here : Setting) (s : Feeding) (bytes rest : List ℕ) (S : Stream) (J : List Record) (report : Report) → rest ≡ [] → IsUnderWay here s bytes rest (at_work S J) → S.closed ≡ false → report ≡ told_of S
+pub told_all : (here : Setting) (s : Feeding) (bytes rest : List ℕ) (S : Stream) (J : List Record) (report : Report) → rest ≡ [] → IsUnderWay here s bytes rest (at_work S J) → S.closed ≡ false → report ≡ report_of_stream S
     → IsToldOf (fed here s bytes) (record { report = report; closing = None })
 told_all here s bytes rest S J report none u going is =
     subst (λ (x : Feeding). IsToldOf x (record { report = report; closing = None })) (sym (all_fed here s (at_work S J) bytes rest none u))
@@ -74,24 +74,7 @@ pub same_failure : {X : Type 0} (e d : FeedError) (r : Result X FeedError) → I
 same_failure e d (Ok x) not same = (λ failed. let is : e ≡ d = cc in absurd (not is), λ never. absurd cc)
 same_failure e d (Err x) not same = (λ failed. let is : e ≡ d = cc in ap Err (same ∙ is), λ failed. let is : x ≡ d = cc in ap Err (sym same ∙ is))
 
--- it is said to be the disk's where the piece's is
-pub same_disk : {X : Type 0} (e : FeedError) (r : Result X FeedError) → IfOk r (λ _. e ≢ error.Disk) → IfErr r (λ d. d ≡ e) → says_disk {X = Unit {0}} (Err e) ≡ says_disk r
-same_disk {X = X} e (Ok told) ran same = not_disk e ran where
-  not_disk : (x : FeedError) → x ≢ error.Disk → says_disk {X = Unit {0}} (Err x) ≡ false
-  not_disk error.Disk never = absurd (never refl)
-  not_disk error.Memory never = refl
-  not_disk error.Stopped never = refl
-  not_disk (error.Full what) never = refl
-  not_disk (error.IllFormed at) never = refl
-same_disk {X = X} e (Err d) ran same = ap (λ (x : FeedError). says_disk {X = Unit {0}} (Err x)) (sym same) ∙ alike d where
-  alike : (x : FeedError) → says_disk {X = Unit {0}} (Err x) ≡ says_disk {X = X} (Err x)
-  alike error.Disk = refl
-  alike error.Memory = refl
-  alike error.Stopped = refl
-  alike (error.Full what) = refl
-  alike (error.IllFormed at) = refl
-
 -- the same call, whose answer is named otherwise
 pub renamed_fed : {N X Y : Type 0} (g : Ghosts N) {s : Feeding} {bytes : List ℕ} {was : Result X FeedError} {result : Result Y FeedError} (old new : N)
-    → IsErrOf was error.Stopped ↔ IsErrOf result error.Stopped → IsErrOf was error.Disk ↔ IsErrOf result error.Disk → says_disk was ≡ says_disk result → IsFeedCall g s bytes old new was → IsFeedCall g s bytes old new result
-renamed_fed g old new stopped failed disk call = record { appends = call.appends; brings = call.brings; left = renamed_on g old new call.appends stopped failed disk call.left }
+    → IsErrOf was error.Stopped ↔ IsErrOf result error.Stopped → IsErrOf was error.Disk ↔ IsErrOf result error.Disk → IsFeedCall g s bytes old new was → IsFeedCall g s bytes old new result
+renamed_fed g old new stopped failed call = record { appends = call.appends; brings = call.brings; left = renamed_on g old new call.appends stopped failed call.left }

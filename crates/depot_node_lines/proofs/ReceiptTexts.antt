@@ -10,7 +10,7 @@ use Rattle.depot_model.specs.declared.put_answers.PutError.TheVariants as put
 use Rattle.depot_model.specs.Checks.{Setting}
 use Rattle.depot_model.specs.Receipts.{NoReceipt, no_receipt}
 use Rattle.depot_model.specs.World.{Correct}
-use Rattle.depot_receipts.specs.Giving.{Gives, PutsReceipts}
+use Rattle.depot_receipts.specs.Giving.{GivesReceipts, PutsReceipts}
 use Rattle.depot_receipts.specs.declared.give_error.GiveError.{GiveError}
 use Rattle.depot_receipts.specs.declared.give_error.GiveError.TheVariants as give
 use Rattle.depot_world.specs.Effects.{receipt_by, receipt_with}
@@ -18,8 +18,8 @@ use Rattle.depot_world.specs.ScheduleStops.{Effect}
 use Rattle.depot_world.specs.Transcript.{ended}
 use Rattle.depot_node_lines.specs.Printing.{lines_of_effect}
 use Rattle.depot_node_lines.specs.PutPrinting.{SettlesPut}
-use Rattle.depot_node_lines.specs.ReceiptPrinting.{SettlesGive, outcome_of}
-use Rattle.depot_node_lines.specs.declared.receipts.Outcome.TheVariants.{Put, Unknown, NoValue}
+use Rattle.depot_node_lines.specs.ReceiptPrinting.{SettlesGive, receipts_outcome}
+use Rattle.depot_node_lines.specs.declared.receipts.ReceiptsOutcome.TheVariants.{Put, Unknown, NoValue}
 
 -- what a node does where this speaks against receipts, or nothing does
 pub receipt_is : (here : Setting) (c : Correct) (ids : List (List ℕ)) (why : Option NoReceipt) → no_receipt c.journal ids ≡ why → receipt_by here c ids ≡ receipt_with here c ids why
@@ -39,7 +39,7 @@ unsettled : (a b : Result PutDone PutError) → Put a ≡ Put b → SettlesPut b
 unsettled a b is settles = subst SettlesPut (sym (one_put a b is)) settles
 
 -- the receipts came to what their put did
-pub given_by_put : (here : Setting) (J : List Record) (ids : List (List ℕ)) (done : Result PutDone GiveError) (answer : Result PutDone PutError) (then : List Record) → outcome_of done ≡ Put answer → SettlesGive done → Gives here J ids done then → PutsReceipts here J ids answer then
+pub given_by_put : (here : Setting) (J : List Record) (ids : List (List ℕ)) (done : Result PutDone GiveError) (answer : Result PutDone PutError) (then : List Record) → receipts_outcome done ≡ Put answer → SettlesGive done → GivesReceipts here J ids done then → PutsReceipts here J ids answer then
 given_by_put here J ids (Ok done) answer then is settles gives = as_put here J ids then _ answer is gives
 given_by_put here J ids (Err give.Memory) answer then is settles gives = absurd settles
 given_by_put here J ids (Err give.Disk) answer then is settles gives = as_put here J ids then _ answer is gives
@@ -52,7 +52,7 @@ given_by_put here J ids (Err (give.Collides h)) answer then is settles gives = a
 given_by_put here J ids (Err (give.Full what)) answer then is settles gives = as_put here J ids then _ answer is gives
 
 -- the node was running, and memory was found
-pub settled_by_put : (done : Result PutDone GiveError) (answer : Result PutDone PutError) → outcome_of done ≡ Put answer → SettlesPut answer → SettlesGive done
+pub settled_by_put : (done : Result PutDone GiveError) (answer : Result PutDone PutError) → receipts_outcome done ≡ Put answer → SettlesPut answer → SettlesGive done
 settled_by_put (Ok done) answer is settles = tt
 settled_by_put (Err give.Memory) answer is settles = unsettled _ answer is settles
 settled_by_put (Err give.Disk) answer is settles = tt
@@ -65,7 +65,7 @@ settled_by_put (Err (give.Collides h)) answer is settles = tt
 settled_by_put (Err (give.Full what)) answer is settles = tt
 
 -- the disk failed for both
-pub cut_by_put : (done : Result PutDone GiveError) (answer : Result PutDone PutError) → outcome_of done ≡ Put answer → IsErrOf answer put.Disk ↔ IsErrOf done give.Disk
+pub cut_by_put : (done : Result PutDone GiveError) (answer : Result PutDone PutError) → receipts_outcome done ≡ Put answer → IsErrOf answer put.Disk ↔ IsErrOf done give.Disk
 cut_by_put (Ok done) answer is = (λ e. cc, λ e. cc)
 cut_by_put (Err give.Memory) answer is = (λ e. cc, λ e. cc)
 cut_by_put (Err give.Disk) answer is = (λ e. cc, λ e. cc)
@@ -78,7 +78,7 @@ cut_by_put (Err (give.Collides h)) answer is = (λ e. cc, λ e. cc)
 cut_by_put (Err (give.Full what)) answer is = (λ e. cc, λ e. cc)
 
 -- it was stopped for both
-pub stopped_by_put : (done : Result PutDone GiveError) (answer : Result PutDone PutError) → outcome_of done ≡ Put answer → IsErrOf answer put.Stopped → IsErrOf done give.Stopped
+pub stopped_by_put : (done : Result PutDone GiveError) (answer : Result PutDone PutError) → receipts_outcome done ≡ Put answer → IsErrOf answer put.Stopped → IsErrOf done give.Stopped
 stopped_by_put (Ok done) answer is = λ e. cc
 stopped_by_put (Err give.Memory) answer is = λ e. cc
 stopped_by_put (Err give.Disk) answer is = λ e. cc
@@ -92,7 +92,7 @@ stopped_by_put (Err (give.Full what)) answer is = λ e. cc
 
 -- ---- none was tried
 
-pub gives_unknown : (done : Result PutDone GiveError) → outcome_of done ≡ Unknown → (h : List ℕ) × (done ≡ Err (give.Unknown h))
+pub gives_unknown : (done : Result PutDone GiveError) → receipts_outcome done ≡ Unknown → (h : List ℕ) × (done ≡ Err (give.Unknown h))
 gives_unknown (Ok done) is = absurd cc
 gives_unknown (Err give.Memory) is = absurd cc
 gives_unknown (Err give.Disk) is = absurd cc
@@ -104,7 +104,7 @@ gives_unknown (Err (give.Tips n)) is = absurd cc
 gives_unknown (Err (give.Collides h)) is = absurd cc
 gives_unknown (Err (give.Full what)) is = absurd cc
 
-pub gives_no_value : (done : Result PutDone GiveError) → outcome_of done ≡ NoValue → (h : List ℕ) × (done ≡ Err (give.NoValue h))
+pub gives_no_value : (done : Result PutDone GiveError) → receipts_outcome done ≡ NoValue → (h : List ℕ) × (done ≡ Err (give.NoValue h))
 gives_no_value (Ok done) is = absurd cc
 gives_no_value (Err give.Memory) is = absurd cc
 gives_no_value (Err give.Disk) is = absurd cc

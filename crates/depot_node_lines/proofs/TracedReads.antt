@@ -103,7 +103,7 @@ read_fits r low key few each = ((omega arith, low), ((key.0, key.1), (refl, ((om
 -- all were told
 pub is_read : (here : Setting) (J : List Record) (key items : List ℕ) (count : ℕ) (listed : List Answered) → IsLawful here J → AreLatestIn key (accepted J) (updates_at (accepted J) items) → IsKey key → count ≡ length J → AllByRecursion answered_text.fits listed
     → map answered_of listed ≡ map traces.answered (shown_as J key (updates_at (accepted J) items))
-    → read_text.fits (record { length = count; key = key; answer = listed }) × (read_of (record { length = count; key = key; answer = listed }) ≡ traced_read (effects.read_of J key))
+    → read_text.fits (record { length = count; key = key; answer = listed }) × (read_of (record { length = count; key = key; answer = listed }) ≡ traced_read (effects.read_at_end J key))
 is_read here J key items count listed l latest fits counts each told =
     let us = updates_at (accepted J) items in
     let few = few_latest here J key us l latest in

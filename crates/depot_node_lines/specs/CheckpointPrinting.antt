@@ -9,7 +9,7 @@ use Rattle.depot_model.specs.World.{Correct}
 use Rattle.depot_model.specs.declared.put_answers.PutDone.{PutDone}
 use Rattle.depot_model.specs.declared.put_answers.PutError.{PutError}
 use Rattle.depot_model.specs.declared.put_answers.PutError.TheVariants as put
-use Rattle.depot_trim.specs.Signing.{Signs}
+use Rattle.depot_trim.specs.Signing.{SignsCheckpoint}
 use Rattle.depot_trim.specs.declared.make_error.MakeError.{MakeError}
 use Rattle.depot_trim.specs.declared.make_error.MakeError.TheVariants as make
 use Rattle.depot_trim.specs.declared.sign_error.CheckpointError.{CheckpointError}
@@ -72,7 +72,7 @@ sign_outcome (Err (sign.Full what)) = Put (Err (put.Full what))
 
 -- Whichever correct node answers so where it is to sign a text, this is what is printed of that.
 abbrev pub PrintsSigning : Result PutDone CheckpointError → Option Printed → Type 0
-PrintsSigning done printed = (here : Setting) (c : Correct) (text : List ℕ) (then : List Record) → here.me ≡ c.node → Signs here c.journal text done then
+PrintsSigning done printed = (here : Setting) (c : Correct) (text : List ℕ) (then : List Record) → here.me ≡ c.node → SignsCheckpoint here c.journal text done then
     → IsPrintOf printed (sign_by here c text)
 
 -- why a text isn't opened

@@ -35,13 +35,13 @@ pub record AreCountedWithin (n : ℕ) (t : ReaderFeedResult) : Type 0 where
   pub below : t.counts.below ≤ n
 
 -- what is told where one frame more is answered so
-abbrev pub counted : Result Taken TrimTake → ReaderFeedResult → ReaderFeedResult
-counted (Ok New) t = record t { counts = record t.counts { accepted = t.counts.accepted + 1 } }
-counted (Ok Known) t = record t { counts = record t.counts { known = t.counts.known + 1 } }
-counted (Err (failed.Refused c)) t = record t { counts = record t.counts { refused = t.counts.refused + 1 } }
-counted (Err (failed.BelowCheckpoint id)) t = record t { counts = record t.counts { below = t.counts.below + 1 } }
-counted (Err (failed.Full what)) t = record t { full = Some what }
-counted (Err failed.Memory) t = t
+abbrev pub after_frame : Result Taken TrimTake → ReaderFeedResult → ReaderFeedResult
+after_frame (Ok New) t = record t { counts = record t.counts { accepted = t.counts.accepted + 1 } }
+after_frame (Ok Known) t = record t { counts = record t.counts { known = t.counts.known + 1 } }
+after_frame (Err (failed.Refused c)) t = record t { counts = record t.counts { refused = t.counts.refused + 1 } }
+after_frame (Err (failed.BelowCheckpoint id)) t = record t { counts = record t.counts { below = t.counts.below + 1 } }
+after_frame (Err (failed.Full what)) t = record t { full = Some what }
+after_frame (Err failed.Memory) t = t
 
 -- the frames behind it are taken too
 abbrev pub goes_on : Result Taken TrimTake → Bool

@@ -12,7 +12,7 @@ ghost use Rattle.depot_trim.specs.ReaderView.{IsReaderOf};
 ghost use Rattle.depot_trim.specs.ReaderAnswers.{ReaderTakes};
 ghost use Rattle.depot_trim.specs.declared.trim_error.TrimTake.TheVariants as failed;
 ghost use Rattle.depot_world.specs.Transcript.{answer_of_reader, ended};
-ghost use Rattle.depot_node_lines.specs.ReaderPrinting.{AreCountedWithin, IsReaderFed, IsReaderTold, counted, goes_on};
+ghost use Rattle.depot_node_lines.specs.ReaderPrinting.{AreCountedWithin, IsReaderFed, IsReaderTold, after_frame, goes_on};
 
 use crate::reads::{add_write, held};
 use depot_answers::{ReaderCounts, Seen, reader_feed};
@@ -53,7 +53,7 @@ impl ReaderFeedResult {
     /// Counts a frame by its answer, and tells whether those behind it are taken too.
     fn count(&mut self, answer: Result<Taken, TrimTake>) -> Result<bool, Memory>
         requires few { AreCountedWithin MOST_FRAMES self.old }
-        ensures counted { IfOk result (λ on. (self.new ≡ counted answer self.old) × (on ≡ goes_on answer)) }
+        ensures counted { IfOk result (λ on. (self.new ≡ after_frame answer self.old) × (on ≡ goes_on answer)) }
         ensures settled { IfOk result (λ _. answer ≢ Err failed.Memory) }
         ensures short { IfErr result (λ _. answer ≡ Err failed.Memory) }
     {
@@ -92,19 +92,21 @@ fn payload_at(stream: &[u8], at: usize, end: usize) -> &[u8]
     &stream[at + 5..end]
 }
 
-/// Gives a reader the payload of a frame: a proof, a signed statement, or else a value.
+/// Gives a reader the payload of a frame that isn't End: a proof, a signed statement or a value.
 fn take_frame<S: Scheme>(
     reader: &mut Trimmed<S>,
     tag: FrameTag,
     payload: &[u8],
 ) -> Result<Taken, TrimTake>
-    requires { (R : Reader) × IsReaderOf S.verifies R reader.old }
+    requires reader { (R : Reader) × IsReaderOf S.verifies R reader.old }
+    requires tag { tag ≢ FrameTag.End }
     ensures { (R : Reader) → IsReaderOf S.verifies R reader.old → ReaderTakes S.verifies R (form_of (frame_byte tag)) payload.now result reader.new }
 {
     match tag {
         FrameTag::Proof => reader.take_proof(payload),
         FrameTag::Statement => reader.take_statement(payload),
-        FrameTag::Value | FrameTag::End => reader.take_value(payload),
+        FrameTag::Value => reader.take_value(payload),
+        FrameTag::End => unreachable!(),
     }
 }
 

@@ -3,7 +3,7 @@ ghost use Rattle.std.specs.Prelude.{◌≡◌, ◌↔◌, ℕ, false, None, Err,
 ghost use Rattle.depot_model.specs.Receipts.{receipts, unknown, lacks_value};
 ghost use Rattle.depot_answers.specs.AnswerTexts.{name_of_settled, spaced, text_of_no_receipt};
 ghost use Rattle.depot_world.specs.Transcript.{ended};
-ghost use Rattle.depot_node_lines.specs.ReceiptPrinting.{PrintsReceipts, SettlesGive, outcome_of};
+ghost use Rattle.depot_node_lines.specs.ReceiptPrinting.{PrintsReceipts, SettlesGive, receipts_outcome};
 
 use crate::printed::Printed;
 use crate::puts::put_printed;
@@ -15,7 +15,7 @@ use depot_receipts::{Book, GiveError};
 use std::alloc::Global;
 
 /// What giving receipts came to.
-enum Outcome {
+enum ReceiptsOutcome {
     /// Their put was tried, and answered this.
     Put(Result<PutDone, PutError>),
     /// An id isn't that of an accepted update.
@@ -25,29 +25,29 @@ enum Outcome {
 }
 
 /// What giving receipts came to, by their answer.
-fn outcome_of(done: Result<PutDone, GiveError>) -> Outcome
-    ensures { result ≡ outcome_of done }
+fn outcome_of(done: Result<PutDone, GiveError>) -> ReceiptsOutcome
+    ensures { result ≡ receipts_outcome done }
 {
     match done {
-        Ok(done) => Outcome::Put(Ok(done)),
+        Ok(done) => ReceiptsOutcome::Put(Ok(done)),
         Err(error) => refused(error),
     }
 }
 
 /// The same of a refusal.
-fn refused(error: GiveError) -> Outcome
-    ensures { result ≡ outcome_of (Err error) }
+fn refused(error: GiveError) -> ReceiptsOutcome
+    ensures { result ≡ receipts_outcome (Err error) }
 {
     match error {
-        GiveError::Unknown(_) => Outcome::Unknown,
-        GiveError::NoValue(_) => Outcome::NoValue,
-        GiveError::Memory => Outcome::Put(Err(PutError::Memory)),
-        GiveError::Disk => Outcome::Put(Err(PutError::Disk)),
-        GiveError::Stopped => Outcome::Put(Err(PutError::Stopped)),
-        GiveError::Spent(count) => Outcome::Put(Err(PutError::Spent(count))),
-        GiveError::Tips(count) => Outcome::Put(Err(PutError::Tips(count))),
-        GiveError::Collides(id) => Outcome::Put(Err(PutError::Collides(id))),
-        GiveError::Full(what) => Outcome::Put(Err(PutError::Full(what))),
+        GiveError::Unknown(_) => ReceiptsOutcome::Unknown,
+        GiveError::NoValue(_) => ReceiptsOutcome::NoValue,
+        GiveError::Memory => ReceiptsOutcome::Put(Err(PutError::Memory)),
+        GiveError::Disk => ReceiptsOutcome::Put(Err(PutError::Disk)),
+        GiveError::Stopped => ReceiptsOutcome::Put(Err(PutError::Stopped)),
+        GiveError::Spent(count) => ReceiptsOutcome::Put(Err(PutError::Spent(count))),
+        GiveError::Tips(count) => ReceiptsOutcome::Put(Err(PutError::Tips(count))),
+        GiveError::Collides(id) => ReceiptsOutcome::Put(Err(PutError::Collides(id))),
+        GiveError::Full(what) => ReceiptsOutcome::Put(Err(PutError::Full(what))),
     }
 }
 
@@ -82,12 +82,12 @@ pub fn receipt_printed(
     ensures printed { IfOk result (λ printed. PrintsReceipts done printed) }
 {
     match outcome_of(done) {
-        Outcome::Put(put) => put_printed(alloc, put),
-        Outcome::Unknown => Ok(Some(Printed {
+        ReceiptsOutcome::Put(put) => put_printed(alloc, put),
+        ReceiptsOutcome::Unknown => Ok(Some(Printed {
             lines: unknown_line(alloc)?,
             bytes: Bytes::new(alloc),
         })),
-        Outcome::NoValue => Ok(Some(Printed {
+        ReceiptsOutcome::NoValue => Ok(Some(Printed {
             lines: no_value_line(alloc)?,
             bytes: Bytes::new(alloc),
         })),

@@ -12,7 +12,7 @@ ghost use Rattle.depot_traces.specs.SeenTraces as seen_traces;
 ghost use Rattle.depot_traces.specs.TraceTexts.{read_text};
 ghost use Rattle.depot_traces.specs.declared.trace.TheConstants.{MOST_READS};
 ghost use Rattle.depot_world.specs.Audits.{traced_read};
-ghost use Rattle.depot_world.specs.Effects.{read_of};
+ghost use Rattle.depot_world.specs.Effects.{read_at_end};
 ghost use Rattle.depot_world.specs.Transcript.{ended};
 ghost use Rattle.depot_node_lines.specs.TracePrinting.{IsTraceOf, IsTracedWrite};
 
@@ -55,7 +55,7 @@ fn answered<N: LocalNode>(alloc: Global, node: &N, item: u32, key: &Key) -> Resu
 /// values are copied.
 pub fn read_traced<N: LocalNode>(alloc: Global, node: &N, key: &Key) -> Result<ReadTrace, Memory>
     requires { N.stopped node.now ≡ false }
-    ensures { IfOk result (λ r. read_text.fits r × (seen_traces.read_of r ≡ traced_read (read_of (N.records node.now) key.now))) }
+    ensures { IfOk result (λ r. read_text.fits r × (seen_traces.read_of r ≡ traced_read (read_at_end (N.records node.now) key.now))) }
 {
     let mut answer = Listing::new(alloc);
     for item in node.graph().latest(key) {

@@ -1,6 +1,6 @@
 -- What a stop leaves is an image, also with FF in place of what was written.
 use Rattle.std.proofs.Common.{◌≡◌, ◌≤◌, ℕ, zero, suc, ◌+◌, ◌-◌, List, [], ◌∷◌, ◌++◌, length, take, drop, replicate, refl, sym, ◌∙◌, ap, subst, arith}
-use Rattle.depot_base.specs.Disk.{Follows, IsTorn, Within}
+use Rattle.depot_base.specs.Disk.{ImagesFollow, IsTorn, Within}
 use Rattle.depot_outside.specs.Images.{LeadTo, Moment, Moments, Written, after_sync, images_at, images_of, reads_as, written_at}
 use Rattle.depot_outside.specs.StopImages.{Range, blank, blanked, left_by, overwritten, ranges}
 use Rattle.depot_outside.proofs.Written.{written_is_torn}
@@ -114,7 +114,7 @@ stop_within left old new file now lead is moments = λ image here.
     subst (images_at old.now) (sym (same_image new old now image moments here ∙ is)) (left_is_image left old.now file lead)
 
 pub stop_follows : (left : Image) (old new : Moments) (file now bytes : List ℕ) (at : ℕ) → at ≤ length file → LeadTo old.now.synced old.now.writes file
-    → now ≡ left_by left (written_at old.now file at (length bytes)) (overwritten file at bytes) → new ≡ after_sync old now → Follows (IsTorn at (length bytes)) (images_at old.now) (images_at new.now)
+    → now ≡ left_by left (written_at old.now file at (length bytes)) (overwritten file at bytes) → new ≡ after_sync old now → ImagesFollow (IsTorn at (length bytes)) (images_at old.now) (images_at new.now)
 stop_follows left old new file now bytes at inside lead is moments = λ image here.
     let torn = written_is_torn file (overwritten file at bytes) bytes at inside refl in
     let moment : Moment = written_at old.now file at (length bytes) in

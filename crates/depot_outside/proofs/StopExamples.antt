@@ -2,7 +2,7 @@
 use Rattle.std.proofs.Common.{◌≡◌, ℕ, ◌∷◌, [], get_or, true, false, refl, subst, Some, None, arith}
 use Rattle.depot_base.specs.Calls.{syncs, writes_at}
 use Rattle.depot_outside.specs.Images.{Moment, synced_as, written_at}
-use Rattle.depot_outside.specs.StopImages.{counted_down, due, left_by, overwritten}
+use Rattle.depot_outside.specs.StopImages.{counted_down, image_due, left_by, overwritten}
 use Rattle.depot_outside.specs.Stopping.{IsOutcome, State, after_call, done_before_stop, done_by, fresh}
 use Rattle.depot_outside.specs.declared.stops.Image.TheVariants as image
 
@@ -30,10 +30,10 @@ unfolding one_write
 not_all_blank e = cc
 
 -- a stop in the second call from here isn't due yet, and is in the next
-not_yet : due (Some (record { call = 2; image = image.Written })) ≡ None
+not_yet : image_due (Some (record { call = 2; image = image.Written })) ≡ None
 not_yet = refl
 
-then_due : due (counted_down (Some (record { call = 2; image = image.Written }))) ≡ Some image.Written
+then_due : image_due (counted_down (Some (record { call = 2; image = image.Written }))) ≡ Some image.Written
 then_due = refl
 
 -- ---- calls, of which the second fails

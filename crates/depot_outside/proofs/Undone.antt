@@ -7,7 +7,7 @@ use Rattle.depot_base.specs.Disk.{IsWritten}
 use Rattle.std.proofs.Math.Seq.{take-append_seam}
 use Rattle.depot_outside.specs.Images.{LeadTo, Moment, Written}
 use Rattle.depot_outside.specs.StopImages.{Range, blanked, left_by, ranges}
-use Rattle.depot_outside.specs.Undo.{AreInside, AreLogged, CanUndo, Fits, before, left_of, undone, written}
+use Rattle.depot_outside.specs.Undo.{AreInside, AreLogged, CanUndo, Fits, file_before, file_left, undone, written}
 use Rattle.depot_outside.proofs.Written.{written_is_torn}
 use Rattle.depot_outside.specs.declared.stops.Image.{Image}
 use Rattle.depot_outside.specs.declared.stops.Image.TheVariants as image
@@ -20,7 +20,7 @@ pushed old new x is = ap reverse is ∙ reverse-append old (x ∷ [])
 -- ---- what the log has
 
 -- no write leaves a shorter file
-before_long : (r : Replaced) (bytes file : List ℕ) → Fits r bytes file → length (before r bytes file) ≡ r.long
+before_long : (r : Replaced) (bytes file : List ℕ) → Fits r bytes file → length (file_before r bytes file) ≡ r.long
 before_long r bytes file fits = grind (arith, common_steps, fits.start, fits.long, fits.inside)
 
 wider : (n m : ℕ) (rs : List Range) → n ≤ m → AreInside n rs → AreInside m rs
@@ -30,7 +30,7 @@ wider n m (r ∷ rs) h inside = (omega (arith, h, inside.0), wider n m rs h insi
 pub all_inside : (log : List Replaced) (bytes file : List ℕ) → CanUndo log bytes file → AreInside (length file) (written log)
 all_inside [] bytes file can = tt
 all_inside (r ∷ log) bytes file can =
-    (can.0.reach, wider (length (before r bytes file)) (length file) (written log) (omega (arith, before_long r bytes file can.0, can.0.long)) (all_inside log (take r.start bytes) (before r bytes file) can.1))
+    (can.0.reach, wider (length (file_before r bytes file)) (length file) (written log) (omega (arith, before_long r bytes file can.0, can.0.long)) (all_inside log (take r.start bytes) (file_before r bytes file) can.1))
 
 pub can_undo : (writes : List Written) (log : List Replaced) (bytes file : List ℕ) → AreLogged writes log bytes file → CanUndo log bytes file
 can_undo [] [] bytes file all = tt
@@ -58,7 +58,7 @@ written_all (w ∷ writes) (r ∷ log) bytes file all =
     let same : record_range r.at r.count ≡ record_range w.at w.count = ap (λ (n : ℕ). record_range n r.count) all.0.at ∙ ap (record_range w.at) all.0.count in
     ap (λ (one : Range). one ∷ written log) same ∙ ap (λ (l : List Range). record_range w.at w.count ∷ l) rest
 
-pub left_is : (left : Image) (moment : Moment) (log : List Replaced) (bytes file : List ℕ) → LeadTo moment.synced moment.writes file → AreLogged moment.writes log bytes file → left_of left log bytes file ≡ left_by left moment file
+pub left_is : (left : Image) (moment : Moment) (log : List Replaced) (bytes file : List ℕ) → LeadTo moment.synced moment.writes file → AreLogged moment.writes log bytes file → file_left left log bytes file ≡ left_by left moment file
 left_is image.Synced moment log bytes file lead all = undone_all moment.synced moment.writes log bytes file lead all
 left_is image.Written moment log bytes file lead all = refl
 left_is image.Blanked moment log bytes file lead all = ap (λ (rs : List Range). blanked rs file) (written_all moment.writes log bytes file all)
@@ -122,7 +122,7 @@ fits_written old new piece kept at inside put = record {
 pub logged_more : (writes : List Written) (log : List Replaced) (old new piece kept : List ℕ) (at : ℕ) → at ≤ length old → IsWritten old at piece new → AreLogged writes log kept old
     → AreLogged (record { at = at; count = length piece; file = old } ∷ writes) (replaced at piece old kept ∷ log) (kept ++ take (length piece) (drop at old)) new
 logged_more writes log old new piece kept at inside put all =
-    let back : before (replaced at piece old kept) (kept ++ take (length piece) (drop at old)) new ≡ old =
+    let back : file_before (replaced at piece old kept) (kept ++ take (length piece) (drop at old)) new ≡ old =
     ap (λ (l : List ℕ). take at new ++ l ++ drop (at + length l) (take (length old) new)) (kept_rest kept (take (length piece) (drop at old))) ∙ before_written old new piece at inside put in (
       record { fits = fits_written old new piece kept at inside put; at = refl; count = refl; is_before = back },
       subst (λ (l : List ℕ). AreLogged writes log l old) (sym (take-append_seam kept (take (length piece) (drop at old)))) all,

@@ -8,10 +8,10 @@ use Rattle.depot_outside.specs.declared.stops.Turn.{Turn}
 use Rattle.depot_outside.specs.declared.stops.Turn.TheVariants as turn
 
 -- the image of a number
-abbrev pub numbered : ℕ → Image
-numbered zero = image.Synced
-numbered (suc zero) = image.Written
-numbered (suc (suc n)) = image.Blanked
+abbrev pub image_of_number : ℕ → Image
+image_of_number zero = image.Synced
+image_of_number (suc zero) = image.Written
+image_of_number (suc (suc n)) = image.Blanked
 
 -- The stop that is to come, before the next call and after it. The one of the call 1 comes in it.
 abbrev pub counted_down : Option Stop → Option Stop
@@ -19,9 +19,9 @@ counted_down None = None
 counted_down (Some stop) = if nat_le stop.call 1 then None else Some (record { call = stop.call - 1; image = stop.image })
 
 -- what the stop leaves that comes in the next call
-abbrev pub due : Option Stop → Option Image
-due None = None
-due (Some stop) = if nat_le stop.call 1 then Some stop.image else None
+abbrev pub image_due : Option Stop → Option Image
+image_due None = None
+image_due (Some stop) = if nat_le stop.call 1 then Some stop.image else None
 
 -- The disk stops in a call exactly where a stop is due.
 abbrev pub IsTurn : Option Image → Turn → Type 0

@@ -3,7 +3,7 @@ use Rattle.std.proofs.Common.{subst}
 use Rattle.std.specs.Prelude.{◌≡◌, ◌↔◌, ℕ, ◌+◌, ◌-◌, ◌^◌, min, List, [], ◌∷◌, ◌++◌, length, Bool, true, Option, None, Some, Contains, if◌then◌else◌}
 use Rattle.depot_base.specs.Calls.{Call, Made, asks_length, reads_at, writes_at, syncs}
 use Rattle.depot_outside.specs.Images.{Moment, synced_as, written_at}
-use Rattle.depot_outside.specs.StopImages.{counted_down, due, left_by, overwritten}
+use Rattle.depot_outside.specs.StopImages.{counted_down, image_due, left_by, overwritten}
 use Rattle.depot_outside.specs.declared.mem_disk.MemDisk.{MemDisk}
 use Rattle.depot_outside.specs.declared.stops.Image.{Image}
 use Rattle.depot_outside.specs.declared.stops.Stop.{Stop}
@@ -41,29 +41,29 @@ abbrev pub left_as : Image → State → State
 left_as image s = record s { file = left_by image s.unsynced s.file; unsynced = synced_as (left_by image s.unsynced s.file) }
 
 -- one call more was made, and the stop is a call nearer
-abbrev pub counted : State → State
-counted s = record s { next = counted_down s.next; made = min (s.made + 1) (2 ^ 64 - 1) }
+abbrev pub one_call_later : State → State
+one_call_later s = record s { next = counted_down s.next; made = min (s.made + 1) (2 ^ 64 - 1) }
 
 -- The state after a call: an image, where the disk stopped in it; the same, where it failed otherwise.
 unfoldable pub after_call : State → Made → State
-after_call s m = elim (due s.next) [
-  | Some image ↦ counted (left_as image (done_before_stop m.call s))
-  | None ↦ counted (if m.failed then s else done_by m.call s)
+after_call s m = elim (image_due s.next) [
+  | Some image ↦ one_call_later (left_as image (done_before_stop m.call s))
+  | None ↦ one_call_later (if m.failed then s else done_by m.call s)
 ]
 
 -- A call fails exactly where the disk stops in it, or where it is among those that fail.
 unfoldable pub IsOutcome : State → Bool → Type 0
-IsOutcome s failed = elim (due s.next) [
+IsOutcome s failed = elim (image_due s.next) [
   | Some image ↦ failed ≡ true
-  | None ↦ (failed ≡ true) ↔ Contains s.fails (counted s).made
+  | None ↦ (failed ≡ true) ↔ Contains s.fails (one_call_later s).made
 ]
 
 -- these calls lead from one state to another
-abbrev pub Leads : State → List Made → State → Type 0
-Leads s [] t = t ≡ s
-Leads s (m ∷ ms) t = IsOutcome s m.failed × Leads (after_call s m) ms t
+abbrev pub CallsLead : State → List Made → State → Type 0
+CallsLead s [] t = t ≡ s
+CallsLead s (m ∷ ms) t = IsOutcome s m.failed × CallsLead (after_call s m) ms t
 
 -- calls may follow one another
-pub leads_more : (s t u : State) (calls more : List Made) → Leads s calls t → Leads t more u → Leads s (calls ++ more) u
-leads_more s t u [] more first second = subst (λ (x : State). Leads x more u) first second
+pub leads_more : (s t u : State) (calls more : List Made) → CallsLead s calls t → CallsLead t more u → CallsLead s (calls ++ more) u
+leads_more s t u [] more first second = subst (λ (x : State). CallsLead x more u) first second
 leads_more s t u (m ∷ ms) more first second = (first.0, leads_more (after_call s m) t u ms more first.1 second)

@@ -20,13 +20,13 @@ abbrev pub spare_writes : UndoLog → ℕ
 spare_writes log = vec_capacity log.writes - vec_len log.writes
 
 -- the file before a write: what the write replaced is put back, and what it added is cut off
-abbrev pub before : Replaced → List ℕ → List ℕ → List ℕ
-before r bytes file = take r.at file ++ drop r.start bytes ++ drop (r.at + length (drop r.start bytes)) (take r.long file)
+abbrev pub file_before : Replaced → List ℕ → List ℕ → List ℕ
+file_before r bytes file = take r.at file ++ drop r.start bytes ++ drop (r.at + length (drop r.start bytes)) (take r.long file)
 
 -- the file before these writes, the newest first
 abbrev pub undone : List Replaced → List ℕ → List ℕ → List ℕ
 undone [] bytes file = file
-undone (r ∷ log) bytes file = undone log (take r.start bytes) (before r bytes file)
+undone (r ∷ log) bytes file = undone log (take r.start bytes) (file_before r bytes file)
 
 -- the range that was written, and that of the bytes to put back, stand in the file
 pub record Fits (r : Replaced) (bytes file : List ℕ) : Type 0 where
@@ -38,14 +38,14 @@ pub record Fits (r : Replaced) (bytes file : List ℕ) : Type 0 where
 -- these writes, the newest first, can be taken back
 abbrev pub CanUndo : List Replaced → List ℕ → List ℕ → Type 0
 CanUndo [] bytes file = Unit {0}
-CanUndo (r ∷ log) bytes file = Fits r bytes file × CanUndo log (take r.start bytes) (before r bytes file)
+CanUndo (r ∷ log) bytes file = Fits r bytes file × CanUndo log (take r.start bytes) (file_before r bytes file)
 
 -- a write of a moment is this one of the log
 pub record IsLogged (w : Written) (r : Replaced) (bytes file : List ℕ) : Type 0 where
   pub fits : Fits r bytes file
   pub at : r.at ≡ w.at
   pub count : r.count ≡ w.count
-  pub is_before : before r bytes file ≡ w.file
+  pub is_before : file_before r bytes file ≡ w.file
 
 -- the log has the writes of a moment, the newest first
 abbrev pub AreLogged : List Written → List Replaced → List ℕ → List ℕ → Type 0
@@ -70,7 +70,7 @@ AreInside long [] = Unit {0}
 AreInside long (range ∷ ranges) = (range.at + range.count ≤ long) × AreInside long ranges
 
 -- what a stop leaves of a file with this log
-abbrev pub left_of : Image → List Replaced → List ℕ → List ℕ → List ℕ
-left_of image.Synced log bytes file = undone log bytes file
-left_of image.Written log bytes file = file
-left_of image.Blanked log bytes file = blanked (written log) file
+abbrev pub file_left : Image → List Replaced → List ℕ → List ℕ → List ℕ
+file_left image.Synced log bytes file = undone log bytes file
+file_left image.Written log bytes file = file
+file_left image.Blanked log bytes file = blanked (written log) file

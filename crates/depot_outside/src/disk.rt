@@ -1,7 +1,7 @@
 //! One file, as a journal sees it.
 ghost use Rattle.std.specs.Prelude.{◌≡◌, ◌+◌, ◌++◌, ◌∷◌, [], ◌≤◌, ℕ, List, Bool, IsTrue, IfOk, OnOk, IsErr, is_err, length, slice_range};
 ghost use Rattle.depot_base.specs.Calls.{Made, asks_length, reads_at, writes_at, syncs};
-ghost use Rattle.depot_base.specs.Disk.{Elapses, Follows, IsTorn, IsWritten, Only, Within};
+ghost use Rattle.depot_base.specs.Disk.{Elapses, ImagesFollow, IsTorn, IsWritten, Only, Within};
 ghost use Rattle.depot_base.specs.Faults.{HasCause};
 
 use crate::Failed;
@@ -109,7 +109,7 @@ pub trait Disk {
         requires room { length bytes.now ≤ room_bytes self.old }
         requires calls { 1 ≤ room_calls self.old }
         ensures written { OnOk result (IsTrue (tells self.old) → IsWritten (seen self.old) at bytes.now (seen self.new)) }
-        ensures images { Follows (IsTorn at (length bytes.now)) (may_leave self.old) (may_leave self.new) }
+        ensures images { ImagesFollow (IsTorn at (length bytes.now)) (may_leave self.old) (may_leave self.new) }
         ensures time { Elapses (moment self.old) (moment self.new) (left_since self.old) (left_since self.new) (may_leave self.new) }
         ensures made { after self.old (record { call = writes_at at bytes.now; failed = is_err result } ∷ []) self.new }
         ensures handle { handle self.new ≡ handle self.old }

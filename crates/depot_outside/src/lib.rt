@@ -6,7 +6,6 @@
 //!
 //! - A fake tells its content. Its calls are numbered from 1, and those of the numbers given to `new` fail.
 //! - A real adapter tells nothing of content: what the system does with the bytes is no fact of a proof.
-//! - `Nowhere` is a disk that keeps nothing, for a journal in memory alone.
 //! - Each object has a count of its faults, which contracts alone see. It never falls, and a call answers `Failed` only
 //!   where it rose in that call. So a caller that hands a fault on can say whose it is.
 //!
@@ -22,7 +21,6 @@ mod mem_file;
 mod mem_shelf;
 mod mem_sink;
 mod name_list;
-mod nowhere;
 mod outside_error;
 mod real_disk;
 mod real_shelf;
@@ -38,11 +36,10 @@ pub use disk::{Back, Disk};
 pub use mem_disk::MemDisk;
 pub use mem_shelf::MemShelf;
 pub use mem_sink::MemSink;
-pub use nowhere::Nowhere;
 pub use outside_error::{Failed, OutError};
 pub use real_disk::RealDisk;
 pub use real_shelf::RealShelf;
 pub use real_sink::RealSink;
 pub use shelf::Shelf;
 pub use sink::Sink;
-pub use spare_room::reserve_tightly;
+pub use spare_room::{reserve_tightly, spare_beside};

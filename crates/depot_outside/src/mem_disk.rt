@@ -4,8 +4,8 @@ ghost use Rattle.depot_base.specs.Calls.{asks_length};
 ghost use Rattle.depot_base.specs.Disk.{Only, Within};
 ghost use Rattle.depot_base.specs.Faults.{HasCause};
 ghost use Rattle.depot_outside.specs.Images.{counts, images_at, left_from, only, reads_as};
-ghost use Rattle.depot_outside.specs.Stopping.{IsOutcome, Leads, after_call, fresh, leads_more, state_of};
-ghost use Rattle.depot_outside.specs.StopImages.{numbered};
+ghost use Rattle.depot_outside.specs.Stopping.{IsOutcome, CallsLead, after_call, fresh, leads_more, state_of};
+ghost use Rattle.depot_outside.specs.StopImages.{image_of_number};
 ghost use Rattle.depot_outside.specs.Told.{TimePasses};
 ghost use Rattle.depot_outside.specs.Undo.{spare_bytes, spare_writes};
 
@@ -54,7 +54,7 @@ impl MemDisk {
     pub fn stop_at(&mut self, call: u32, image: u8)
         requires call { 1 ≤ call }
         requires image { image ≤ 2 }
-        ensures state { state_of self.new ≡ record (state_of self.old) { next = Some (record { call = call; image = numbered image }) } }
+        ensures state { state_of self.new ≡ record (state_of self.old) { next = Some (record { call = call; image = image_of_number image }) } }
         ensures images { Within (⟦<MemDisk as Disk>⟧.may_leave self.old) (⟦<MemDisk as Disk>⟧.may_leave self.new) }
         ensures time { TimePasses ⟦<MemDisk as Disk>⟧ self.old self.new }
         ensures faults { ⟦<MemDisk as Disk>⟧.faults self.new ≡ ⟦<MemDisk as Disk>⟧.faults self.old }
@@ -108,7 +108,7 @@ impl Disk for MemDisk {
 
     ghost is_faultless = { λ d. (d.calls.calls.fails ≡ []) × (d.calls.next ≡ None) };
 
-    ghost after = { λ d calls e. Leads (state_of d) calls (state_of e) };
+    ghost after = { λ d calls e. CallsLead (state_of d) calls (state_of e) };
 
     ghost room_bytes = { λ d. spare_bytes d.file.bytes d.file.log };
 

@@ -1,7 +1,7 @@
 //! Where a run writes.
 ghost use Rattle.std.specs.Prelude.{◌≡◌, ℕ, List, Bool, IsTrue, IsErrOf};
 ghost use Rattle.depot_base.specs.Faults.{HasCause};
-ghost use Rattle.depot_outside.specs.Outside.{Writes};
+ghost use Rattle.depot_outside.specs.Outside.{WritesPiece};
 
 use crate::OutError;
 
@@ -21,7 +21,7 @@ pub trait Sink {
 
     /// Adds bytes at the end: after Failed a front of them is there, and after Memory none.
     fn write(&mut self, bytes: &[u8]) -> Result<(), OutError>
-        ensures written { IsTrue (tells self.old) → Writes (written self.old) (written self.new) bytes.now result }
+        ensures written { IsTrue (tells self.old) → WritesPiece (written self.old) (written self.new) bytes.now result }
         ensures tells { tells self.new ≡ tells self.old }
         ensures cause { HasCause (faults self.old) (faults self.new) (IsErrOf result OutError.Failed) }
         ensures faultless { is_faultless self.old → is_faultless self.new × (faults self.new ≡ faults self.old) };

@@ -1,6 +1,6 @@
 //! The calls of a disk in memory, in one of which it may stop.
 ghost use Rattle.std.specs.Prelude.{◌≡◌, ◌≤◌, ◌+◌, ◌-◌, ◌^◌, ◌↔◌, min, [], None, Contains};
-ghost use Rattle.depot_outside.specs.StopImages.{IsTurn, counted_down, due, faults_in, numbered};
+ghost use Rattle.depot_outside.specs.StopImages.{IsTurn, counted_down, image_due, faults_in, image_of_number};
 
 use crate::Failed;
 use crate::calls::Calls;
@@ -21,7 +21,7 @@ impl Image {
     /// The image of a number, 0, 1 or 2.
     pub fn numbered(number: u8) -> Image
         requires { number ≤ 2 }
-        ensures { result ≡ numbered number }
+        ensures { result ≡ image_of_number number }
     {
         match number {
             0 => Image::Synced,
@@ -72,7 +72,7 @@ impl DiskCalls {
 
     /// What the stop leaves that comes in the call that begins. Any other is a call nearer then.
     fn count_down(&mut self) -> Option<Image>
-        ensures due { result ≡ due self.old.next }
+        ensures due { result ≡ image_due self.old.next }
         ensures next { self.new.next ≡ counted_down self.old.next }
         ensures calls { self.new.calls ≡ self.old.calls }
     {
@@ -92,10 +92,10 @@ impl DiskCalls {
 
     /// Begins the next call. Where the disk stops in it, it does so whatever the call's number is.
     pub fn begin(&mut self) -> Turn
-        ensures turn { IsTurn (due self.old.next) result }
+        ensures turn { IsTurn (image_due self.old.next) result }
         ensures next { self.new.next ≡ counted_down self.old.next }
         ensures made { self.new.calls.made ≡ min (self.old.calls.made + 1) (2 ^ 64 - 1) }
-        ensures failing { (result ≡ Turn.Fails) ↔ ((due self.old.next ≡ None) × Contains self.old.calls.fails self.new.calls.made) }
+        ensures failing { (result ≡ Turn.Fails) ↔ ((image_due self.old.next ≡ None) × Contains self.old.calls.fails self.new.calls.made) }
         ensures fails { self.new.calls.fails ≡ self.old.calls.fails }
         ensures faults { self.new.calls.faults.number ≡ self.old.calls.faults.number + faults_in result }
         ensures faultless { self.old.calls.fails ≡ [] → self.old.next ≡ None → result ≡ Turn.Made }

@@ -1,7 +1,7 @@
 //! What the writes since the last sync replaced.
 ghost use Rattle.std.specs.Prelude.{◌≡◌, ◌≤◌, ◌<◌, ◌++◌, ◌+◌, ◌-◌, ◌∷◌, [], OnOk, length, replicate, reverse, take, drop, vec_len, vec_capacity};
 ghost use Rattle.depot_outside.specs.StopImages.{blank, blanked};
-ghost use Rattle.depot_outside.specs.Undo.{AreInside, CanUndo, before, left_of, undone, written};
+ghost use Rattle.depot_outside.specs.Undo.{AreInside, CanUndo, file_before, file_left, undone, written};
 
 use crate::stops::Image;
 use depot_base::Memory;
@@ -29,7 +29,7 @@ fn put_back(write: Replaced, bytes: &[u8], file: &mut Vec<u8>)
     requires start { write.start ≤ length bytes.now }
     requires long { write.long ≤ vec_len file.old }
     requires inside { write.at + (length bytes.now - write.start) ≤ write.long }
-    ensures before { file.new.items ≡ before write bytes.now file.old.items }
+    ensures before { file.new.items ≡ file_before write bytes.now file.old.items }
     ensures shorter { vec_len file.new ≤ vec_len file.old }
     ensures capacity { vec_capacity file.new ≡ vec_capacity file.old }
 {
@@ -145,7 +145,7 @@ impl UndoLog {
     #[tactic(auto, using(crate::proofs::Undone::all_inside))]
     pub fn leave(&mut self, image: Image, file: &mut Vec<u8>)
         requires { CanUndo (reverse self.old.writes.items) self.old.bytes.items file.old.items }
-        ensures left { file.new.items ≡ left_of image (reverse self.old.writes.items) self.old.bytes.items file.old.items }
+        ensures left { file.new.items ≡ file_left image (reverse self.old.writes.items) self.old.bytes.items file.old.items }
         ensures shorter { vec_len file.new ≤ vec_len file.old }
         ensures capacity { vec_capacity file.new ≡ vec_capacity file.old }
         ensures writes { self.new.writes.items ≡ [] }

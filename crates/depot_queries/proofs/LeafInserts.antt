@@ -32,11 +32,11 @@ use Rattle.depot_laws.proofs.Causes.{none_or_one}
 use Rattle.depot_model.proofs.RisingUpdates.{HaveOwnIds, from_by_id, own_ids_filter, own_ids_from_causal, same_by_id}
 use Rattle.depot_model.proofs.NamedIds.{has_id_from, has_id_to}
 use Rattle.depot_readings.specs.Places.{accepts, accept_places}
-use Rattle.depot_graph.specs.PastLeaves.{standing}
+use Rattle.depot_graph.specs.PastLeaves.{updates_at_places}
 use Rattle.depot_graph.proofs.ChainLeaves.{leaf_within, leaves_stand}
 use Rattle.depot_graph.proofs.Sorting.{decided, is_standing, standing_apart, standing_is}
-use Rattle.depot_queries.specs.ItemPlaces.{leaf_in, name_of}
-use Rattle.depot_queries.specs.declared.leaf_order.Leaf.{Leaf}
+use Rattle.depot_queries.specs.ItemPlaces.{leaf_with_place, name_of}
+use Rattle.depot_queries.specs.declared.leaf_order.OrderedLeaf.{OrderedLeaf}
 
 -- ---- where a record accepts an update
 
@@ -102,27 +102,27 @@ place_at J us places i t place all c are at there =
 
 -- ---- the order of leaves
 
-abbrev pub leaf_cmp : Leaf → Leaf → Ordering
+abbrev pub leaf_cmp : OrderedLeaf → OrderedLeaf → Ordering
 leaf_cmp a b = ordering_then (nat_cmp a.writer b.writer) (ordering_then (slice_cmp nat_cmp a.id b.id) (nat_cmp a.place b.place))
 
 -- a leaf is put in where its update is
-insert_leaf : (J : List Record) (t : Update) (ts : List Update) → ((u : Update) → IsIn u ts → id_of_update u ≡ id_of_update t → ⊥) → insert_key leaf_cmp (map (leaf_in J) ts) (leaf_in J t) ≡ map (leaf_in J) (put_by_id t ts)
+insert_leaf : (J : List Record) (t : Update) (ts : List Update) → ((u : Update) → IsIn u ts → id_of_update u ≡ id_of_update t → ⊥) → insert_key leaf_cmp (map (leaf_with_place J) ts) (leaf_with_place J t) ≡ map (leaf_with_place J) (put_by_id t ts)
 unfolding put_by_id
 insert_leaf J t [] apart = refl
 insert_leaf J t (u ∷ ts) apart =
-    let rest = nat_cmp (leaf_in J t).place (leaf_in J u).place in
-    let before = leaf_in J t ∷ leaf_in J u ∷ map (leaf_in J) ts in
-    let same = leaf_in J u ∷ map (leaf_in J) ts in
-    let behind = leaf_in J u ∷ insert_key leaf_cmp (map (leaf_in J) ts) (leaf_in J t) in
+    let rest = nat_cmp (leaf_with_place J t).place (leaf_with_place J u).place in
+    let before = leaf_with_place J t ∷ leaf_with_place J u ∷ map (leaf_with_place J) ts in
+    let same = leaf_with_place J u ∷ map (leaf_with_place J) ts in
+    let behind = leaf_with_place J u ∷ insert_key leaf_cmp (map (leaf_with_place J) ts) (leaf_with_place J t) in
     let writers_turned : nat_cmp t.writer u.writer ≡ ordering_reverse (nat_cmp u.writer t.writer) = nat_cmp_total.antisymm t.writer u.writer in
     let ids_turned : slice_cmp nat_cmp (id_of_update t) (id_of_update u) ≡ ordering_reverse (slice_cmp nat_cmp (id_of_update u) (id_of_update t)) = nat_list_cmp_total.antisymm (id_of_update t) (id_of_update u) in
     ap (λ (o : Ordering). match_ordering (ordering_then o (ordering_then (slice_cmp nat_cmp (id_of_update t) (id_of_update u)) rest)) before same behind) writers_turned
     ∙ ap (λ (o : Ordering). match_ordering (ordering_then (ordering_reverse (nat_cmp u.writer t.writer)) (ordering_then o rest)) before same behind) ids_turned
     ∙ decided (nat_cmp u.writer t.writer) (slice_cmp nat_cmp (id_of_update u) (id_of_update t)) rest before same behind (λ e. apart u (inl refl) (exact_bytes (id_of_update u) (id_of_update t) e))
     ∙ through (is_lower u t) (insert_leaf J t ts (λ w on. apart w (inr on))) where
-      through : (b : Bool) → insert_key leaf_cmp (map (leaf_in J) ts) (leaf_in J t) ≡ map (leaf_in J) (put_by_id t ts)
-          → cond b (leaf_in J u ∷ insert_key leaf_cmp (map (leaf_in J) ts) (leaf_in J t)) (leaf_in J t ∷ leaf_in J u ∷ map (leaf_in J) ts) ≡ map (leaf_in J) (cond b (u ∷ put_by_id t ts) (t ∷ u ∷ ts))
-      through true later = ap (λ (ls : List Leaf). leaf_in J u ∷ ls) later
+      through : (b : Bool) → insert_key leaf_cmp (map (leaf_with_place J) ts) (leaf_with_place J t) ≡ map (leaf_with_place J) (put_by_id t ts)
+          → cond b (leaf_with_place J u ∷ insert_key leaf_cmp (map (leaf_with_place J) ts) (leaf_with_place J t)) (leaf_with_place J t ∷ leaf_with_place J u ∷ map (leaf_with_place J) ts) ≡ map (leaf_with_place J) (cond b (u ∷ put_by_id t ts) (t ∷ u ∷ ts))
+      through true later = ap (λ (ls : List OrderedLeaf). leaf_with_place J u ∷ ls) later
       through false later = refl
 
 -- ---- one leaf after the other
@@ -143,7 +143,7 @@ none_before (m ∷ ns) (suc i) n once lt is (inl here) = all_at (λ (k : ℕ). k
 none_before (m ∷ ns) (suc i) n once lt is (inr there) = none_before ns i n once.1 (omega (arith, lt)) is there
 
 -- the members, with the update of one place more
-one_stands : (us : List Update) (front more : List ℕ) (t : Update) → IsCausal [] us → updates_at us more ≡ updates_at us front ++ t ∷ [] → HaveSame (t ∷ standing us front) (standing us more)
+one_stands : (us : List Update) (front more : List ℕ) (t : Update) → IsCausal [] us → updates_at us more ≡ updates_at us front ++ t ∷ [] → HaveSame (t ∷ updates_at_places us front) (updates_at_places us more)
 one_stands us front more t c are = record {
   to = λ u on. is_standing us more u (subst (λ (ts : List Update). IsIn u ts) (sym are) (elim on [
     | inl here ↦ in_right u (updates_at us front) (t ∷ []) (inl here)
@@ -155,31 +155,31 @@ one_stands us front more t c are = record {
   ];
 }
 
-pub leaves_begin : (J : List Record) (us : List Update) (keys : List Leaf) → keys ≡ [] → keys ≡ map (leaf_in J) (by_id (standing us []))
+pub leaves_begin : (J : List Record) (us : List Update) (keys : List OrderedLeaf) → keys ≡ [] → keys ≡ map (leaf_with_place J) (by_id (updates_at_places us []))
 unfolding by_id
-leaves_begin J us keys none = none ∙ ap (λ (ts : List Update). map (leaf_in J) (by_id ts)) (sym (none_stands us)) where
+leaves_begin J us keys none = none ∙ ap (λ (ts : List Update). map (leaf_with_place J) (by_id ts)) (sym (none_stands us)) where
   none_stands : (ts : List Update) → filter (λ (u : Update). is_among (id_of_update u) []) ts ≡ []
   none_stands [] = refl
   none_stands (t ∷ ts) = none_stands ts
 
 -- the leaf that is put in is that of the update there
-made_leaf : (J : List Record) (us : List Update) (places : List ℕ) (n : ℕ) (t : Update) (place : ℕ) (leaf : Leaf) → accepted J ≡ us → IsCausal [] us → places ≡ accept_places J → slice_get us n ≡ Some t → slice_get places n ≡ Some place
-    → leaf ≡ record { writer = t.writer; id = id_of_update t; place = place } → leaf ≡ leaf_in J t
+made_leaf : (J : List Record) (us : List Update) (places : List ℕ) (n : ℕ) (t : Update) (place : ℕ) (leaf : OrderedLeaf) → accepted J ≡ us → IsCausal [] us → places ≡ accept_places J → slice_get us n ≡ Some t → slice_get places n ≡ Some place
+    → leaf ≡ record { writer = t.writer; id = id_of_update t; place = place } → leaf ≡ leaf_with_place J t
 made_leaf J us places n t place leaf all c are at there made =
     let kept : place ≡ unwrap_or (record_place J (id_of_update t)) 0 = ap (λ (o : Option ℕ). unwrap_or o 0) (sym (place_at J us places n t place all c are at there)) in
     made ∙ ap (λ (p : ℕ). record { writer = t.writer; id = id_of_update t; place = p }) kept
 
 -- with the next leaf
-pub leaves_more : (J : List Record) (us : List Update) (places items : List ℕ) (i n : ℕ) (t : Update) (place : ℕ) (leaf : Leaf) (keys new : List Leaf) → accepted J ≡ us → IsCausal [] us → places ≡ accept_places J → AreDistinct items → i < length items → n ≡ get_or items i 0 → slice_get us n ≡ Some t
-    → slice_get places n ≡ Some place → leaf ≡ record { writer = t.writer; id = id_of_update t; place = place } → keys ≡ map (leaf_in J) (by_id (standing us (take i items))) → new ≡ insert_key leaf_cmp keys leaf → new ≡ map (leaf_in J) (by_id (standing us (take (i + 1) items)))
+pub leaves_more : (J : List Record) (us : List Update) (places items : List ℕ) (i n : ℕ) (t : Update) (place : ℕ) (leaf : OrderedLeaf) (keys new : List OrderedLeaf) → accepted J ≡ us → IsCausal [] us → places ≡ accept_places J → AreDistinct items → i < length items → n ≡ get_or items i 0 → slice_get us n ≡ Some t
+    → slice_get places n ≡ Some place → leaf ≡ record { writer = t.writer; id = id_of_update t; place = place } → keys ≡ map (leaf_with_place J) (by_id (updates_at_places us (take i items))) → new ≡ insert_key leaf_cmp keys leaf → new ≡ map (leaf_with_place J) (by_id (updates_at_places us (take (i + 1) items)))
 unfolding by_id
 leaves_more J us places items i n t place leaf keys new all c are once lt is at there made kept now =
-    now ∙ ap (insert_key leaf_cmp keys) (made_leaf J us places n t place leaf all c are at there made) ∙ ap (λ (ls : List Leaf). insert_key leaf_cmp ls (leaf_in J t)) kept
+    now ∙ ap (insert_key leaf_cmp keys) (made_leaf J us places n t place leaf all c are at there made) ∙ ap (λ (ls : List OrderedLeaf). insert_key leaf_cmp ls (leaf_with_place J t)) kept
     ∙ insert_leaf J t (by_id old) (λ u on. apart_from u (from_by_id u old on))
-    ∙ ap (map (leaf_in J)) (same_by_id (t ∷ old) (standing us (take (i + 1) items)) (all_from (λ (u : Update). id_of_update u ≡ id_of_update t → ⊥) old apart_from, standing_apart us (take i items) c) (standing_apart us (take (i + 1) items) c)
+    ∙ ap (map (leaf_with_place J)) (same_by_id (t ∷ old) (updates_at_places us (take (i + 1) items)) (all_from (λ (u : Update). id_of_update u ≡ id_of_update t → ⊥) old apart_from, standing_apart us (take i items) c) (standing_apart us (take (i + 1) items) c)
     (one_stands us (take i items) (take (i + 1) items) t c (one_more us items i n t lt is at))) where
       old : List Update
-      old = standing us (take i items)
+      old = updates_at_places us (take i items)
 
       apart_from : (u : Update) → IsIn u old → id_of_update u ≡ id_of_update t → ⊥
       apart_from u on same =
@@ -191,20 +191,20 @@ unfolding leaves_of
 leaves_apart us apart = own_ids_filter _ us apart
 
 -- with all leaves
-pub leaves_end : (J : List Record) (us : List Update) (items : List ℕ) (i : ℕ) (keys : List Leaf) → accepted J ≡ us → IsCausal [] us → AreLeaves us items → length items ≤ i → keys ≡ map (leaf_in J) (by_id (standing us (take i items))) → keys ≡ map (leaf_in J) (by_id (leaves_of (accepted J)))
+pub leaves_end : (J : List Record) (us : List Update) (items : List ℕ) (i : ℕ) (keys : List OrderedLeaf) → accepted J ≡ us → IsCausal [] us → AreLeaves us items → length items ≤ i → keys ≡ map (leaf_with_place J) (by_id (updates_at_places us (take i items))) → keys ≡ map (leaf_with_place J) (by_id (leaves_of (accepted J)))
 leaves_end J us items i keys all c are past kept =
-    kept ∙ ap (λ (ns : List ℕ). map (leaf_in J) (by_id (standing us ns))) (take_all i items past)
-    ∙ ap (map (leaf_in J)) (same_by_id (standing us items) (leaves_of us) (standing_apart us items c) (leaves_apart us (own_ids_from_causal [] us c)) (leaves_stand us items c are))
-    ∙ ap (λ (ts : List Update). map (leaf_in J) (by_id (leaves_of ts))) (sym all)
+    kept ∙ ap (λ (ns : List ℕ). map (leaf_with_place J) (by_id (updates_at_places us ns))) (take_all i items past)
+    ∙ ap (map (leaf_with_place J)) (same_by_id (updates_at_places us items) (leaves_of us) (standing_apart us items c) (leaves_apart us (own_ids_from_causal [] us c)) (leaves_stand us items c are))
+    ∙ ap (λ (ts : List Update). map (leaf_with_place J) (by_id (leaves_of ts))) (sym all)
 
 -- ---- their names
 
-names_of : (J : List Record) (ts : List Update) → map name_of (map (leaf_in J) ts) ≡ map named_leaf ts
+names_of : (J : List Record) (ts : List Update) → map name_of (map (leaf_with_place J) ts) ≡ map named_leaf ts
 names_of J [] = refl
 names_of J (t ∷ ts) = ap (λ (ls : List HelloLeaf). named_leaf t ∷ ls) (names_of J ts)
 
 -- so it is with what a call gives
-pub told_names : {E : Type 0} (J : List Record) (leaves : List Leaf) (result : Result (List HelloLeaf) E) → leaves ≡ map (leaf_in J) (by_id (leaves_of (accepted J)))
+pub told_names : {E : Type 0} (J : List Record) (leaves : List OrderedLeaf) (result : Result (List HelloLeaf) E) → leaves ≡ map (leaf_with_place J) (by_id (leaves_of (accepted J)))
     → IfOk result (λ names. names ≡ map name_of leaves) → IfOk result (λ names. names ≡ leaves_named J)
 told_names J leaves (Ok names) kept are = are ∙ ap (map name_of) kept ∙ names_of J (by_id (leaves_of (accepted J)))
 told_names J leaves (Err e) kept are = tt

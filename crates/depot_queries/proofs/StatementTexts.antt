@@ -19,7 +19,7 @@ use Rattle.depot_model.specs.Lists.{IsIn}
 use Rattle.depot_model.specs.Own.{leaf_count}
 use Rattle.depot_base.specs.Cursor.{numeral}
 use Rattle.depot_base.specs.Format.{number}
-use Rattle.depot_model.specs.Records.{record_text, tagged, text_of_record}
+use Rattle.depot_model.specs.Records.{record_text, tagged, text_of_record, IsTextOf}
 use Rattle.depot_model.specs.Roster.{key_of}
 use Rattle.depot_model.specs.Texts.{IsStatement, IsSigned, text_of_statement, text_of_signed}
 use Rattle.depot_model.proofs.Elements.{in_at}
@@ -27,7 +27,6 @@ use Rattle.depot_laws.proofs.Candidates.{signed_fits}
 use Rattle.depot_laws.proofs.Nexts.{next_of}
 use Rattle.depot_laws.proofs.OwnTexts.{own_statement_fits}
 use Rattle.depot_laws.proofs.Splits.{flat_gives, lawful_texts}
-use Rattle.depot_readings.specs.RecordTexts.{IsTextOf}
 use Rattle.depot_queries.specs.SignedRecords.{IsLeafText, IsSignable, IsSignedTextOf}
 use Rattle.depot_base.proofs.GeneralLaws.{parts_at}
 

@@ -14,7 +14,7 @@ use Rattle.depot_model.specs.Lists.{IsIn}
 use Rattle.depot_model.specs.Order.{IsCausal}
 use Rattle.depot_model.proofs.Members.{all_push, in_last, in_left}
 use Rattle.depot_virtual.specs.declared.Spot.{Spot}
-use Rattle.depot_virtual.specs.Spots.{IsAt, IsTip, spots}
+use Rattle.depot_virtual.specs.Spots.{IsSpotAt, IsTip, spots}
 use Rattle.depot_virtual.proofs.Placing.{all_placed, tip_is_highest}
 use Rattle.depot_graph.specs.Kept.{prev_places}
 use Rattle.depot_graph.specs.UpdateRows.{IsJoinedRow}
@@ -28,10 +28,10 @@ use Rattle.depot_queries.proofs.BesidePlaces.{IsSoFar, so_far_same}
 -- On the way back on a chain: the item stands at the place or behind it, and those behind it were added.
 pub record IsPassed (us : List Update) (chain from : ℕ) (old found : List ℕ) (item : ℕ) : Type 0 where
   pub place : ℕ
-  pub at : IsAt (prev_places us) item chain place
+  pub at : IsSpotAt (prev_places us) item chain place
   pub high : from ≤ place
   pub kept : (m : ℕ) → IsIn m old → IsIn m found
-  pub above : (m other : ℕ) → IsAt (prev_places us) m chain other → place < other → IsIn m found
+  pub above : (m other : ℕ) → IsSpotAt (prev_places us) m chain other → place < other → IsIn m found
   pub inside : AllByRecursion (λ m. m < length us) old → AllByRecursion (λ m. m < length us) found
 
 -- it begins at the last item
@@ -46,13 +46,13 @@ passed_tip us chain from old tip causal t high = record {
 }
 
 -- with this item all at its place or behind it are added
-added_at : (us : List Update) (chain from : ℕ) (old found : List ℕ) (item : ℕ) (p : IsPassed us chain from old found item) (m other : ℕ) → IsAt (prev_places us) m chain other → p.place ≤ other → IsIn m (found ++ item ∷ [])
+added_at : (us : List Update) (chain from : ℕ) (old found : List ℕ) (item : ℕ) (p : IsPassed us chain from old found item) (m other : ℕ) → IsSpotAt (prev_places us) m chain other → p.place ≤ other → IsIn m (found ++ item ∷ [])
 added_at us chain from old found item p m other at high = by_test (nat_lt p.place other) refl where
   by_test : (b : Bool) → nat_lt p.place other ≡ b → IsIn m (found ++ item ∷ [])
   by_test true is = in_left m found (item ∷ []) (p.above m other at (ltb-true p.place other is))
   by_test false is =
       let same : other ≡ p.place = omega (arith, high, ltb-false p.place other is) in
-      let one : item ≡ m = (all_placed (prev_places us)).once item m (record { chain = chain; place = p.place }) p.at (subst (λ (k : ℕ). IsAt (prev_places us) m chain k) same at) in
+      let one : item ≡ m = (all_placed (prev_places us)).once item m (record { chain = chain; place = p.place }) p.at (subst (λ (k : ℕ). IsSpotAt (prev_places us) m chain k) same at) in
       subst (λ (k : ℕ). IsIn k (found ++ item ∷ [])) one (in_last found item)
 
 inside_at : (us : List Update) (chain from : ℕ) (old found : List ℕ) (item : ℕ) (p : IsPassed us chain from old found item) → AllByRecursion (λ m. m < length us) old → AllByRecursion (λ m. m < length us) (found ++ item ∷ [])
@@ -64,7 +64,7 @@ passed_next us chain from old found new item p later is = by_place p.place refl 
   by_place : (place : ℕ) → p.place ≡ place → (b : ℕ) × ((slice_get (prev_places us) item ≡ Some (Some b)) × IsPassed us chain from old new b)
   by_place zero none = absurd (omega (arith, later, none))
   by_place (suc place) here =
-      let b = (all_placed (prev_places us)).back item chain place (subst (λ (k : ℕ). IsAt (prev_places us) item chain k) here p.at) in (
+      let b = (all_placed (prev_places us)).back item chain place (subst (λ (k : ℕ). IsSpotAt (prev_places us) item chain k) here p.at) in (
         b.prev,
         (
           b.is,
@@ -99,7 +99,7 @@ no_tail us chain from old tip causal t low = record {
 
 -- what the first chains have behind the row is among these, which are items
 pub record AreBehind (us : List Update) (row : List ℕ) (count : ℕ) (found : List ℕ) : Type 0 where
-  pub all : (item chain place : ℕ) → IsAt (prev_places us) item chain place → chain < count → slice_index row chain ≤ place → IsIn item found
+  pub all : (item chain place : ℕ) → IsSpotAt (prev_places us) item chain place → chain < count → slice_index row chain ≤ place → IsIn item found
   pub inside : AllByRecursion (λ item. item < length us) found
 
 pub behind_next : (us : List Update) (row : List ℕ) (count from : ℕ) (found new : List ℕ) → from ≡ slice_index row count → AreBehind us row count found → HasTail us count from found new → AreBehind us row (count + 1) new
@@ -107,13 +107,13 @@ behind_next us row count from found new is a t = record {
   all = λ item chain place at low high. by_test item chain place at low high (nat_lt chain count) refl;
   inside = t.inside a.inside;
 } where
-  by_test : (item chain place : ℕ) → IsAt (prev_places us) item chain place → chain < count + 1 → slice_index row chain ≤ place → (b : Bool) → nat_lt chain count ≡ b → IsIn item new
+  by_test : (item chain place : ℕ) → IsSpotAt (prev_places us) item chain place → chain < count + 1 → slice_index row chain ≤ place → (b : Bool) → nat_lt chain count ≡ b → IsIn item new
   by_test item chain place at low high true lower = t.kept item (a.all item chain place at (ltb-true chain count lower) high)
   by_test item chain place at low high false not_lower =
       let same : chain ≡ count = omega (arith, low, ltb-false chain count not_lower) in
-      t.all item place (subst (λ (k : ℕ). IsAt (prev_places us) item k place) same at) (omega (arith, is, ap (slice_index row) same, high))
+      t.all item place (subst (λ (k : ℕ). IsSpotAt (prev_places us) item k place) same at) (omega (arith, is, ap (slice_index row) same, high))
 
-pub all_behind : (us : List Update) (row : List ℕ) (count : ℕ) (found : List ℕ) → length row ≤ count → ((item chain place : ℕ) → IsAt (prev_places us) item chain place → chain < length row) → AreBehind us row count found → HoldsBehind us row found
+pub all_behind : (us : List Update) (row : List ℕ) (count : ℕ) (found : List ℕ) → length row ≤ count → ((item chain place : ℕ) → IsSpotAt (prev_places us) item chain place → chain < length row) → AreBehind us row count found → HoldsBehind us row found
 all_behind us row count found many inside a = λ item chain place at high. a.all item chain place at (omega (arith, many, inside item chain place at)) high
 
 -- ---- what isn't among them

@@ -6,7 +6,7 @@ use Rattle.depot_model.specs.declared.hello.HelloLeaf.{HelloLeaf}
 use Rattle.depot_model.specs.Hello.{record_place}
 use Rattle.depot_model.specs.Journal.{accepted, accepted_at}
 use Rattle.depot_model.specs.Texts.{id_of_update}
-use Rattle.depot_queries.specs.declared.leaf_order.Leaf.{Leaf}
+use Rattle.depot_queries.specs.declared.leaf_order.OrderedLeaf.{OrderedLeaf}
 
 -- the numbers that stand beside the updates that pass a test
 abbrev pub beside : (Update → Bool) → List Update → List ℕ → List ℕ
@@ -20,9 +20,9 @@ IsItemAt J place None = accepted_at J place ≡ []
 IsItemAt J place (Some item) = (u : Update) × ((slice_get (accepted J) item ≡ Some u) × (accepted_at J place ≡ u ∷ []))
 
 -- an accepted update, with the place of its record
-abbrev pub leaf_in : List Record → Update → Leaf
-leaf_in J t = record { writer = t.writer; id = id_of_update t; place = unwrap_or (record_place J (id_of_update t)) 0 }
+abbrev pub leaf_with_place : List Record → Update → OrderedLeaf
+leaf_with_place J t = record { writer = t.writer; id = id_of_update t; place = unwrap_or (record_place J (id_of_update t)) 0 }
 
 -- how a hello names it
-abbrev pub name_of : Leaf → HelloLeaf
+abbrev pub name_of : OrderedLeaf → HelloLeaf
 name_of l = record { writer = l.writer; id = l.id }

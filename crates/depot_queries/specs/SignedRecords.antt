@@ -8,7 +8,7 @@ use Rattle.depot_model.specs.Bundle.{Signs, signed_by}
 use Rattle.depot_model.specs.Lists.{IsIn}
 use Rattle.depot_model.specs.Journal.{own_by}
 use Rattle.depot_model.specs.Texts.{IsStatement, text_of_statement, text_of_signed}
-use Rattle.depot_readings.specs.RecordTexts.{IsTextOf}
+use Rattle.depot_model.specs.Records.{IsTextOf}
 
 -- The text is the body of this statement, and one of the key's leaves signs it.
 pub record IsLeafText (key : PublicKey) (s : Statement) (text : List ℕ) : Type 0 where

@@ -5,19 +5,19 @@ use Rattle.depot_base.specs.declared.update.Update.{Update}
 use Rattle.depot_model.specs.Bundle.{is_candidate}
 use Rattle.depot_model.specs.Items.{places_of}
 use Rattle.depot_model.specs.Lists.{IsIn}
-use Rattle.depot_virtual.specs.Spots.{IsAt}
+use Rattle.depot_virtual.specs.Spots.{IsSpotAt}
 use Rattle.depot_graph.specs.Kept.{prev_places}
 use Rattle.depot_graph.specs.UpdateRows.{IsJoinedRow}
 use Rattle.depot_queries.specs.ItemPlaces.{beside}
 
 -- each item that stands in its chain at the row's entry or behind it is one of these
 abbrev pub HoldsBehind : List Update → List ℕ → List ℕ → Type 0
-HoldsBehind us row items = (item chain place : ℕ) → IsAt (prev_places us) item chain place → slice_index row chain ≤ place → IsIn item items
+HoldsBehind us row items = (item chain place : ℕ) → IsSpotAt (prev_places us) item chain place → slice_index row chain ≤ place → IsIn item items
 
 -- To these items those of a chain from a place on are added.
 pub record HasTail (us : List Update) (chain from : ℕ) (old new : List ℕ) : Type 0 where
   pub kept : (item : ℕ) → IsIn item old → IsIn item new
-  pub all : (item place : ℕ) → IsAt (prev_places us) item chain place → from ≤ place → IsIn item new
+  pub all : (item place : ℕ) → IsSpotAt (prev_places us) item chain place → from ≤ place → IsIn item new
   pub inside : AllByRecursion (λ item. item < length us) old → AllByRecursion (λ item. item < length us) new
 
 -- whatever ids the row joins the rows of, these are, of the numbers beside the updates, those of what a reader with these leaves lacks

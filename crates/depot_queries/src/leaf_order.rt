@@ -5,7 +5,7 @@ ghost use Rattle.depot_model.specs.History.{by_id, leaves_of};
 ghost use Rattle.depot_model.specs.Items.{at};
 ghost use Rattle.depot_model.specs.Texts.{id_of_update};
 ghost use Rattle.depot_model.specs.Journal.{accepted};
-ghost use Rattle.depot_queries.specs.ItemPlaces.{leaf_in, name_of};
+ghost use Rattle.depot_queries.specs.ItemPlaces.{leaf_with_place, name_of};
 
 use depot_base::{Hash32, Memory, NodeId};
 use depot_graph::Graph;
@@ -16,7 +16,7 @@ use std::collections::BTreeSet;
 
 /// A leaf, and the place of the record that accepted it. Leaves are in order by writer and then by id, which no two share.
 #[derive(Clone, Copy, Debug, PartialEq, Eq, PartialOrd, Ord)]
-struct Leaf {
+struct OrderedLeaf {
     writer: NodeId,
     id: Hash32,
     place: u32,
@@ -34,8 +34,8 @@ pub fn leaves<S: Scheme>(alloc: Global, readings: &Readings<S>) -> Result<HelloL
 fn leaves_in_order<S: Scheme>(
     alloc: Global,
     readings: &Readings<S>,
-) -> Result<BTreeSet<Leaf>, Memory>
-    ensures { IfOk result (λ leaves. leaves.keys ≡ map (leaf_in readings.now.records) (by_id (leaves_of (accepted readings.now.records)))) }
+) -> Result<BTreeSet<OrderedLeaf>, Memory>
+    ensures { IfOk result (λ leaves. leaves.keys ≡ map (leaf_with_place readings.now.records) (by_id (leaves_of (accepted readings.now.records)))) }
 {
     let graph = readings.state().graph();
     let places = readings.places();
@@ -48,7 +48,7 @@ fn leaves_in_order<S: Scheme>(
 }
 
 /// Their names.
-fn names_of(alloc: Global, leaves: &BTreeSet<Leaf>) -> Result<HelloLeaves, Memory>
+fn names_of(alloc: Global, leaves: &BTreeSet<OrderedLeaf>) -> Result<HelloLeaves, Memory>
     ensures { IfOk result (λ names. names ≡ map name_of leaves.now.keys) }
 {
     let names: Vec<HelloLeaf> = leaves
@@ -62,11 +62,11 @@ fn names_of(alloc: Global, leaves: &BTreeSet<Leaf>) -> Result<HelloLeaves, Memor
 }
 
 /// The leaf of an item whose record stands at this place.
-fn leaf_at(graph: &Graph, item: u32, place: u32) -> Leaf
+fn leaf_at(graph: &Graph, item: u32, place: u32) -> OrderedLeaf
     requires { item < length (⟦<Graph as Past>⟧.updates graph.now) }
     ensures { at (⟦<Graph as Past>⟧.updates graph.now) item (λ t. result ≡ record { writer = t.writer; id = id_of_update t; place = place }) }
 {
-    Leaf {
+    OrderedLeaf {
         writer: graph.update(item).writer,
         id: *graph.id(item),
         place,

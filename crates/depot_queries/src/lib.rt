@@ -19,7 +19,7 @@ mod record_items;
 mod signed_texts;
 mod tails;
 
-pub use candidate_places::{candidates, items_named};
+pub use candidate_places::candidates;
 pub use convictions::convicted;
 pub use held_values::held_as;
 pub use in_front::{proof_places, voucher_places};

@@ -6,7 +6,7 @@ ghost use Rattle.depot_base.specs.declared.statement.Statement.{Statement};
 ghost use Rattle.depot_model.specs.Bundle.{signed_with};
 ghost use Rattle.depot_model.specs.Journal.{own_by};
 ghost use Rattle.depot_model.specs.Texts.{IsStatement, text_of_statement, text_of_signed};
-ghost use Rattle.depot_readings.specs.RecordTexts.{IsTextOf};
+ghost use Rattle.depot_model.specs.Records.{IsTextOf};
 ghost use Rattle.depot_queries.specs.SignedRecords.{IsLeafText, IsSignable, IsSignedTextOf};
 
 use depot_base::{Bytes, DecodeError, Memory, RecordTag, Signed, Statement};

@@ -1,5 +1,5 @@
 -- The places of the records that accept the updates, and what stands there.
-use Rattle.std.proofs.Common.{◌≡◌, ℕ, ◌+◌, ◌≤◌, Bool, true, false, ltb, cond, List, [], ◌∷◌, ◌++◌, length, Some, slice_get, refl, ap, ◌∙◌, arith}
+use Rattle.std.proofs.Common.{◌≡◌, ℕ, ◌+◌, ◌≤◌, Bool, true, false, ltb, cond, List, [], ◌∷◌, ◌++◌, length, refl, ap, ◌∙◌, arith}
 use Rattle.depot_base.specs.declared.record.Record.{Record}
 use Rattle.depot_base.specs.declared.update.Update.{Update}
 use Rattle.depot_model.specs.Bundle.{records_where}
@@ -37,23 +37,3 @@ many_from n (r ∷ J) = step (accepted_by r) (one_update r) (many_from (n + 1) J
 
 pub as_many_places : (J : List Record) → length (accept_places J) ≡ length (accepted J)
 as_many_places J = many_from 0 J
-
--- the record of this place accepts this update, and no other
-pub record AcceptsAt (J : List Record) (place : ℕ) (u : Update) : Type 0 where
-  pub by : Record
-  pub stands : slice_get J place ≡ Some by
-  pub brings : accepted_by by ≡ u ∷ []
-
--- the same so many places further
-record AcceptsFrom (n : ℕ) (J : List Record) (place : ℕ) (u : Update) : Type 0 where
-  pub further : ℕ
-  pub is : place ≡ n + further
-  pub at : AcceptsAt J further u
-
--- an accepted update, its place, and what stands there
-pub record HasPlace (J : List Record) (i : ℕ) : Type 0 where
-  pub update : Update
-  pub place : ℕ
-  pub accepted_is : slice_get (accepted J) i ≡ Some update
-  pub place_is : slice_get (accept_places J) i ≡ Some place
-  pub at : AcceptsAt J place update

@@ -54,7 +54,7 @@ within here J r l =
 pub few_updates : (here : Setting) (J : List Record) (r : Record) (us : List Update) → IsLawful here (J ++ r ∷ []) → accepted J ≡ us → length us < 4294967295
 few_updates here J r us l is = let w = within here J r l in omega (arith, w.accepted, ap length is)
 
-pub few_statements : (here : Setting) (J : List Record) (r : Record) (kept : List Signed) → IsLawful here (J ++ r ∷ []) → foreign J ≡ kept → length kept < 4294967295
+pub few_statements : (here : Setting) (J : List Record) (r : Record) (kept : List Signed) → IsLawful here (J ++ r ∷ []) → foreign J ≡ kept → length kept ≤ 131072
 few_statements here J r kept l is = let w = within here J r l in omega (arith, w.foreign, ap length is)
 
 pub few_of_own : (here : Setting) (me : ℕ) (J : List Record) (r : Record) (t : Totals) → IsLawful here (J ++ r ∷ []) → AreTotals me J t → t.own < 131072

@@ -1,5 +1,5 @@
 -- How much a journal takes with a growth behind it.
-use Rattle.std.proofs.Common.{◌≡◌, ℕ, ◌+◌, ◌≤◌, List, [], ◌∷◌, ◌++◌, length, Option, None, refl, sym, ap, subst, ◌∙◌, arith, not, eqb, append_assoc, length-append}
+use Rattle.std.proofs.Common.{◌≡◌, ℕ, ◌+◌, ◌≤◌, List, [], ◌∷◌, ◌++◌, length, Option, refl, sym, ap, subst, ◌∙◌, arith, not, eqb, append_assoc, length-append}
 use Rattle.std.specs.Option.{unwrap_or}
 use Rattle.std.specs.List.{filter}
 use Rattle.std.proofs.lemmas.List.{append-nil}
@@ -24,12 +24,12 @@ use Rattle.depot_laws.proofs.Nexts.{next_of}
 use Rattle.depot_laws.proofs.OwnTexts.{lawful_is_short, lawful_is_light}
 use Rattle.depot_laws.proofs.Splits.{lawful_front, lawful_last, silent}
 use Rattle.depot_readings.specs.Counts.{AreCountsOf}
-use Rattle.depot_readings.specs.NewRecords.{AreNew, bytes_of, records_in, vouchers_of}
+use Rattle.depot_readings.specs.NewRecords.{AreNew, taken_bytes, records_in, vouchers_of}
 use Rattle.depot_readings.specs.LeavesWith.{leaves_then, leaves_with_record, leaves_with, number_after}
-use Rattle.depot_readings.specs.declared.counts.Counts.{Counts}
+use Rattle.depot_readings.specs.declared.counts.JournalCounts.{JournalCounts}
 use Rattle.depot_readings.specs.declared.news.News.{News}
 use Rattle.depot_readings.specs.declared.news.News.TheVariants as news
-use Rattle.depot_readings.proofs.RoomLaws.{counted_with, full_is_limit, full_with_none}
+use Rattle.depot_readings.proofs.RoomLaws.{counted_with, full_is_limit}
 use Rattle.depot_readings.proofs.StateGrowth.{lawful_both}
 use Rattle.depot_readings.proofs.TotalLaws.{leaves_after}
 use Rattle.depot_readings.proofs.VoucherRecords.{no_leaves, none_accepted}
@@ -37,7 +37,7 @@ use Rattle.depot_readings.proofs.VoucherRecords.{no_leaves, none_accepted}
 -- ---- the limit
 
 -- the limit that records pass is that of the counts, where there is one of them
-pub limit_of_counts : (me : ℕ) (J new : List Record) (t : Counts) (n b : ℕ) (leaves : Option ℕ) → AreCountsOf me J t → (n ≡ 0 → ⊥) → n ≡ length new → b ≡ bytes_of new → leaves ≡ leaves_counted me J new
+pub limit_of_counts : (me : ℕ) (J new : List Record) (t : JournalCounts) (n b : ℕ) (leaves : Option ℕ) → AreCountsOf me J t → (n ≡ 0 → ⊥) → n ≡ length new → b ≡ taken_bytes new → leaves ≡ leaves_counted me J new
     → limit_passed t.records t.bytes t.leaves (t.records + n) (t.bytes + b) leaves ≡ full_by me J new
 limit_of_counts me J new t n b leaves a some many large counted =
     rw (a.records, a.bytes, a.leaves) (full_is_limit me J new (length J + n) (journal_bytes J + b) leaves (λ none. some (many ∙ none))
@@ -45,12 +45,8 @@ limit_of_counts me J new t n b leaves a some many large counted =
     (omega (arith, bytes_more J new, large))
     (sym counted))
 
--- and none pass no limit
-pub limit_of_none : (me : ℕ) (J new : List Record) (n : ℕ) → n ≡ length new → n ≡ 0 → None ≡ full_by me J new
-limit_of_none me J new n many none = sym (full_with_none me J new (sym many ∙ none))
-
 -- the leaves that count with a growth that is new to a lawful journal
-pub leaves_of_growth : (here : Setting) (J given : List Record) (news : News) (t : Counts) (leaves : Option ℕ) → records_in news ≡ given → IsLawful here J → AreNew here J given → AreCountsOf here.me J t → leaves ≡ leaves_with (accepted J) t.leaves given
+pub leaves_of_growth : (here : Setting) (J given : List Record) (news : News) (t : JournalCounts) (leaves : Option ℕ) → records_in news ≡ given → IsLawful here J → AreNew here J given → AreCountsOf here.me J t → leaves ≡ leaves_with (accepted J) t.leaves given
     → leaves ≡ leaves_counted here.me J given
 leaves_of_growth here J given news t leaves same l new a counted =
     counted ∙ ap (λ (n : ℕ). leaves_with (accepted J) n given) a.leaves
@@ -110,18 +106,18 @@ leaves_grown here J (news.Vouchers xs) l =
 -- ---- all counts
 
 -- a lawful journal has so few of each that they can be counted
-pub record AreFew (t : Counts) (given : List Record) : Type 0 where
+pub record AreFew (t : JournalCounts) (given : List Record) : Type 0 where
   pub records : t.records + length given ≤ 131072
-  pub bytes : t.bytes + bytes_of given ≤ 1073741824
+  pub bytes : t.bytes + taken_bytes given ≤ 1073741824
 
-pub few_counts : (given : List Record) (t : Counts) → ((here : Setting) × ((J : List Record) × (IsLawful here (J ++ given) × AreCountsOf here.me J t))) → AreFew t given
+pub few_counts : (given : List Record) (t : JournalCounts) → ((here : Setting) × ((J : List Record) × (IsLawful here (J ++ given) × AreCountsOf here.me J t))) → AreFew t given
 few_counts given t (here, (J, (l, a))) = record {
   records = omega (arith, lawful_is_short here (J ++ given) l, length-append J given, a.records);
   bytes = omega (arith, lawful_is_light here (J ++ given) l, bytes_more J given, a.bytes);
 }
 
 -- those of a journal with a growth behind
-pub counts_grow : (here : Setting) (J given : List Record) (news : News) (t u : Counts) (n b : ℕ) (leaves : Option ℕ) → records_in news ≡ given → IsLawful here (J ++ given) → AreCountsOf here.me J t → n ≡ length given → b ≡ bytes_of given
+pub counts_grow : (here : Setting) (J given : List Record) (news : News) (t u : JournalCounts) (n b : ℕ) (leaves : Option ℕ) → records_in news ≡ given → IsLawful here (J ++ given) → AreCountsOf here.me J t → n ≡ length given → b ≡ taken_bytes given
     → leaves ≡ leaves_with (accepted J) t.leaves given → u.records ≡ t.records + n → u.bytes ≡ t.bytes + b → u.leaves ≡ unwrap_or leaves t.leaves → AreCountsOf here.me (J ++ given) u
 counts_grow here J given news t u n b leaves same l a many large counted records bytes told = record {
   records = omega (arith, records, a.records, many, length-append J given);

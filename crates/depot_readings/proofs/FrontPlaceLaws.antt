@@ -19,7 +19,7 @@ use Rattle.depot_model.specs.Journal.{accused, proof_by}
 use Rattle.depot_model.specs.Lists.{IsIn, is_among}
 use Rattle.depot_model.specs.Vouching.{own_voucher_by, records_of}
 use Rattle.depot_readings.specs.FrontPlaces.{AddsPlaces, AreFrontPlaces, AreNewPlaces, convictions_from, pairs_from, vouches, vouches_at, with_place}
-use Rattle.depot_readings.specs.Named.{is_name, is_named, names}
+use Rattle.depot_readings.specs.Named.{is_name, is_value_named, has_named_value}
 use Rattle.depot_readings.specs.NewRecords.{records_in, vouchers_of}
 use Rattle.depot_readings.specs.declared.front_places.ConvictedAt.{ConvictedAt}
 use Rattle.depot_readings.specs.declared.front_places.FrontPlaces.{FrontPlaces}
@@ -138,22 +138,18 @@ vouches_more J (r ∷ rs) id place =
     ∙ ap (λ (n : ℕ). vouches_at next id place || is_name (pairs_from n rs) id place) (length-append J (r ∷ []))
     ∙ ap (λ (b : Bool). b || is_name rest id place) (vouches_push J r id place ∙ ap (λ (b : Bool). vouches_at J id place || b) (sym (record_pairs (length J) r id place)))
     ∙ or_assoc (vouches_at J id place) (is_name here id place) (is_name rest id place)
-    ∙ ap (λ (b : Bool). vouches_at J id place || b) (sym (list_any-append (λ (n : NamedValue). is_named n id place) here rest))
+    ∙ ap (λ (b : Bool). vouches_at J id place || b) (sym (list_any-append (λ (n : NamedValue). is_value_named n id place) here rest))
 
 -- ---- what is kept
 
 -- nothing stands in front of no records
-pub none_in_front : (front : FrontPlaces) → front.convictions.items ≡ [] → ((id : List ℕ) (place : ℕ) → names front.vouchers id place ≡ false) → AreFrontPlaces [] front
+pub none_in_front : (front : FrontPlaces) → front.convictions.items ≡ [] → ((id : List ℕ) (place : ℕ) → has_named_value front.vouchers id place ≡ false) → AreFrontPlaces [] front
 unfolding convictions_from
 none_in_front front none empty = record { convictions = none; vouchers = empty }
 
--- where the same is kept
-pub front_same : (J : List Record) (old new : FrontPlaces) → new.convictions.items ≡ old.convictions.items → ((id : List ℕ) (place : ℕ) → names new.vouchers id place ≡ names old.vouchers id place) → AreFrontPlaces J old → AreFrontPlaces J new
-front_same J old new convictions vouchers f = record { convictions = convictions ∙ f.convictions; vouchers = λ id place. vouchers id place ∙ f.vouchers id place }
-
 -- it grows with the records
 pub front_grows : (J : List Record) (news : News) (count : ℕ) (new : NewPlaces) (mid then : FrontPlaces) → count ≡ length J → AreNewPlaces count news new → then.convictions.items ≡ mid.convictions.items ++ option_to_list new.conviction
-    → ((id : List ℕ) (place : ℕ) → names then.vouchers id place ≡ (names mid.vouchers id place || is_name new.vouchers.items id place)) → AreFrontPlaces J mid → AreFrontPlaces (J ++ records_in news) then
+    → ((id : List ℕ) (place : ℕ) → has_named_value then.vouchers id place ≡ (has_named_value mid.vouchers id place || is_name new.vouchers.items id place)) → AreFrontPlaces J mid → AreFrontPlaces (J ++ records_in news) then
 front_grows J news count new mid then is n convictions vouchers f = record {
   convictions = convictions ∙ ap (λ (cs : List ConvictedAt). cs ++ option_to_list new.conviction) f.convictions
       ∙ ap (λ (cs : List ConvictedAt). convictions_from 0 J ++ cs) (n.conviction ∙ ap (λ (k : ℕ). convictions_from k (records_in news)) is) ∙ sym (convictions_from-append 0 J (records_in news) ∙ ap (λ (k : ℕ). convictions_from 0 J ++ convictions_from k (records_in news)) (omega arith));
@@ -163,7 +159,7 @@ front_grows J news count new mid then is n convictions vouchers f = record {
 
 -- what is told of an id
 pub adds_places : {E : Type 0} (r : Result (Unit {0}) E) (J : List Record) (front : FrontPlaces) (id : List ℕ) (old new : List ℕ) → AreFrontPlaces J front → length J < 4294967296 → OnOk r ((size : ℕ) → IsIn size old → IsIn size new)
-    → OnOk r ((size : ℕ) → size < 4294967296 → names front.vouchers id size ≡ true → IsIn size new) → OnOk r ((size : ℕ) → IsIn size new → IsIn size old ⊎ (names front.vouchers id size ≡ true)) → OnOk r (AddsPlaces J id old new)
+    → OnOk r ((size : ℕ) → size < 4294967296 → has_named_value front.vouchers id size ≡ true → IsIn size new) → OnOk r ((size : ℕ) → IsIn size new → IsIn size old ⊎ (has_named_value front.vouchers id size ≡ true)) → OnOk r (AddsPlaces J id old new)
 adds_places (Err e) J front id old new f short kept all only = tt
 adds_places (Ok done) J front id old new f short kept all only = record {
   kept = kept;

@@ -25,7 +25,7 @@ use Rattle.depot_model.proofs.RisingLists.{RisesByTest, one_rising, less_one_way
 use Rattle.depot_laws.proofs.Groups.{rising_keeps, from_rising}
 use Rattle.depot_laws.proofs.RisingBytes.{rising_rises}
 use Rattle.depot_readings.specs.Lacking.{is_next, is_same, hashes_behind}
-use Rattle.depot_readings.specs.Named.{compare_names, is_marked, is_named, is_name, names}
+use Rattle.depot_readings.specs.Named.{compare_names, is_marked, is_value_named, is_name, has_named_value}
 use Rattle.depot_readings.specs.declared.named.NamedValues.{NamedValues}
 use Rattle.depot_readings.proofs.NamedLaws.{same_name, name_is, own_name}
 
@@ -158,9 +158,9 @@ below_one_way : (a b : List ℕ) → is_below a b ≡ true → is_below b a ≡ 
 below_one_way a b one two = less_one_way (slice_cmp nat_cmp a b) (slice_cmp nat_cmp b a) (nat_list_cmp_total.antisymm a b) two one
 
 -- the hashes that are gone through are those of all names with the same names, in rising order
-pub hashes_are : (named : NamedValues) (ns : List NamedValue) → IsStrictlySortedBy compare_names (keys_of named.marks.entries) → ((hash : List ℕ) (size : ℕ) → names named hash size ≡ is_name ns hash size)
+pub hashes_are : (named : NamedValues) (ns : List NamedValue) → IsStrictlySortedBy compare_names (keys_of named.marks.entries) → ((hash : List ℕ) (size : ℕ) → has_named_value named hash size ≡ is_name ns hash size)
     → hashes_behind None named.marks.entries ≡ rising (map (λ n. n.hash) ns)
-unfolding names
+unfolding has_named_value
 hashes_are named ns sorted are = one_rising is_below _ _ below_one_way (all_rise named.marks.entries sorted) (rising_rises (map (λ (n : NamedValue). n.hash) ns)) (record { to = to; back = back }) where
   es : Entries
   es = named.marks.entries
@@ -168,7 +168,7 @@ hashes_are named ns sorted are = one_rising is_below _ _ below_one_way (all_rise
   to : (x : List ℕ) → IsIn x (hashes_behind None es) → IsIn x (rising (map (λ n. n.hash) ns))
   to x on =
       let h = found_is_named None es x on in
-      let m = any_to (λ (k : NamedValue). is_named k h.name.hash h.name.size) ns (sym (are h.name.hash h.name.size) ∙ looked_up es h.name sorted h.on) in
+      let m = any_to (λ (k : NamedValue). is_value_named k h.name.hash h.name.size) ns (sym (are h.name.hash h.name.size) ∙ looked_up es h.name sorted h.on) in
       let same : m.0.hash ≡ x = (bytes_eq-Decides m.0.hash h.name.hash).0 (and_parts _ _ m.1.1).0 ∙ h.is in
       rising_keeps x (map (λ (n : NamedValue). n.hash) ns) (subst (λ (y : List ℕ). IsIn y (map (λ (n : NamedValue). n.hash) ns)) same (in_map (λ (n : NamedValue). n.hash) m.0 ns m.1.0))
 
@@ -179,7 +179,7 @@ hashes_are named ns sorted are = one_rising is_below _ _ below_one_way (all_rise
   back : (x : List ℕ) → IsIn x (rising (map (λ n. n.hash) ns)) → IsIn x (hashes_behind None es)
   back x on =
       let n = from_map (λ (k : NamedValue). k.hash) x ns (from_rising x (map (λ (k : NamedValue). k.hash) ns) on) in
-      let marked = looked_at es n.0 (are n.0.hash n.0.size ∙ any_from (λ (k : NamedValue). is_named k n.0.hash n.0.size) n.0 ns n.1.0 (own_name n.0)) in
+      let marked = looked_at es n.0 (are n.0.hash n.0.size ∙ any_from (λ (k : NamedValue). is_value_named k n.0.hash n.0.size) n.0 ns n.1.0 (own_name n.0)) in
       subst (λ (y : List ℕ). IsIn y (hashes_behind None es)) n.1.1 (there n.0.hash (named_is_found None es n.0 marked))
 
 -- ---- one after the other

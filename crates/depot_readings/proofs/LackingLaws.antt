@@ -23,7 +23,7 @@ use Rattle.depot_values.specs.Values as values
 use Rattle.depot_values.specs.declared.values.Values.{Values}
 use Rattle.depot_readings.specs.AddedValues.{or_else}
 use Rattle.depot_readings.specs.Lacking.{is_held, is_lacked, AreLacked, names_brought}
-use Rattle.depot_readings.specs.Named.{is_named, is_name, names_in, names}
+use Rattle.depot_readings.specs.Named.{is_value_named, is_name, names_in, has_named_value}
 use Rattle.depot_readings.specs.NewRecords.{records_in, vouchers_of}
 use Rattle.depot_readings.specs.declared.news.News.{News}
 use Rattle.depot_readings.specs.declared.news.News.TheVariants as news
@@ -35,10 +35,10 @@ use Rattle.depot_readings.proofs.VoucherRecords.{none_valued}
 
 -- ---- one name more
 
-name_next : (ns : List NamedValue) (i : ℕ) (n : NamedValue) (hash : List ℕ) (size : ℕ) → i < length ns → n ≡ get_or ns i n → is_name (take (i + 1) ns) hash size ≡ (is_name (take i ns) hash size || is_named n hash size)
+name_next : (ns : List NamedValue) (i : ℕ) (n : NamedValue) (hash : List ℕ) (size : ℕ) → i < length ns → n ≡ get_or ns i n → is_name (take (i + 1) ns) hash size ≡ (is_name (take i ns) hash size || is_value_named n hash size)
 name_next ns i n hash size low is =
-    ap (λ (ms : List NamedValue). is_name ms hash size) (take_next ns i n low is) ∙ list_any-append (λ (m : NamedValue). is_named m hash size) (take i ns) (n ∷ [])
-    ∙ ap (λ (b : Bool). is_name (take i ns) hash size || b) (sym (or_none (is_named n hash size)))
+    ap (λ (ms : List NamedValue). is_name ms hash size) (take_next ns i n low is) ∙ list_any-append (λ (m : NamedValue). is_value_named m hash size) (take i ns) (n ∷ [])
+    ∙ ap (λ (b : Bool). is_name (take i ns) hash size || b) (sym (or_none (is_value_named n hash size)))
 
 cond_or : (a b x y : Bool) → cond a x (cond b x y) ≡ cond (b || a) x y
 cond_or true true x y = refl
@@ -47,10 +47,10 @@ cond_or false true x y = refl
 cond_or false false x y = refl
 
 -- the names before are settled, and one more
-pub settled_next : (ns : List NamedValue) (i : ℕ) (n : NamedValue) (hash : List ℕ) (size : ℕ) (x new mid old : Bool) → i < length ns → n ≡ get_or ns i n → new ≡ cond (is_named n hash size) x mid → mid ≡ cond (is_name (take i ns) hash size) x old
+pub settled_next : (ns : List NamedValue) (i : ℕ) (n : NamedValue) (hash : List ℕ) (size : ℕ) (x new mid old : Bool) → i < length ns → n ≡ get_or ns i n → new ≡ cond (is_value_named n hash size) x mid → mid ≡ cond (is_name (take i ns) hash size) x old
     → new ≡ cond (is_name (take (i + 1) ns) hash size) x old
 settled_next ns i n hash size x new mid old low is one before =
-    one ∙ ap (cond (is_named n hash size) x) before ∙ cond_or (is_named n hash size) (is_name (take i ns) hash size) x old ∙ ap (λ (b : Bool). cond b x old) (sym (name_next ns i n hash size low is))
+    one ∙ ap (cond (is_value_named n hash size) x) before ∙ cond_or (is_value_named n hash size) (is_name (take i ns) hash size) x old ∙ ap (λ (b : Bool). cond b x old) (sym (name_next ns i n hash size low is))
 
 -- ---- values behind others
 
@@ -137,20 +137,20 @@ settled false false before false true same still = refl
 
 -- the names of what is lacked, once the names of a growth are settled and what came is let go
 pub lacked_grows : (here : Setting) (J : List Record) (news : News) (kept : Values) (old mid next new : NamedValues) → IsLawful here (J ++ records_in news)
-    → ((hash : List ℕ) → values.held kept hash ≡ value_with hash (held (J ++ records_in news)))
-    → ((hash : List ℕ) (size : ℕ) → names mid hash size ≡ names old hash size)
-    → ((hash : List ℕ) (size : ℕ) → names next hash size ≡ cond (is_name (names_in (records_in news)) hash size) (not (is_held kept hash size)) (names mid hash size))
-    → ((hash : List ℕ) (size : ℕ) → names new hash size ≡ (names next hash size && not (is_name (names_brought (records_in news)) hash size && is_held kept hash size)))
+    → ((hash : List ℕ) → values.held_in kept hash ≡ value_with hash (held (J ++ records_in news)))
+    → ((hash : List ℕ) (size : ℕ) → has_named_value mid hash size ≡ has_named_value old hash size)
+    → ((hash : List ℕ) (size : ℕ) → has_named_value next hash size ≡ cond (is_name (names_in (records_in news)) hash size) (not (is_held kept hash size)) (has_named_value mid hash size))
+    → ((hash : List ℕ) (size : ℕ) → has_named_value new hash size ≡ (has_named_value next hash size && not (is_name (names_brought (records_in news)) hash size && is_held kept hash size)))
     → AreLacked J old → AreLacked (J ++ records_in news) new
 lacked_grows here J news kept old mid next new l are same settles lets a = record { are = each } where
   all : List Record
   all = J ++ records_in news
 
-  each : (hash : List ℕ) (size : ℕ) → names new hash size ≡ is_lacked all hash size
+  each : (hash : List ℕ) (size : ℕ) → has_named_value new hash size ≡ is_lacked all hash size
   each hash size =
       let given : Bool = is_name (names_in (records_in news)) hash size in
       let came : Bool = is_name (names_brought (records_in news)) hash size in
-      let now : is_held kept hash size ≡ holds all hash size = held_by_hash all hash size (values.held kept hash) (are hash) in
+      let now : is_held kept hash size ≡ holds all hash size = held_by_hash all hash size (values.held_in kept hash) (are hash) in
       lets hash size
       ∙ ap (λ (b : Bool). b && not (came && is_held kept hash size)) (settles hash size ∙ ap (cond given (not (is_held kept hash size))) (same hash size ∙ a.are hash size))
       ∙ ap (λ (b : Bool). cond given (not b) (is_lacked J hash size) && not (came && b)) now
@@ -164,7 +164,7 @@ lacked_grows here J news kept old mid next new l are same settles lets a = recor
 -- of these names those that aren't held
 named_filter : (J : List Record) (ns : List NamedValue) (hash : List ℕ) (size : ℕ) → is_name (filter (λ n. not (holds J n.hash n.size)) ns) hash size ≡ (is_name ns hash size && not (holds J hash size))
 named_filter J [] hash size = refl
-named_filter J (n ∷ ns) hash size = by_tests (is_named n hash size) refl (not (holds J n.hash n.size)) refl (named_filter J ns hash size) where
+named_filter J (n ∷ ns) hash size = by_tests (is_value_named n hash size) refl (not (holds J n.hash n.size)) refl (named_filter J ns hash size) where
   rest : List NamedValue
   rest = filter (λ m. not (holds J m.hash m.size)) ns
 
@@ -172,7 +172,7 @@ named_filter J (n ∷ ns) hash size = by_tests (is_named n hash size) refl (not 
   lost true = refl
   lost false = refl
 
-  by_tests : (b : Bool) → is_named n hash size ≡ b → (k : Bool) → not (holds J n.hash n.size) ≡ k → is_name rest hash size ≡ (is_name ns hash size && not (holds J hash size))
+  by_tests : (b : Bool) → is_value_named n hash size ≡ b → (k : Bool) → not (holds J n.hash n.size) ≡ k → is_name rest hash size ≡ (is_name ns hash size && not (holds J hash size))
       → is_name (cond k (n ∷ rest) rest) hash size ≡ ((b || is_name ns hash size) && not (holds J hash size))
   by_tests true is true lacks more = rw is (sym (ap (λ (m : NamedValue). not (holds J m.hash m.size)) (sym (name_is n hash size is)) ∙ lacks))
   by_tests true is false lacks more =
@@ -185,10 +185,10 @@ named_filter J (n ∷ ns) hash size = by_tests (is_named n hash size) refl (not 
 named_flat : (us : List Update) (hash : List ℕ) (size : ℕ) → is_name (flat_map values_named us) hash size ≡ is_wanted us hash size
 unfolding is_wanted
 named_flat [] hash size = refl
-named_flat (u ∷ us) hash size = list_any-append (λ (n : NamedValue). is_named n hash size) (values_named u) (flat_map values_named us) ∙ ap (λ (b : Bool). is_name (values_named u) hash size || b) (named_flat us hash size)
+named_flat (u ∷ us) hash size = list_any-append (λ (n : NamedValue). is_value_named n hash size) (values_named u) (flat_map values_named us) ∙ ap (λ (b : Bool). is_name (values_named u) hash size || b) (named_flat us hash size)
 
 -- the first hashes of what is lacked are the wanted ones
-pub wanted_are : (J : List Record) (named : NamedValues) (ids : List (List ℕ)) → AreLacked J named → ((ns : List NamedValue) → ((hash : List ℕ) (size : ℕ) → names named hash size ≡ is_name ns hash size) → ids ≡ take MOST_WANTED (rising (map (λ n. n.hash) ns))) → ids ≡ wanted_of J
+pub wanted_are : (J : List Record) (named : NamedValues) (ids : List (List ℕ)) → AreLacked J named → ((ns : List NamedValue) → ((hash : List ℕ) (size : ℕ) → has_named_value named hash size ≡ is_name ns hash size) → ids ≡ take MOST_WANTED (rising (map (λ n. n.hash) ns))) → ids ≡ wanted_of J
 unfolding lacking
 wanted_are J named ids a each =
     each (filter (λ n. not (holds J n.hash n.size)) (flat_map values_named (accepted J)))

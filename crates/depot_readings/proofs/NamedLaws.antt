@@ -23,7 +23,7 @@ use Rattle.depot_laws.proofs.Splits.{accepted_push, silent}
 use Rattle.depot_model.specs.Vouching.{records_of}
 use Rattle.depot_base.proofs.GeneralLaws.{or_none, is_eq-nat_cmp, is_eq-then}
 use Rattle.depot_readings.specs.NewRecords.{records_in, vouchers_of}
-use Rattle.depot_readings.specs.Named.{is_named, is_name, names_in_statement, names_in_record, names_in, named_in, Marks, compare_names, is_marked, has_mark, PutsMark, TakesMark, names, AreNamed}
+use Rattle.depot_readings.specs.Named.{is_value_named, is_name, names_in_statement, names_in_record, names_in, values_named_in, ValueMarks, compare_names, is_marked, has_value_mark, PutsMark, TakesMark, has_named_value, AreNamed}
 use Rattle.depot_readings.specs.declared.news.News.{News}
 use Rattle.depot_readings.specs.declared.news.News.TheVariants as news
 use Rattle.depot_readings.specs.declared.named.NamedValues.{NamedValues}
@@ -32,10 +32,10 @@ use Rattle.depot_readings.proofs.VoucherRecords.{none_accepted, none_named}
 -- ---- the order of names
 
 -- two names compare as equal exactly where they are one
-pub same_name : (a b : NamedValue) → is_eq (compare_names a b) ≡ is_named a b.hash b.size
+pub same_name : (a b : NamedValue) → is_eq (compare_names a b) ≡ is_value_named a b.hash b.size
 same_name a b = is_eq-then (slice_cmp nat_cmp a.hash b.hash) (nat_cmp a.size b.size) ∙ ap (λ (t : Bool). t && is_eq (nat_cmp a.size b.size)) (is_eq-slice_cmp a.hash b.hash) ∙ ap (λ (t : Bool). bytes_eq a.hash b.hash && t) (is_eq-nat_cmp a.size b.size)
 
-pub name_is : (a : NamedValue) (hash : List ℕ) (size : ℕ) → is_named a hash size ≡ true → a ≡ record { hash = hash; size = size }
+pub name_is : (a : NamedValue) (hash : List ℕ) (size : ℕ) → is_value_named a hash size ≡ true → a ≡ record { hash = hash; size = size }
 name_is a hash size e =
     let parts = and_parts (bytes_eq a.hash hash) (eqb a.size size) e in
     let one : a.hash ≡ hash = (bytes_eq-Decides a.hash hash).0 parts.0 in
@@ -45,7 +45,7 @@ name_is a hash size e =
 -- ---- marks
 
 -- the map's clause on an insert
-pub puts_mark : (old new : Marks) (name : NamedValue) (mark : Bool) → ((q : NamedValue) → get compare_names new q ≡ cond (is_eq (compare_names name q)) (Some mark) (get compare_names old q)) → PutsMark old new name mark
+pub puts_mark : (old new : ValueMarks) (name : NamedValue) (mark : Bool) → ((q : NamedValue) → get compare_names new q ≡ cond (is_eq (compare_names name q)) (Some mark) (get compare_names old q)) → PutsMark old new name mark
 puts_mark old new name mark updates = record { marks = λ q. updates q ∙ ap (λ (b : Bool). cond b (Some mark) (get compare_names old q)) (same_name name q) }
 
 or_true : (b : Bool) → true ≡ (b || true)
@@ -53,9 +53,9 @@ or_true true = refl
 or_true false = refl
 
 -- a name that is marked is named from now on
-pub marked : (old new : Marks) (name : NamedValue) → PutsMark old new name true → (hash : List ℕ) (size : ℕ)
-    → is_marked (get compare_names new (record { hash = hash; size = size })) ≡ (is_marked (get compare_names old (record { hash = hash; size = size })) || is_named name hash size)
-marked old new name p hash size = ap is_marked (p.marks (record { hash = hash; size = size })) ∙ by_test (is_named name hash size) where
+pub marked : (old new : ValueMarks) (name : NamedValue) → PutsMark old new name true → (hash : List ℕ) (size : ℕ)
+    → is_marked (get compare_names new (record { hash = hash; size = size })) ≡ (is_marked (get compare_names old (record { hash = hash; size = size })) || is_value_named name hash size)
+marked old new name p hash size = ap is_marked (p.marks (record { hash = hash; size = size })) ∙ by_test (is_value_named name hash size) where
   by_test : (b : Bool) → is_marked (cond b (Some true) (get compare_names old (record { hash = hash; size = size }))) ≡ (is_marked (get compare_names old (record { hash = hash; size = size })) || b)
   by_test true = or_true _
   by_test false = or_none _
@@ -65,25 +65,25 @@ none_marked None e = refl
 none_marked (Some b) e = absurd cc
 
 -- a mark that says no, in place of none, names nothing
-pub unmarked : (old new : Marks) (name : NamedValue) → PutsMark old new name false → has_mark old name ≡ false → (hash : List ℕ) (size : ℕ)
+pub unmarked : (old new : ValueMarks) (name : NamedValue) → PutsMark old new name false → has_value_mark old name ≡ false → (hash : List ℕ) (size : ℕ)
     → is_marked (get compare_names new (record { hash = hash; size = size })) ≡ is_marked (get compare_names old (record { hash = hash; size = size }))
-unmarked old new name p free hash size = by_test (is_named name hash size) refl where
-  by_test : (b : Bool) → is_named name hash size ≡ b → is_marked (get compare_names new (record { hash = hash; size = size })) ≡ is_marked (get compare_names old (record { hash = hash; size = size }))
+unmarked old new name p free hash size = by_test (is_value_named name hash size) refl where
+  by_test : (b : Bool) → is_value_named name hash size ≡ b → is_marked (get compare_names new (record { hash = hash; size = size })) ≡ is_marked (get compare_names old (record { hash = hash; size = size }))
   by_test true e =
       ap is_marked (p.marks (record { hash = hash; size = size })) ∙ ap (λ (b : Bool). is_marked (cond b (Some false) (get compare_names old (record { hash = hash; size = size })))) e
       ∙ sym (subst (λ (n : NamedValue). is_marked (get compare_names old n) ≡ false) (name_is name hash size e) (none_marked (get compare_names old name) free))
   by_test false e = ap is_marked (p.marks (record { hash = hash; size = size })) ∙ ap (λ (b : Bool). is_marked (cond b (Some false) (get compare_names old (record { hash = hash; size = size })))) e
 
-pub own_name : (n : NamedValue) → is_named n n.hash n.size ≡ true
+pub own_name : (n : NamedValue) → is_value_named n n.hash n.size ≡ true
 own_name n = and_from (bytes_eq n.hash n.hash) (eqb n.size n.size) ((bytes_eq-Decides n.hash n.hash).1 refl) (eq-eqb n.size n.size refl)
 
 -- the mark that was put in is there
-pub mark_put : (old new : Marks) (name : NamedValue) (mark : Bool) → PutsMark old new name mark → IsTrue (has_mark new name)
+pub mark_put : (old new : ValueMarks) (name : NamedValue) (mark : Bool) → PutsMark old new name mark → IsTrue (has_value_mark new name)
 mark_put old new name mark p = ap is_some (p.marks name ∙ ap (λ (b : Bool). cond b (Some mark) (get compare_names old name)) (own_name name))
 
 -- and what had a mark has one still
-pub mark_stays : (old new : Marks) (name : NamedValue) (mark : Bool) → PutsMark old new name mark → (other : NamedValue) → has_mark old other ≡ true → has_mark new other ≡ true
-mark_stays old new name mark p other had = ap is_some (p.marks other) ∙ by_test (is_named name other.hash other.size) where
+pub mark_stays : (old new : ValueMarks) (name : NamedValue) (mark : Bool) → PutsMark old new name mark → (other : NamedValue) → has_value_mark old other ≡ true → has_value_mark new other ≡ true
+mark_stays old new name mark p other had = ap is_some (p.marks other) ∙ by_test (is_value_named name other.hash other.size) where
   by_test : (b : Bool) → is_some (cond b (Some mark) (get compare_names old other)) ≡ true
   by_test true = refl
   by_test false = had
@@ -97,23 +97,23 @@ and_none true = refl
 and_none false = refl
 
 -- the map's clause on a name that is taken out
-pub takes_out : (old new : Marks) (name : NamedValue) → ((q : NamedValue) → get compare_names new q ≡ cond (is_eq (compare_names name q)) None (get compare_names old q)) → TakesMark old new name
+pub takes_out : (old new : ValueMarks) (name : NamedValue) → ((q : NamedValue) → get compare_names new q ≡ cond (is_eq (compare_names name q)) None (get compare_names old q)) → TakesMark old new name
 takes_out old new name updates = record { marks = λ q. updates q ∙ ap (λ (b : Bool). cond b None (get compare_names old q)) (same_name name q) }
 
 -- a name that was taken out is named no more
-pub taken_out : (old new : Marks) (name : NamedValue) → TakesMark old new name → (hash : List ℕ) (size : ℕ)
-    → is_marked (get compare_names new (record { hash = hash; size = size })) ≡ (is_marked (get compare_names old (record { hash = hash; size = size })) && not (is_named name hash size))
-taken_out old new name t hash size = ap is_marked (t.marks (record { hash = hash; size = size })) ∙ by_test (is_named name hash size) where
+pub taken_out : (old new : ValueMarks) (name : NamedValue) → TakesMark old new name → (hash : List ℕ) (size : ℕ)
+    → is_marked (get compare_names new (record { hash = hash; size = size })) ≡ (is_marked (get compare_names old (record { hash = hash; size = size })) && not (is_value_named name hash size))
+taken_out old new name t hash size = ap is_marked (t.marks (record { hash = hash; size = size })) ∙ by_test (is_value_named name hash size) where
   by_test : (b : Bool) → is_marked (cond b None (get compare_names old (record { hash = hash; size = size }))) ≡ (is_marked (get compare_names old (record { hash = hash; size = size })) && not b)
   by_test true = sym (and_none _)
   by_test false = sym (and_not _)
 
 -- and the others have a mark still
-pub others_marked : (old new : Marks) (name : NamedValue) → TakesMark old new name → (other : NamedValue) → is_named name other.hash other.size ≡ false → has_mark old other ≡ true → has_mark new other ≡ true
+pub others_marked : (old new : ValueMarks) (name : NamedValue) → TakesMark old new name → (other : NamedValue) → is_value_named name other.hash other.size ≡ false → has_value_mark old other ≡ true → has_value_mark new other ≡ true
 others_marked old new name t other apart had = ap is_some (t.marks other) ∙ ap (λ (b : Bool). is_some (cond b None (get compare_names old other))) apart ∙ had
 
 -- the same entries have the same marks
-pub same_marks : (old new : Marks) → IsUnchanged old new → (n : NamedValue) → get compare_names new n ≡ get compare_names old n
+pub same_marks : (old new : ValueMarks) → IsUnchanged old new → (n : NamedValue) → get compare_names new n ≡ get compare_names old n
 same_marks old new same n = rw same refl
 
 -- ---- what new records name
@@ -163,48 +163,48 @@ growth_names J (news.Vouchers xs) hash size =
 
 -- names of these and of those
 is_name-append : (xs ys : List NamedValue) (hash : List ℕ) (size : ℕ) → is_name (xs ++ ys) hash size ≡ (is_name xs hash size || is_name ys hash size)
-is_name-append xs ys hash size = list_any-append (λ (n : NamedValue). is_named n hash size) xs ys
+is_name-append xs ys hash size = list_any-append (λ (n : NamedValue). is_value_named n hash size) xs ys
 
-all_named : (us : List Update) (hash : List ℕ) (size : ℕ) → is_wanted us hash size ≡ is_name (named_in us) hash size
+all_named : (us : List Update) (hash : List ℕ) (size : ℕ) → is_wanted us hash size ≡ is_name (values_named_in us) hash size
 unfolding is_wanted
 all_named [] hash size = refl
-all_named (u ∷ us) hash size = ap (λ (b : Bool). names_value u hash size || b) (all_named us hash size) ∙ sym (is_name-append (values_named u) (named_in us) hash size)
+all_named (u ∷ us) hash size = ap (λ (b : Bool). names_value u hash size || b) (all_named us hash size) ∙ sym (is_name-append (values_named u) (values_named_in us) hash size)
 
-more_wanted : (us more : List Update) (hash : List ℕ) (size : ℕ) → is_wanted (us ++ more) hash size ≡ (is_wanted us hash size || is_name (named_in more) hash size)
+more_wanted : (us more : List Update) (hash : List ℕ) (size : ℕ) → is_wanted (us ++ more) hash size ≡ (is_wanted us hash size || is_name (values_named_in more) hash size)
 unfolding is_wanted
 more_wanted us more hash size = list_any-append (λ (t : Update). names_value t hash size) us more ∙ ap (λ (b : Bool). is_wanted us hash size || b) (all_named more hash size)
 
 -- with the names of more updates, those of all
-pub more_named : (us more : List Update) (given : List NamedValue) (old new : NamedValues) → ((hash : List ℕ) (size : ℕ) → names new hash size ≡ (names old hash size || is_name given hash size)) → given ≡ named_in more → AreNamed us old → AreNamed (us ++ more) new
+pub more_named : (us more : List Update) (given : List NamedValue) (old new : NamedValues) → ((hash : List ℕ) (size : ℕ) → has_named_value new hash size ≡ (has_named_value old hash size || is_name given hash size)) → given ≡ values_named_in more → AreNamed us old → AreNamed (us ++ more) new
 more_named us more given old new adds is n = record {
   are = λ hash size. adds hash size ∙ ap (λ (b : Bool). b || is_name given hash size) (n.are hash size) ∙ ap (λ (ns : List NamedValue). is_wanted us hash size || is_name ns hash size) is ∙ sym (more_wanted us more hash size);
 }
 
 -- of one more
-pub one_named : (us : List Update) (u : Update) (given : List NamedValue) (old new : NamedValues) → ((hash : List ℕ) (size : ℕ) → names new hash size ≡ (names old hash size || is_name given hash size)) → given ≡ values_named u → AreNamed us old → AreNamed (us ++ u ∷ []) new
+pub one_named : (us : List Update) (u : Update) (given : List NamedValue) (old new : NamedValues) → ((hash : List ℕ) (size : ℕ) → has_named_value new hash size ≡ (has_named_value old hash size || is_name given hash size)) → given ≡ values_named u → AreNamed us old → AreNamed (us ++ u ∷ []) new
 one_named us u given old new adds is n = more_named us (u ∷ []) given old new adds (is ∙ sym (append-nil (values_named u))) n
 
 -- of none more
-pub same_named : (us : List Update) (given : List NamedValue) (old new : NamedValues) → ((hash : List ℕ) (size : ℕ) → names new hash size ≡ (names old hash size || is_name given hash size)) → given ≡ [] → AreNamed us old → AreNamed us new
+pub same_named : (us : List Update) (given : List NamedValue) (old new : NamedValues) → ((hash : List ℕ) (size : ℕ) → has_named_value new hash size ≡ (has_named_value old hash size || is_name given hash size)) → given ≡ [] → AreNamed us old → AreNamed us new
 same_named us given old new adds none n = subst (λ (ts : List Update). AreNamed ts new) (append-nil us) (more_named us [] given old new adds none n)
 
 -- where the same are named
-pub still_named : (us : List Update) (old new : NamedValues) → ((hash : List ℕ) (size : ℕ) → names new hash size ≡ names old hash size) → AreNamed us old → AreNamed us new
+pub still_named : (us : List Update) (old new : NamedValues) → ((hash : List ℕ) (size : ℕ) → has_named_value new hash size ≡ has_named_value old hash size) → AreNamed us old → AreNamed us new
 still_named us old new same n = record { are = λ hash size. same hash size ∙ n.are hash size }
 
 -- nothing is named by no updates
-pub none_are_named : (named : NamedValues) → ((hash : List ℕ) (size : ℕ) → names named hash size ≡ false) → AreNamed [] named
+pub none_are_named : (named : NamedValues) → ((hash : List ℕ) (size : ℕ) → has_named_value named hash size ≡ false) → AreNamed [] named
 unfolding is_wanted
 none_are_named named none = record { are = none }
 
 -- a growth names what the updates that it accepts name
-statement_brings : (s : Signed) → names_in_statement s.statement ≡ named_in (update_in s.statement ++ [])
+statement_brings : (s : Signed) → names_in_statement s.statement ≡ values_named_in (update_in s.statement ++ [])
 statement_brings s = by_kind s.statement where
-  by_kind : (x : Statement) → names_in_statement x ≡ named_in (update_in x ++ [])
+  by_kind : (x : Statement) → names_in_statement x ≡ values_named_in (update_in x ++ [])
   by_kind (statements.Update u) = sym (append-nil (values_named u))
   by_kind (statements.Voucher v) = refl
 
-pub growth_brings : (news : News) → names_in (records_in news) ≡ named_in (accepted (records_in news))
+pub growth_brings : (news : News) → names_in (records_in news) ≡ values_named_in (accepted (records_in news))
 growth_brings news.Nothing = refl
 growth_brings (news.Birth node roster) = refl
 growth_brings (news.Put u values id parents) = sym (append-nil (values_named u))
@@ -212,11 +212,11 @@ growth_brings (news.Foreign s id parents) = statement_brings s
 growth_brings (news.Convicting p s id parents) = statement_brings s
 growth_brings (news.Conviction p) = refl
 growth_brings (news.Held value h) = refl
-growth_brings (news.Vouchers xs) = none_named (vouchers_of xs) ∙ ap named_in (sym (none_accepted (vouchers_of xs)))
+growth_brings (news.Vouchers xs) = none_named (vouchers_of xs) ∙ ap values_named_in (sym (none_accepted (vouchers_of xs)))
 
 -- what is named grows with the records
-pub named_grows : (J : List Record) (news : News) (old mid new : NamedValues) → ((hash : List ℕ) (size : ℕ) → names mid hash size ≡ names old hash size)
-    → ((hash : List ℕ) (size : ℕ) → names new hash size ≡ (names mid hash size || is_name (names_in (records_in news)) hash size)) → AreNamed (accepted J) old → AreNamed (accepted (J ++ records_in news)) new
+pub named_grows : (J : List Record) (news : News) (old mid new : NamedValues) → ((hash : List ℕ) (size : ℕ) → has_named_value mid hash size ≡ has_named_value old hash size)
+    → ((hash : List ℕ) (size : ℕ) → has_named_value new hash size ≡ (has_named_value mid hash size || is_name (names_in (records_in news)) hash size)) → AreNamed (accepted J) old → AreNamed (accepted (J ++ records_in news)) new
 named_grows J news old mid new same more n = record {
   are = λ hash size. more hash size ∙ ap (λ (b : Bool). b || is_name (names_in (records_in news)) hash size) (same hash size ∙ n.are hash size) ∙ sym (growth_names J news hash size);
 }

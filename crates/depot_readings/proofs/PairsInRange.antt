@@ -16,7 +16,7 @@ use Rattle.depot_base.proofs.GeneralLaws.{same_bytes}
 use Rattle.depot_model.specs.Contents.{NamedValue}
 use Rattle.depot_model.specs.Lists.{IsIn}
 use Rattle.depot_model.proofs.Members.{from_filter, in_filter}
-use Rattle.depot_readings.specs.Named.{compare_names, names}
+use Rattle.depot_readings.specs.Named.{compare_names, has_named_value}
 use Rattle.depot_readings.specs.declared.named.NamedValues.{NamedValues}
 use Rattle.depot_readings.proofs.HashesOfNames.{Entries, looked_at, looked_up}
 
@@ -101,22 +101,22 @@ from_sizes ((k, mark) ∷ es) size on = by_mark mark on (from_sizes es size) whe
   by_mark false there rest = let n = rest there in (n.0, (inr n.1.0, n.1.1))
 
 -- a number that is named with the hash is one of those between
-pub named_between : (named : NamedValues) (hash : List ℕ) (size : ℕ) → size ≤ 4294967295 → names named hash size ≡ true → IsIn size (sizes_in (names_between hash named.marks.entries))
-unfolding names
+pub named_between : (named : NamedValues) (hash : List ℕ) (size : ℕ) → size ≤ 4294967295 → has_named_value named hash size ≡ true → IsIn size (sizes_in (names_between hash named.marks.entries))
+unfolding has_named_value
 named_between named hash size low e =
     let n : NamedValue = record { hash = hash; size = size } in
     in_sizes (names_between hash named.marks.entries) n (in_filter (λ x. range_contains compare_names (Included (least_of hash)) (Included (greatest_of hash)) x.0) (n, true) named.marks.entries (looked_at named.marks.entries n e) (is_between hash size low))
 
 -- and each of these is named with it
-pub between_named : (named : NamedValues) (hash : List ℕ) (size : ℕ) → IsStrictlySortedBy compare_names (keys_of named.marks.entries) → IsIn size (sizes_in (names_between hash named.marks.entries)) → names named hash size ≡ true
-unfolding names
+pub between_named : (named : NamedValues) (hash : List ℕ) (size : ℕ) → IsStrictlySortedBy compare_names (keys_of named.marks.entries) → IsIn size (sizes_in (names_between hash named.marks.entries)) → has_named_value named hash size ≡ true
+unfolding has_named_value
 between_named named hash size sorted on =
     let es : Entries = named.marks.entries in
     let n = from_sizes (names_between hash es) size on in
     let inside = from_filter (λ (x : NamedValue × Bool). range_contains compare_names (Included (least_of hash)) (Included (greatest_of hash)) x.0) (n.0, true) es n.1.0 in
     let same : hash ≡ n.0.hash = between_is hash n.0 inside.1 in
     let is : n.0 ≡ record { hash = hash; size = size } = ap (λ (h : List ℕ). record { hash = h; size = n.0.size }) (sym same) ∙ ap (λ (k : ℕ). record { hash = hash; size = k }) n.1.1 in
-    subst (λ (k : NamedValue). names named k.hash k.size ≡ true) is (looked_up es n.0 sorted inside.0)
+    subst (λ (k : NamedValue). has_named_value named k.hash k.size ≡ true) is (looked_up es n.0 sorted inside.0)
 
 -- ---- one after the other
 

@@ -1,11 +1,8 @@
 -- The limit that a growth would pass, from what is counted of a journal.
-use Rattle.std.proofs.Common.{◌≡◌, ℕ, ◌+◌, ◌*◌, ◌≤◌, ◌^◌, eqb, eq-eqb, Bool, true, false, List, [], ◌∷◌, ◌++◌, length, Option, Some, None, Ok, ◌<◌, refl, sym, ◌∙◌, arith, inl, inr}
-use Rattle.std.proofs.lemmas.Bool.{both_ways, le-ltb, lt-ltb}
-use Rattle.std.proofs.lemmas.Bool.Decides.{nat_tests}
+use Rattle.std.proofs.Common.{◌≡◌, ℕ, ◌+◌, ◌*◌, ◌≤◌, ◌^◌, List, [], ◌∷◌, ◌++◌, length, Option, None, Ok, refl, sym, ◌∙◌, arith, inl, inr}
 use Rattle.std.proofs.lemmas.List.Sums.{sum_by-cons}
 use Rattle.std.specs.Global.{Vec}
 use Rattle.std.specs.List.{AllByRecursion}
-use Rattle.depot_base.specs.declared.check.FullOf.TheVariants as full_of
 use Rattle.depot_base.specs.declared.proof.Proof.{Proof}
 use Rattle.depot_base.specs.declared.record.Record.{Record}
 use Rattle.depot_base.specs.declared.record.Record.TheVariants.{Birth, OwnPut, Foreign, Conviction, Held}
@@ -22,7 +19,7 @@ use Rattle.depot_model.specs.Room.{foreign_leaves, takes_update, leaves_counted,
 use Rattle.depot_model.specs.Vouching.{records_of}
 use Rattle.depot_laws.proofs.Counts.{leaves_behind, taken_count}
 use Rattle.depot_laws.proofs.NewVouchers.{takes_none}
-use Rattle.depot_readings.specs.NewRecords.{bytes_of, records_in, vouchers_of, IsGrowth, AreNew}
+use Rattle.depot_readings.specs.NewRecords.{taken_bytes, records_in, vouchers_of, IsGrowth, AreNew}
 use Rattle.depot_readings.specs.LeavesWith.{leaves_then, leaves_with}
 use Rattle.depot_readings.specs.declared.news.News.{News}
 use Rattle.depot_readings.specs.declared.news.News.TheVariants as news
@@ -71,15 +68,10 @@ unfolding full_with
 full_is_limit me J [] records bytes leaves some long large counted = absurd (some refl)
 full_is_limit me J (r ∷ rs) records bytes leaves some long large counted = rw (← long, ← large, ← counted) refl
 
--- and none pass no limit
-pub full_with_none : (me : ℕ) (J new : List Record) → length new ≡ 0 → full_by me J new ≡ None
-full_with_none me J [] none = refl
-full_with_none me J (r ∷ rs) none = absurd cc
-
 -- ---- how large a growth may be
 
 -- a record takes at most 1,096,365 bytes
-bytes_short : (rs : List Record) → AllByRecursion IsRecord rs → bytes_of rs ≤ 1096365 * length rs
+bytes_short : (rs : List Record) → AllByRecursion IsRecord rs → taken_bytes rs ≤ 1096365 * length rs
 bytes_short [] fit = omega arith
 bytes_short (r ∷ rs) fit = let rest = bytes_short rs fit.1 in omega (arith, sum_by-cons (λ (x : Record). 5 + length (text_of_record x)) r rs, record_short r fit.0, rest)
 
@@ -89,27 +81,9 @@ growth_is_small news bytes texts g = let short = bytes_short (records_in news) g
 
 -- ---- the test whether there is anything
 
-pub is_none : (n : ℕ) (test : Bool) → test ≡ eqb n 0 → test ≡ true → n ≡ 0
-is_none n test is holds = grind (arith, nat_tests)
-
-pub isnt_none : (n : ℕ) (test : Bool) → test ≡ eqb n 0 → test ≡ false → n ≡ 0 → ⊥
-isnt_none n test is fails none = both_ways (eqb n 0) (sym is ∙ fails) (eq-eqb n 0 none)
-
 -- ---- the limits one by one
 
-pub limit_bytes : (records bytes leaves records_after bytes_after : ℕ) (after : Option ℕ) → records_after ≤ 131072 → 2 ^ 30 < bytes_after → limit_passed records bytes leaves records_after bytes_after after ≡ Some (record { what = full_of.Bytes; number = bytes })
-limit_bytes records bytes leaves records_after bytes_after after few many = rw (le-ltb _ _ few, lt-ltb _ _ many) refl
-
-pub limit_writers : (records bytes leaves records_after bytes_after after : ℕ) (given : Option ℕ) → given ≡ Some after → records_after ≤ 131072 → bytes_after ≤ 2 ^ 30 → 4096 < after → limit_passed records bytes leaves records_after bytes_after given ≡ Some (record { what = full_of.Writers; number = leaves })
-limit_writers records bytes leaves records_after bytes_after after given is few small many = rw (is, le-ltb _ _ few, le-ltb _ _ small, lt-ltb _ _ many) refl
-
-pub limit_none : (records bytes leaves records_after bytes_after after : ℕ) (given : Option ℕ) → given ≡ Some after → records_after ≤ 131072 → bytes_after ≤ 2 ^ 30 → after ≤ 4096 → limit_passed records bytes leaves records_after bytes_after given ≡ None
-limit_none records bytes leaves records_after bytes_after after given is few small short = rw (is, le-ltb _ _ few, le-ltb _ _ small, le-ltb _ _ short) refl
-
-pub limit_none_taken : (records bytes leaves records_after bytes_after : ℕ) (given : Option ℕ) → given ≡ None → records_after ≤ 131072 → bytes_after ≤ 2 ^ 30 → limit_passed records bytes leaves records_after bytes_after given ≡ None
-limit_none_taken records bytes leaves records_after bytes_after given is few small = rw (is, le-ltb _ _ few, le-ltb _ _ small) refl
-
 -- and no fewer than those of its gates and lengths
-pub bytes_least : (rs : List Record) → 5 * length rs ≤ bytes_of rs
+pub bytes_least : (rs : List Record) → 5 * length rs ≤ taken_bytes rs
 bytes_least [] = omega arith
 bytes_least (r ∷ rs) = omega (arith, bytes_least rs, sum_by-cons (λ (x : Record). 5 + length (text_of_record x)) r rs)

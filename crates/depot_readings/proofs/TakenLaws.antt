@@ -1,6 +1,5 @@
 -- What a take adds to a journal, in a state.
-use Rattle.std.proofs.Common.{◌≡◌, ℕ, List, [], ◌∷◌, ◌++◌, refl, sym, ap, subst, ◌∙◌, append_assoc}
-use Rattle.std.specs.Global.{Vec}
+use Rattle.std.proofs.Common.{◌≡◌, List, [], ◌∷◌, ◌++◌, refl, sym, ap, subst, ◌∙◌, append_assoc}
 use Rattle.std.specs.List.{AllByRecursion}
 use Rattle.std.proofs.lemmas.List.{append-nil}
 use Rattle.depot_base.specs.declared.key.RosterEntry.{RosterEntry}
@@ -22,21 +21,11 @@ pub none_taken : {S : Type 0} (J new : List Record) (v : View S) → new ≡ [] 
 none_taken J new v none is = subst (λ (K : List Record). IsStateOf K v) (sym (ap (λ (rs : List Record). J ++ rs) none ∙ append-nil J)) is
 
 -- own vouchers are none of what a take adds
-no_vouchers : (listed : List RosterEntry) (xs : List NewVoucher) → AllByRecursion (IsTaken listed) (records_of (vouchers_of xs)) → records_of (vouchers_of xs) ≡ []
-no_vouchers listed [] all = refl
-no_vouchers listed (x ∷ xs) all = absurd all.0
-
--- nor is anything but statements of others and convictions
-pub nothing_taken : (listed : List RosterEntry) (n : News) → ((s : Signed) (id : List ℕ) (parents : Vec ℕ) → n ≡ news.Foreign s id parents → ⊥) → ((p : Proof) (s : Signed) (id : List ℕ) (parents : Vec ℕ) → n ≡ news.Convicting p s id parents → ⊥)
-    → ((p : Proof) → n ≡ news.Conviction p → ⊥) → AllByRecursion (IsTaken listed) (records_in n) → records_in n ≡ []
-nothing_taken listed news.Nothing h k l all = refl
-nothing_taken listed (news.Birth node roster) h k l all = absurd all.0
-nothing_taken listed (news.Put u values id parents) h k l all = absurd all.0
-nothing_taken listed (news.Foreign s id parents) h k l all = absurd (h s id parents refl)
-nothing_taken listed (news.Convicting p s id parents) h k l all = absurd (k p s id parents refl)
-nothing_taken listed (news.Conviction p) h k l all = absurd (l p refl)
-nothing_taken listed (news.Held value hash) h k l all = absurd all.0
-nothing_taken listed (news.Vouchers xs) h k l all = no_vouchers listed xs all
+pub no_vouchers : (listed : List RosterEntry) (n : News) (xs : List NewVoucher) → n ≡ news.Vouchers xs → AllByRecursion (IsTaken listed) (records_in n) → records_in n ≡ []
+no_vouchers listed n xs is all = subst (λ (m : News). AllByRecursion (IsTaken listed) (records_in m) → records_in m ≡ []) (sym is) (by_list xs) all where
+  by_list : (ys : List NewVoucher) → AllByRecursion (IsTaken listed) (records_of (vouchers_of ys)) → records_of (vouchers_of ys) ≡ []
+  by_list [] all = refl
+  by_list (y ∷ ys) all = absurd all.0
 
 -- a conviction in front of a statement, which the state took first
 pub both_taken : {S : Type 0} (J : List Record) (p : Proof) (s : Signed) (v : View S) → IsStateOf ((J ++ Foreign s ∷ []) ++ Conviction p ∷ []) v → IsStateOf (J ++ Conviction p ∷ Foreign s ∷ []) v

@@ -9,22 +9,22 @@ use Rattle.depot_model.specs.Records.{journal_bytes}
 use Rattle.depot_model.specs.Room.{foreign_leaves, full_by}
 use Rattle.depot_readings.specs.LeavesWith.{leaves_with}
 use Rattle.depot_readings.specs.NewRecords.{AreNew}
-use Rattle.depot_readings.specs.declared.counts.Counts.{Counts}
+use Rattle.depot_readings.specs.declared.counts.JournalCounts.{JournalCounts}
 
 -- The counts are those of these records, in the journal of a node of this number.
-pub record AreCountsOf (me : ℕ) (J : List Record) (t : Counts) : Type 0 where
+pub record AreCountsOf (me : ℕ) (J : List Record) (t : JournalCounts) : Type 0 where
   pub records : t.records ≡ length J
   pub bytes : t.bytes ≡ journal_bytes J
   pub leaves : t.leaves ≡ length (foreign_leaves me J)
 
 -- Of whichever lawful journal these are the counts, to which the records are new and with which there are so many leaves then: this is the
 -- limit that it would pass with them.
-abbrev pub LimitsNew : Counts → List Record → Option ℕ → Option Full → Type 0
+abbrev pub LimitsNew : JournalCounts → List Record → Option ℕ → Option Full → Type 0
 LimitsNew t new leaves_then limit = (here : Setting) (J : List Record) → IsLawful here J → AreNew here J new → AreCountsOf here.me J t
     → leaves_then ≡ leaves_with (accepted J) t.leaves new → limit ≡ full_by here.me J new
 
 -- Of whichever journal these were the counts, which is lawful with the records behind and has so many leaves then: now these are its counts
 -- with them.
-abbrev pub CountsMore : Counts → List Record → Option ℕ → Counts → Type 0
+abbrev pub CountsMore : JournalCounts → List Record → Option ℕ → JournalCounts → Type 0
 CountsMore t new leaves_then then = (here : Setting) (J : List Record) → IsLawful here (J ++ new) → AreCountsOf here.me J t
     → leaves_then ≡ leaves_with (accepted J) t.leaves new → AreCountsOf here.me (J ++ new) then

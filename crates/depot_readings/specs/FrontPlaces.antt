@@ -8,7 +8,7 @@ use Rattle.depot_base.specs.declared.update.NamedValue.{NamedValue}
 use Rattle.depot_model.specs.Journal.{accused, proof_by}
 use Rattle.depot_model.specs.Lists.{IsIn, is_among}
 use Rattle.depot_model.specs.Vouching.{own_voucher_by}
-use Rattle.depot_readings.specs.Named.{HasRooms, names}
+use Rattle.depot_readings.specs.Named.{HasRooms, has_named_value}
 use Rattle.depot_readings.specs.NewRecords.{records_in}
 use Rattle.depot_readings.specs.declared.news.News.{News}
 use Rattle.depot_readings.specs.declared.front_places.ConvictedAt.{ConvictedAt}
@@ -52,7 +52,7 @@ pub record AddsPlaces (J : List Record) (id : List ℕ) (old new : List ℕ) : T
 -- These are the convictions by these records, and the ids that own vouchers among them name, each with the vouchers' places.
 pub record AreFrontPlaces (J : List Record) (front : FrontPlaces) : Type 0 where
   pub convictions : front.convictions.items ≡ convictions_from 0 J
-  pub vouchers : (id : List ℕ) (place : ℕ) → names front.vouchers id place ≡ vouches_at J id place
+  pub vouchers : (id : List ℕ) (place : ℕ) → has_named_value front.vouchers id place ≡ vouches_at J id place
 
 -- what a growth brings of it behind so many records
 pub record AreNewPlaces (count : ℕ) (news : News) (new : NewPlaces) : Type 0 where

@@ -8,16 +8,16 @@ use Rattle.depot_base.specs.declared.record.Record.{Record}
 use Rattle.depot_base.specs.declared.record.Record.TheVariants.{Held}
 use Rattle.depot_model.specs.Contents.{NamedValue}
 use Rattle.depot_model.specs.Journal.{accepted, holds, is_wanted}
-use Rattle.depot_values.specs.Values.{held}
+use Rattle.depot_values.specs.Values.{held_in}
 use Rattle.depot_values.specs.declared.values.Values.{Values}
-use Rattle.depot_readings.specs.Named.{names}
+use Rattle.depot_readings.specs.Named.{has_named_value}
 use Rattle.depot_readings.specs.declared.named.NamedValues.{NamedValues}
 
 -- ---- what is kept
 
 -- a value of this hash and of so many bytes is among the values
 abbrev pub is_held : Values → List ℕ → ℕ → Bool
-is_held values hash size = option_map_or (λ v. length v == size) (held values hash) false
+is_held values hash size = option_map_or (λ v. length v == size) (held_in values hash) false
 
 -- an accepted update names it, and it isn't held
 abbrev pub is_lacked : List Record → List ℕ → ℕ → Bool
@@ -25,17 +25,17 @@ is_lacked J hash size = is_wanted (accepted J) hash size && not (holds J hash si
 
 -- the names are those of the values that are named and not held
 pub record AreLacked (J : List Record) (lacking : NamedValues) : Type 0 where
-  pub are : (hash : List ℕ) (size : ℕ) → names lacking hash size ≡ is_lacked J hash size
+  pub are : (hash : List ℕ) (size : ℕ) → has_named_value lacking hash size ≡ is_lacked J hash size
 
 -- ---- values that come
 
 -- the name of a value
-abbrev pub name_of : List ℕ → NamedValue
-name_of v = record { hash = sha256 v; size = length v }
+abbrev pub value_name : List ℕ → NamedValue
+value_name v = record { hash = sha256 v; size = length v }
 
 -- the names of the values of others that new records bring
 abbrev pub name_brought : Record → List NamedValue
-name_brought (Held v) = name_of v ∷ []
+name_brought (Held v) = value_name v ∷ []
 name_brought r = []
 
 abbrev pub names_brought : List Record → List NamedValue

@@ -19,12 +19,12 @@ use Rattle.depot_readings.specs.declared.named.NamedValues.{NamedValues}
 -- ---- names
 
 -- this is the value of this hash and of so many bytes
-abbrev pub is_named : NamedValue → List ℕ → ℕ → Bool
-is_named n hash size = bytes_eq n.hash hash && (n.size == size)
+abbrev pub is_value_named : NamedValue → List ℕ → ℕ → Bool
+is_value_named n hash size = bytes_eq n.hash hash && (n.size == size)
 
 -- one of these names is that of the value
 abbrev pub is_name : List NamedValue → List ℕ → ℕ → Bool
-is_name given hash size = list_any (λ n. is_named n hash size) given
+is_name given hash size = list_any (λ n. is_value_named n hash size) given
 
 abbrev pub names_in_statement : Statement → List NamedValue
 names_in_statement (statements.Update u) = values_named u
@@ -42,13 +42,13 @@ names_in (r ∷ []) = names_in_record r
 names_in (p ∷ r ∷ rs) = names_in_record r
 
 -- the values that updates name
-abbrev pub named_in : List Update → List NamedValue
-named_in us = flat_map values_named us
+abbrev pub values_named_in : List Update → List NamedValue
+values_named_in us = flat_map values_named us
 
 -- ---- marks
 
-abbrev pub Marks : Type 0
-Marks = BTreeMap NamedValue Bool
+abbrev pub ValueMarks : Type 0
+ValueMarks = BTreeMap NamedValue Bool
 
 -- the order of names
 abbrev pub compare_names : NamedValue → NamedValue → Ordering
@@ -58,26 +58,26 @@ abbrev pub is_marked : Option Bool → Bool
 is_marked None = false
 is_marked (Some mark) = mark
 
-abbrev pub has_mark : Marks → NamedValue → Bool
-has_mark marks n = is_some (get compare_names marks n)
+abbrev pub has_value_mark : ValueMarks → NamedValue → Bool
+has_value_mark marks n = is_some (get compare_names marks n)
 
 -- the mark of this name is this one, and the others stay
-pub record PutsMark (old new : Marks) (name : NamedValue) (mark : Bool) : Type 0 where
-  pub marks : (other : NamedValue) → get compare_names new other ≡ (if is_named name other.hash other.size then Some mark else get compare_names old other)
+pub record PutsMark (old new : ValueMarks) (name : NamedValue) (mark : Bool) : Type 0 where
+  pub marks : (other : NamedValue) → get compare_names new other ≡ (if is_value_named name other.hash other.size then Some mark else get compare_names old other)
 
 -- this name has no mark, and the others keep theirs
-pub record TakesMark (old new : Marks) (name : NamedValue) : Type 0 where
-  pub marks : (other : NamedValue) → get compare_names new other ≡ (if is_named name other.hash other.size then None else get compare_names old other)
+pub record TakesMark (old new : ValueMarks) (name : NamedValue) : Type 0 where
+  pub marks : (other : NamedValue) → get compare_names new other ≡ (if is_value_named name other.hash other.size then None else get compare_names old other)
 
 -- ---- what is seen
 
 -- a value of this hash and of so many bytes is named
-unfoldable pub names : NamedValues → List ℕ → ℕ → Bool
-names named hash size = is_marked (get compare_names named.marks (record { hash = hash; size = size }))
+unfoldable pub has_named_value : NamedValues → List ℕ → ℕ → Bool
+has_named_value named hash size = is_marked (get compare_names named.marks (record { hash = hash; size = size }))
 
 -- there is room for a name
 unfoldable pub has_room : NamedValues → NamedValue → Bool
-has_room named n = has_mark named.marks n
+has_room named n = has_value_mark named.marks n
 
 -- and for each of these
 abbrev pub HasRooms : NamedValues → List NamedValue → Type 0
@@ -85,4 +85,4 @@ HasRooms named given = (n : NamedValue) → IsIn n given → has_room named n �
 
 -- the values that these updates name, and no others, are named
 pub record AreNamed (us : List Update) (named : NamedValues) : Type 0 where
-  pub are : (hash : List ℕ) (size : ℕ) → names named hash size ≡ is_wanted us hash size
+  pub are : (hash : List ℕ) (size : ℕ) → has_named_value named hash size ≡ is_wanted us hash size

@@ -16,5 +16,5 @@ abbrev pub standing : Verifies → Known → Setting
 standing verifies v = record { verifies = verifies; me = v.me; listed = v.listed }
 
 -- the same node, of which these records were read
-abbrev pub with_records : Known → List Record → Known
-with_records v J = record { me = v.me; listed = v.listed; records = J }
+abbrev pub with_more_records : Known → List Record → Known
+with_more_records v J = record { me = v.me; listed = v.listed; records = J }

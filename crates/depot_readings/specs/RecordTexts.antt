@@ -2,13 +2,7 @@
 use Rattle.std.specs.Prelude.{◌≡◌, ℕ, List, [], ◌∷◌}
 use Rattle.depot_base.specs.declared.record.Record.{Record}
 use Rattle.depot_base.specs.declared.record.Record.TheVariants.{Foreign}
-use Rattle.depot_model.specs.Records.{IsRecord, text_of_record}
 use Rattle.depot_model.specs.Texts.{text_of_signed}
-
--- the text is that of this record
-pub record IsTextOf (r : Record) (text : List ℕ) : Type 0 where
-  pub fits : IsRecord r
-  pub is : text ≡ text_of_record r
 
 -- ---- a statement of another at the end
 

@@ -13,7 +13,7 @@ use depot_base::{Full, FullOf};
 
 /// How much a journal takes.
 #[derive(Clone, Copy, Debug, PartialEq, Eq)]
-pub struct Counts {
+pub struct JournalCounts {
     /// Its records.
     pub records: u32,
     /// Its bytes, with the gate in front.
@@ -22,7 +22,7 @@ pub struct Counts {
     pub leaves: u32,
 }
 
-impl Counts {
+impl JournalCounts {
     /// The first limit, of records, bytes and leaves of other writers, that a journal of these counts would pass with a growth, with the
     /// number now; none where there is room for it. With the growth there are so many leaves of other writers, where it takes an update of
     /// another: of a lawful journal to which the growth is new, as `leaves_with` counts them. It takes no memory.

@@ -1,14 +1,13 @@
 //! Where the records stand that a bundle has in front: convictions, and own vouchers by the ids that they name.
-ghost use Rattle.std.specs.Prelude.{◌≡◌, ◌<◌, ◌≤◌, ◌+◌, ◌^◌, ◌++◌, ◌||◌, ◌⊎◌, ℕ, List, [], true, length, map, OnOk, IfOk};
-ghost use Rattle.std.specs.List.{flat_map};
+ghost use Rattle.std.specs.Prelude.{◌≡◌, ◌<◌, ◌≤◌, ◌+◌, ◌^◌, ◌++◌, ◌||◌, ◌⊎◌, ℕ, List, [], true, length, OnOk, IfOk};
 ghost use Rattle.std.specs.Option.{option_to_list};
 ghost use Rattle.depot_base.specs.declared.limits.TheConstants.{MOST_RECORDS};
 ghost use Rattle.depot_base.specs.declared.record.Record.{Record};
-ghost use Rattle.depot_model.specs.Journal.{accused, proof_by};
+ghost use Rattle.depot_model.specs.Journal.{accused};
 ghost use Rattle.depot_model.specs.Lists.{IsIn};
-ghost use Rattle.depot_model.specs.Vouching.{own_voucher_by, records_of};
+ghost use Rattle.depot_model.specs.Vouching.{records_of};
 ghost use Rattle.depot_readings.specs.FrontPlaces.{AreFrontPlaces, AreNewPlaces, HasRoomFor, convictions_from, pairs_from, with_place};
-ghost use Rattle.depot_readings.specs.Named.{is_name, names};
+ghost use Rattle.depot_readings.specs.Named.{is_name, has_named_value};
 ghost use Rattle.depot_readings.specs.NewRecords.{records_in, vouchers_of};
 
 use crate::named::NamedValues;
@@ -67,7 +66,7 @@ impl FrontPlaces {
     pub(crate) fn add(&mut self, new: &NewPlaces)
         requires { HasRoomFor self.old new.now }
         ensures convictions { self.new.convictions.items ≡ self.old.convictions.items ++ option_to_list new.now.conviction }
-        ensures vouchers { (id : List ℕ) (place : ℕ) → names self.new.vouchers id place ≡ (names self.old.vouchers id place || is_name new.now.vouchers.items id place) }
+        ensures vouchers { (id : List ℕ) (place : ℕ) → has_named_value self.new.vouchers id place ≡ (has_named_value self.old.vouchers id place || is_name new.now.vouchers.items id place) }
     {
         if let Some(conviction) = new.conviction {
             self.convictions.push_reserved(conviction);
@@ -157,8 +156,8 @@ impl NamedValues {
     /// Adds the numbers that are named with a hash.
     pub(crate) fn push_sizes(&self, hash: &Hash32, found: &mut Vec<u32>) -> Result<(), Memory>
         ensures kept { OnOk result ((size : ℕ) → IsIn size found.old.items → IsIn size found.new.items) }
-        ensures all { OnOk result ((size : ℕ) → size < 2 ^ 32 → names self.now hash.now size ≡ true → IsIn size found.new.items) }
-        ensures only { OnOk result ((size : ℕ) → IsIn size found.new.items → IsIn size found.old.items ⊎ (names self.now hash.now size ≡ true)) }
+        ensures all { OnOk result ((size : ℕ) → size < 2 ^ 32 → has_named_value self.now hash.now size ≡ true → IsIn size found.new.items) }
+        ensures only { OnOk result ((size : ℕ) → IsIn size found.new.items → IsIn size found.old.items ⊎ (has_named_value self.now hash.now size ≡ true)) }
     {
         let least = NamedValue {
             hash: *hash,

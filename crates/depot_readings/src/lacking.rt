@@ -1,11 +1,11 @@
 //! The values that accepted updates name and that aren't held in their length.
-ghost use Rattle.std.specs.Prelude.{◌≡◌, ◌&&◌, ◌++◌, ◌∷◌, [], not, ℕ, List, IfOk, OnOk, false, true, take, map, if◌then◌else◌};
+ghost use Rattle.std.specs.Prelude.{◌≡◌, ◌&&◌, not, ℕ, List, IfOk, OnOk, false, true, take, map, if◌then◌else◌};
 ghost use Rattle.std.specs.Option.{option_to_list};
 ghost use Rattle.depot_base.specs.declared.limits.TheConstants.{MOST_WANTED};
 ghost use Rattle.depot_base.specs.declared.update.NamedValue.{NamedValue};
 ghost use Rattle.depot_model.specs.Vouching.{rising};
 ghost use Rattle.depot_readings.specs.Lacking.{is_held, is_next, name_brought, names_brought};
-ghost use Rattle.depot_readings.specs.Named.{is_named, is_name, names, has_room, HasRooms};
+ghost use Rattle.depot_readings.specs.Named.{is_value_named, is_name, has_named_value, has_room, HasRooms};
 ghost use Rattle.depot_readings.specs.NewRecords.{records_in, AreHashed};
 
 use crate::named::NamedValues;
@@ -38,7 +38,7 @@ impl NamedValues {
     /// Of a name that memory was found for: puts it in where its value isn't held, and takes it out where it is. It takes none.
     fn settle_one(&mut self, values: &Values, name: NamedValue)
         requires { is_held values.now name.hash name.size ≡ false → has_room self.old name ≡ true }
-        ensures named { (hash : List ℕ) (size : ℕ) → names self.new hash size ≡ (if is_named name hash size then not (is_held values.now hash size) else names self.old hash size) }
+        ensures named { (hash : List ℕ) (size : ℕ) → has_named_value self.new hash size ≡ (if is_value_named name hash size then not (is_held values.now hash size) else has_named_value self.old hash size) }
         ensures rooms { (other : NamedValue) → is_held values.now other.hash other.size ≡ false → has_room self.old other ≡ true → has_room self.new other ≡ true }
     {
         if is_held(values, &name) {
@@ -52,7 +52,7 @@ impl NamedValues {
     /// none.
     pub(crate) fn settle(&mut self, values: &Values, given: &[NamedValue])
         requires { HasRooms self.old given.now }
-        ensures { (hash : List ℕ) (size : ℕ) → names self.new hash size ≡ (if is_name given.now hash size then not (is_held values.now hash size) else names self.old hash size) }
+        ensures { (hash : List ℕ) (size : ℕ) → has_named_value self.new hash size ≡ (if is_name given.now hash size then not (is_held values.now hash size) else has_named_value self.old hash size) }
     {
         for name in given {
             self.settle_one(values, *name);
@@ -61,7 +61,7 @@ impl NamedValues {
 
     /// Takes out the name of a value that came, if there is one and it is held now. It takes no memory.
     pub(crate) fn let_go(&mut self, values: &Values, name: Option<NamedValue>)
-        ensures { (hash : List ℕ) (size : ℕ) → names self.new hash size ≡ (names self.old hash size && not (is_name (option_to_list name) hash size && is_held values.now hash size)) }
+        ensures { (hash : List ℕ) (size : ℕ) → has_named_value self.new hash size ≡ (has_named_value self.old hash size && not (is_name (option_to_list name) hash size && is_held values.now hash size)) }
     {
         let Some(name) = name else {
             return;
@@ -73,7 +73,7 @@ impl NamedValues {
 
     /// The hashes of the names, the first 1,024 in rising order, each once.
     pub(crate) fn first_hashes(&self) -> Result<Ids, Memory>
-        ensures { IfOk result (λ ids. (ns : List NamedValue) → ((hash : List ℕ) (size : ℕ) → names self.now hash size ≡ is_name ns hash size) → ids ≡ take MOST_WANTED (rising (map (λ n. n.hash) ns))) }
+        ensures { IfOk result (λ ids. (ns : List NamedValue) → ((hash : List ℕ) (n : ℕ) → has_named_value self.now hash n ≡ is_name ns hash n) → ids ≡ take MOST_WANTED (rising (map (λ n. n.hash) ns))) }
     {
         let mut found = Ids::new(self.alloc);
         for (name, mark) in &self.marks {
@@ -97,8 +97,8 @@ pub(crate) fn reserve_both(
 ) -> Result<(), Memory>
     ensures named { OnOk result (HasRooms named.new given.now) }
     ensures lacking { OnOk result (HasRooms lacking.new given.now) }
-    ensures named_same { (hash : List ℕ) (size : ℕ) → names named.new hash size ≡ names named.old hash size }
-    ensures lacking_same { (hash : List ℕ) (size : ℕ) → names lacking.new hash size ≡ names lacking.old hash size }
+    ensures named_same { (hash : List ℕ) (size : ℕ) → has_named_value named.new hash size ≡ has_named_value named.old hash size }
+    ensures lacking_same { (hash : List ℕ) (size : ℕ) → has_named_value lacking.new hash size ≡ has_named_value lacking.old hash size }
 {
     named.reserve(given)?;
     lacking.reserve(given)

@@ -28,7 +28,7 @@ mod recorded;
 mod taken;
 mod totals;
 
-pub use counts::Counts;
+pub use counts::JournalCounts;
 pub use front_places::ConvictedAt;
 pub use growth::Growth;
 pub use leaves::leaves_with;

@@ -5,7 +5,7 @@ ghost use Rattle.depot_base.specs.declared.update.NamedValue.{NamedValue};
 ghost use Rattle.depot_base.specs.declared.update.Update.{Update};
 ghost use Rattle.depot_model.specs.Contents.{values_named};
 ghost use Rattle.depot_model.specs.Journal.{accepted, is_wanted};
-ghost use Rattle.depot_readings.specs.Named.{PutsMark, TakesMark, has_mark, is_named, is_name, names_in, names_in_statement, named_in, HasRooms, AreNamed};
+ghost use Rattle.depot_readings.specs.Named.{PutsMark, TakesMark, has_value_mark, is_value_named, is_name, names_in, names_in_statement, values_named_in, HasRooms, AreNamed};
 ghost use Rattle.depot_readings.specs.NewRecords.{records_in};
 
 use crate::growth::Growth;
@@ -14,14 +14,14 @@ use depot_base::{Hash32, Memory, NamedValue, Statement, Update};
 use std::alloc::Global;
 use std::collections::BTreeMap;
 
-pub(crate) type Marks = BTreeMap<NamedValue, bool>;
+pub(crate) type ValueMarks = BTreeMap<NamedValue, bool>;
 
 /// Puts a mark in place of none, or of another. Only a name that has none takes memory.
 #[tactic(auto, using(crate::proofs::NamedLaws::puts_mark))]
-fn put_mark(marks: &mut Marks, name: NamedValue, mark: bool) -> Result<(), Memory>
+fn put_mark(marks: &mut ValueMarks, name: NamedValue, mark: bool) -> Result<(), Memory>
     ensures ok { OnOk result (PutsMark marks.old marks.new name mark) }
     ensures err { OnErr result (IsUnchanged marks.old marks.new) }
-    ensures succeeds { IsTrue (has_mark marks.old name) → IsOk result }
+    ensures succeeds { IsTrue (has_value_mark marks.old name) → IsOk result }
 {
     match marks.insert(name, mark) {
         Ok(_) => Ok(()),
@@ -31,7 +31,7 @@ fn put_mark(marks: &mut Marks, name: NamedValue, mark: bool) -> Result<(), Memor
 
 /// Takes a mark away, if there is one. It takes no memory.
 #[tactic(auto, using(crate::proofs::NamedLaws::takes_out))]
-fn take_mark(marks: &mut Marks, name: &NamedValue)
+fn take_mark(marks: &mut ValueMarks, name: &NamedValue)
     ensures { TakesMark marks.old marks.new name.now }
 {
     let _ = marks.remove(name);
@@ -42,17 +42,17 @@ fn take_mark(marks: &mut Marks, name: &NamedValue)
 #[derive(Drop)]
 pub struct NamedValues {
     // A name whose mark is false is one that room was found for.
-    pub(crate) marks: Marks,
+    pub(crate) marks: ValueMarks,
     pub(crate) alloc: Global,
 }
 
 impl NamedValues {
-    ghost use Rattle.depot_readings.specs.Named.{names, has_room};
+    ghost use Rattle.depot_readings.specs.Named.{has_named_value, has_room};
 
     /// No values: those that no updates name. It takes no memory.
-    #[tactic(auto, using(crate::proofs::NamedLaws::named_laws), unfolding(crate::specs::Named::names, crate::specs::Named::has_room))]
+    #[tactic(auto, using(crate::proofs::NamedLaws::named_laws), unfolding(crate::specs::Named::has_named_value, crate::specs::Named::has_room))]
     pub fn new(alloc: Global) -> NamedValues
-        ensures none { (hash : List ℕ) (size : ℕ) → names result hash size ≡ false }
+        ensures none { (hash : List ℕ) (size : ℕ) → has_named_value result hash size ≡ false }
         ensures named { AreNamed [] result }
     {
         NamedValues {
@@ -62,9 +62,9 @@ impl NamedValues {
     }
 
     /// Whether a value of this hash and of so many bytes is named. It takes no memory.
-    #[tactic(auto, using(crate::proofs::NamedLaws::named_laws), unfolding(crate::specs::Named::names, crate::specs::Named::has_room))]
+    #[tactic(auto, using(crate::proofs::NamedLaws::named_laws), unfolding(crate::specs::Named::has_named_value, crate::specs::Named::has_room))]
     pub fn names(&self, hash: &Hash32, size: u32) -> bool
-        ensures named { result ≡ names self.now hash.now size }
+        ensures named { result ≡ has_named_value self.now hash.now size }
         ensures wanted { (us : List Update) → AreNamed us self.now → result ≡ is_wanted us hash.now size }
     {
         let name = NamedValue { hash: *hash, size };
@@ -75,11 +75,11 @@ impl NamedValues {
     }
 
     /// Finds the memory for a name. After Memory all is as before.
-    #[tactic(auto, using(crate::proofs::NamedLaws::named_laws), unfolding(crate::specs::Named::names, crate::specs::Named::has_room))]
+    #[tactic(auto, using(crate::proofs::NamedLaws::named_laws), unfolding(crate::specs::Named::has_named_value, crate::specs::Named::has_room))]
     fn reserve_one(&mut self, name: NamedValue) -> Result<(), Memory>
         ensures room { OnOk result (has_room self.new name ≡ true) }
         ensures rooms { (other : NamedValue) → has_room self.old other ≡ true → has_room self.new other ≡ true }
-        ensures same { (hash : List ℕ) (size : ℕ) → names self.new hash size ≡ names self.old hash size }
+        ensures same { (hash : List ℕ) (size : ℕ) → has_named_value self.new hash size ≡ has_named_value self.old hash size }
     {
         if self.marks.contains_key(&name) {
             return Ok(());
@@ -91,7 +91,7 @@ impl NamedValues {
     /// Finds the memory for names: after it `add` of them needs none. After Memory all is as before.
     pub fn reserve(&mut self, given: &[NamedValue]) -> Result<(), Memory>
         ensures room { OnOk result (HasRooms self.new given.now) }
-        ensures same { (hash : List ℕ) (size : ℕ) → names self.new hash size ≡ names self.old hash size }
+        ensures same { (hash : List ℕ) (size : ℕ) → has_named_value self.new hash size ≡ has_named_value self.old hash size }
         ensures stays { (us : List Update) → AreNamed us self.old → AreNamed us self.new }
     {
         for name in given {
@@ -101,20 +101,20 @@ impl NamedValues {
     }
 
     /// Adds a name that memory was found for. It takes none.
-    #[tactic(auto, using(crate::proofs::NamedLaws::named_laws), unfolding(crate::specs::Named::names, crate::specs::Named::has_room))]
+    #[tactic(auto, using(crate::proofs::NamedLaws::named_laws), unfolding(crate::specs::Named::has_named_value, crate::specs::Named::has_room))]
     pub(crate) fn add_one(&mut self, name: NamedValue)
         requires { has_room self.old name ≡ true }
-        ensures named { (hash : List ℕ) (size : ℕ) → names self.new hash size ≡ (names self.old hash size || is_named name hash size) }
+        ensures named { (hash : List ℕ) (size : ℕ) → has_named_value self.new hash size ≡ (has_named_value self.old hash size || is_value_named name hash size) }
         ensures rooms { (other : NamedValue) → has_room self.old other ≡ true → has_room self.new other ≡ true }
     {
         let _ = put_mark(&mut self.marks, name, true);
     }
 
     /// Takes a name out, and the memory that was found for it. It takes none.
-    #[tactic(auto, using(crate::proofs::NamedLaws::named_laws), unfolding(crate::specs::Named::names, crate::specs::Named::has_room))]
+    #[tactic(auto, using(crate::proofs::NamedLaws::named_laws), unfolding(crate::specs::Named::has_named_value, crate::specs::Named::has_room))]
     pub(crate) fn take_out(&mut self, name: NamedValue)
-        ensures named { (hash : List ℕ) (size : ℕ) → names self.new hash size ≡ (names self.old hash size && not (is_named name hash size)) }
-        ensures rooms { (other : NamedValue) → is_named name other.hash other.size ≡ false → has_room self.old other ≡ true → has_room self.new other ≡ true }
+        ensures named { (hash : List ℕ) (size : ℕ) → has_named_value self.new hash size ≡ (has_named_value self.old hash size && not (is_value_named name hash size)) }
+        ensures rooms { (other : NamedValue) → is_value_named name other.hash other.size ≡ false → has_room self.old other ≡ true → has_room self.new other ≡ true }
     {
         take_mark(&mut self.marks, &name);
     }
@@ -123,8 +123,8 @@ impl NamedValues {
     /// behind them, the values of all are named. It takes no memory.
     pub fn add(&mut self, given: &[NamedValue])
         requires { HasRooms self.old given.now }
-        ensures named { (hash : List ℕ) (size : ℕ) → names self.new hash size ≡ (names self.old hash size || is_name given.now hash size) }
-        ensures more { (us more : List Update) → given.now ≡ named_in more → AreNamed us self.old → AreNamed (us ++ more) self.new }
+        ensures named { (hash : List ℕ) (size : ℕ) → has_named_value self.new hash size ≡ (has_named_value self.old hash size || is_name given.now hash size) }
+        ensures more { (us more : List Update) → given.now ≡ values_named_in more → AreNamed us self.old → AreNamed (us ++ more) self.new }
         ensures one { (us : List Update) (u : Update) → given.now ≡ values_named u → AreNamed us self.old → AreNamed (us ++ u ∷ []) self.new }
         ensures none { (us : List Update) → given.now ≡ [] → AreNamed us self.old → AreNamed us self.new }
     {
@@ -134,7 +134,7 @@ impl NamedValues {
     /// The same, name by name.
     fn add_each(&mut self, given: &[NamedValue])
         requires { HasRooms self.old given.now }
-        ensures { (hash : List ℕ) (size : ℕ) → names self.new hash size ≡ (names self.old hash size || is_name given.now hash size) }
+        ensures { (hash : List ℕ) (size : ℕ) → has_named_value self.new hash size ≡ (has_named_value self.old hash size || is_name given.now hash size) }
     {
         for name in given {
             self.add_one(*name);
@@ -143,7 +143,7 @@ impl NamedValues {
 
     /// The values that the updates name which a growth accepts, of which it brings one at most.
     pub fn named_by(&self, growth: &Growth) -> Result<Vec<NamedValue>, Memory>
-        ensures { IfOk result (λ list. list.items ≡ named_in (accepted growth.now)) }
+        ensures { IfOk result (λ list. list.items ≡ values_named_in (accepted growth.now)) }
     {
         self.named_in(&growth.news)
     }

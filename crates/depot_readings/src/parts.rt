@@ -23,7 +23,7 @@ use std::alloc::Global;
 /// places of the records that accepted the updates, the ids that own vouchers name, and the places of what bundles have in front. It says
 /// of no journal that it is its own: each call says what it makes of what is read off any.
 #[derive(Drop)]
-pub(crate) struct Parts<S: Scheme> {
+pub(crate) struct ReadingsParts<S: Scheme> {
     pub(crate) kept: Kept<S>,
     pub(crate) named: NamedValues,
     pub(crate) lacking: NamedValues,
@@ -32,9 +32,9 @@ pub(crate) struct Parts<S: Scheme> {
     pub(crate) front: FrontPlaces,
 }
 
-impl<S: Scheme> Parts<S> {
+impl<S: Scheme> ReadingsParts<S> {
     /// What is read off no records. It takes no memory.
-    pub(crate) fn new(alloc: Global, state: State<S>) -> Parts<S>
+    pub(crate) fn new(alloc: Global, state: State<S>) -> ReadingsParts<S>
         requires { IsStateOf [] state }
         ensures readings { AreParts [] result }
         ensures state { result.kept.state ≡ state }
@@ -44,7 +44,7 @@ impl<S: Scheme> Parts<S> {
             values: Values::new(alloc),
             totals: Totals::new(),
         };
-        Parts {
+        ReadingsParts {
             kept,
             named: NamedValues::new(alloc),
             lacking: NamedValues::new(alloc),

@@ -12,14 +12,14 @@ ghost use Rattle.depot_readings.specs.FrontPlaces.{AddsPlaces, convictions_from}
 ghost use Rattle.depot_readings.specs.LeavesWith.{leaves_with};
 ghost use Rattle.depot_readings.specs.NewRecords.{AreNew};
 ghost use Rattle.depot_readings.specs.Places.{accept_places};
-ghost use Rattle.depot_readings.specs.ReadingsView.{standing, with_records};
+ghost use Rattle.depot_readings.specs.ReadingsView.{standing, with_more_records};
 ghost use Rattle.depot_readings.specs.Totals.{AreTotals};
 
-use crate::counts::Counts;
+use crate::counts::JournalCounts;
 use crate::front_places::ConvictedAt;
 use crate::growth::Growth;
 use crate::leaves::leaves_with;
-use crate::parts::Parts;
+use crate::parts::ReadingsParts;
 use crate::recorded::Recorded;
 use crate::totals::Totals;
 use depot_accept::{Parents, State};
@@ -34,7 +34,7 @@ use std::marker::Model;
 /// have in front, the ids that own vouchers name, and counts. It grows by `read` alone.
 #[derive(Drop)]
 pub struct Readings<S: Scheme> {
-    parts: Parts<S>,
+    parts: ReadingsParts<S>,
     // How many records were read, and the bytes that they take in a journal, with the gate in front.
     count: u32,
     bytes: u64,
@@ -59,7 +59,7 @@ impl<S: Scheme> Readings<S> {
         ensures { result ≡ record { me = state.me; listed = state.listed; records = [] } }
     {
         Readings {
-            parts: Parts::new(alloc, state),
+            parts: ReadingsParts::new(alloc, state),
             count: 0,
             bytes: 1,
             records: Recorded::new(),
@@ -69,7 +69,7 @@ impl<S: Scheme> Readings<S> {
     /// Reads the records of a growth behind those that were read: all, or after Memory none.
     pub fn read(&mut self, new: Growth) -> Result<(), Memory>
         requires lawful { IsLawful (standing S.verifies self.old) (self.old.records ++ new) }
-        ensures ok { OnOk result (self.new ≡ with_records self.old (self.old.records ++ new)) }
+        ensures ok { OnOk result (self.new ≡ with_more_records self.old (self.old.records ++ new)) }
         ensures err { OnErr result (self.new ≡ self.old) }
     {
         let leaves = self.leaves_with(&new);
@@ -180,12 +180,12 @@ impl<S: Scheme> Readings<S> {
     }
 
     /// How much the journal takes. It takes no memory.
-    pub fn counts(&self) -> Counts
+    pub fn counts(&self) -> JournalCounts
         ensures counts { AreCountsOf self.now.me self.now.records result }
         ensures lawful { IsLawful (standing S.verifies self.now) self.now.records }
     {
         let bytes = self.bytes as u32;
-        Counts {
+        JournalCounts {
             records: self.count,
             bytes,
             leaves: self.parts.kept.totals.leaves,

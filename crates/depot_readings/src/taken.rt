@@ -1,6 +1,7 @@
 //! What a take adds, kept in a state alone.
-ghost use Rattle.std.specs.Prelude.{◌≡◌, ◌<◌, ◌++◌, List, [], ◌∷◌, length, true, OnOk, OnErr};
+ghost use Rattle.std.specs.Prelude.{◌≡◌, ◌<◌, ◌≤◌, ◌++◌, List, [], ◌∷◌, length, true, OnOk, OnErr};
 ghost use Rattle.std.specs.List.{AllByRecursion};
+ghost use Rattle.depot_base.specs.declared.limits.TheConstants.{MOST_RECORDS};
 ghost use Rattle.depot_base.specs.declared.record.Record.{Record};
 ghost use Rattle.depot_base.specs.declared.record.Record.TheVariants.{Foreign, Conviction};
 ghost use Rattle.depot_model.specs.Journal.{accepted, accused, update_in};
@@ -25,7 +26,7 @@ impl Growth {
         requires taken { AllByRecursion (IsTaken state.old.listed) self }
         requires fits { IsCausal [] (state.old.accepted ++ accepted self) }
         requires few_accepted { length state.old.accepted < 4294967295 }
-        requires few_foreign { length state.old.foreign < 4294967295 }
+        requires few_foreign { length state.old.foreign ≤ MOST_RECORDS }
         ensures ok { OnOk result ((J : List Record) → IsStateOf J state.old → IsStateOf (J ++ self) state.new) }
         ensures err { OnErr result (state.new ≡ state.old) }
         ensures stays { setting S.verifies state.new ≡ setting S.verifies state.old }
@@ -44,7 +45,7 @@ fn keep_news<S: Scheme>(state: &mut State<S>, news: News) -> Result<(), Memory>
     requires taken { AllByRecursion (IsTaken state.old.listed) (records_in news) }
     requires fits { IsCausal [] (state.old.accepted ++ accepted (records_in news)) }
     requires few_accepted { length state.old.accepted < 4294967295 }
-    requires few_foreign { length state.old.foreign < 4294967295 }
+    requires few_foreign { length state.old.foreign ≤ MOST_RECORDS }
     ensures ok { OnOk result ((J : List Record) → IsStateOf J state.old → IsStateOf (J ++ records_in news) state.new) }
     ensures err { OnErr result (state.new ≡ state.old) }
     ensures stays { setting S.verifies state.new ≡ setting S.verifies state.old }
@@ -67,8 +68,10 @@ fn keep_news<S: Scheme>(state: &mut State<S>, news: News) -> Result<(), Memory>
             state.convict(proof.accused());
             Ok(())
         }
-        // A take adds nothing else, so here there is none.
-        _ => Ok(()),
+        News::Nothing => Ok(()),
+        // Of own vouchers a take adds none.
+        News::Vouchers(_) => Ok(()),
+        News::Birth { .. } | News::Put { .. } | News::Held { .. } => unreachable!(),
     }
 }
 
@@ -85,7 +88,7 @@ pub(crate) fn keep_both<S: Scheme>(
     requires listed { has_node state.old.listed (accused proof.now) ≡ true }
     requires fits { IsCausal [] (state.old.accepted ++ update_in signed.statement) }
     requires few_accepted { length state.old.accepted < 4294967295 }
-    requires few_foreign { length state.old.foreign < 4294967295 }
+    requires few_foreign { length state.old.foreign ≤ MOST_RECORDS }
     ensures ok { OnOk result ((J : List Record) → IsStateOf J state.old → IsStateOf (J ++ Conviction proof.now ∷ Foreign signed ∷ []) state.new) }
     ensures err { OnErr result (state.new ≡ state.old) }
     ensures stays { setting S.verifies state.new ≡ setting S.verifies state.old }

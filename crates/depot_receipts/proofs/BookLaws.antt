@@ -35,13 +35,6 @@ book_more us u old new one noted b = record {
       ∙ (ap (λ (ns : List ℕ). cond (gives_receipt id u) (put_number u.writer ns) ns) (b.holders id long) ∙ sym (holders_more us u id)));
 }
 
--- a book whose holders are the same
-pub book_same : (us : List Update) (old new : Book) → new.read ≡ old.read → ((id : List ℕ) → holders_of new.holders id ≡ holders_of old.holders id) → IsBookOf us old → IsBookOf us new
-book_same us old new one same b = record {
-  count = one ∙ b.count;
-  holders = λ id long. same id ∙ b.holders id long;
-}
-
 -- ---- one after the other
 
 -- the updates that are read with one more

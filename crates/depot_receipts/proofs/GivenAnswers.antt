@@ -15,7 +15,7 @@ use Rattle.depot_model.specs.Lists.{IsIn}
 use Rattle.depot_model.specs.Own.{next_own, write_of, values_of}
 use Rattle.depot_model.specs.Receipts.{receipt_key, AreReceiptsTrue, no_receipt, receipt_changes}
 use Rattle.depot_laws.proofs.TrueReceipts.{front_is_true, receipt_put_is_true}
-use Rattle.depot_receipts.specs.Giving.{AreDue, IsReceiptCall, as_give, receipt_records}
+use Rattle.depot_receipts.specs.Giving.{AreReceiptsDue, IsReceiptCall, as_give, receipt_records}
 use Rattle.depot_receipts.specs.declared.give_error.GiveError.{GiveError}
 use Rattle.depot_receipts.specs.declared.give_error.GiveError.TheVariants as give
 
@@ -36,7 +36,7 @@ cut_is_true J new then cut genuine =
     (subst (λ (K : List Record). AreReceiptsTrue K) (sym (append_assoc J (take cut.count new) (drop cut.count new) ∙ ap (λ (K : List Record). J ++ K) (take-append-drop cut.count new))) genuine))
 
 -- receipts that are given are true
-pub given_are_true : (here : Setting) (J : List Record) (ids : List (List ℕ)) (changes : List Change) (answer : Result PutDone PutError) (then : List Record) → AreDue J ids (Ok changes) → Puts here J changes answer then → AreReceiptsTrue J → AreReceiptsTrue then
+pub given_are_true : (here : Setting) (J : List Record) (ids : List (List ℕ)) (changes : List Change) (answer : Result PutDone PutError) (then : List Record) → AreReceiptsDue J ids (Ok changes) → Puts here J changes answer then → AreReceiptsTrue J → AreReceiptsTrue then
 given_are_true here J ids changes answer then due puts genuine = by_answer answer (subst (λ (cs : List Change). Puts here J cs answer then) due.1 puts) where
   same : then ≡ J → AreReceiptsTrue then
   same is = subst (λ (K : List Record). AreReceiptsTrue K) (sym is) genuine
@@ -54,8 +54,8 @@ given_are_true here J ids changes answer then due puts genuine = by_answer answe
 -- ---- refusals
 
 -- what speaks against receipts is neither a fault nor a node that is stopped
-pub no_fault : (J : List Record) (ids : List (List ℕ)) (e : GiveError) → AreDue J ids (Err e) → (e ≡ give.Disk → ⊥) × (e ≡ give.Stopped → ⊥)
-no_fault J ids e due = ((λ is. let d : AreDue J ids (Err give.Disk) = subst (λ (x : GiveError). AreDue J ids (Err x)) is due in d), (λ is. let d : AreDue J ids (Err give.Stopped) = subst (λ (x : GiveError). AreDue J ids (Err x)) is due in d))
+pub no_fault : (J : List Record) (ids : List (List ℕ)) (e : GiveError) → AreReceiptsDue J ids (Err e) → (e ≡ give.Disk → ⊥) × (e ≡ give.Stopped → ⊥)
+no_fault J ids e due = ((λ is. let d : AreReceiptsDue J ids (Err give.Disk) = subst (λ (x : GiveError). AreReceiptsDue J ids (Err x)) is due in d), (λ is. let d : AreReceiptsDue J ids (Err give.Stopped) = subst (λ (x : GiveError). AreReceiptsDue J ids (Err x)) is due in d))
 
 -- ---- the call
 

@@ -28,7 +28,7 @@ use Rattle.depot_model.specs.Roster.{key_of}
 use Rattle.depot_model.specs.Texts.{update_fields, voucher_fields, update_body, voucher_body, statement, signed, id_of_update}
 use Rattle.depot_receipts.specs.Books.{IsBookOf}
 use Rattle.depot_receipts.specs.GivenReceipts.{ids_given}
-use Rattle.depot_receipts.specs.Giving.{Gives, receipt_records}
+use Rattle.depot_receipts.specs.Giving.{GivesReceipts, receipt_records}
 use Rattle.depot_receipts.specs.HolderLists.{holders_of}
 use Rattle.depot_receipts.specs.RisingPlaces.{place_among, stands_in}
 use Rattle.depot_receipts.specs.declared.book.Book.{Book}
@@ -99,7 +99,7 @@ abbrev lacking : List Record
 lacking = born ++ Foreign (record { statement = statements.Update one; body = []; signature = [] }) ∷ []
 
 -- its own update and value: a receipt, by the next own update
-is_given : Gives here holding (id ∷ []) (Ok (put_done_of (next_own 1 holding (receipt_changes (id ∷ []))))) (holding ++ receipt_records here holding (id ∷ []))
+is_given : GivesReceipts here holding (id ∷ []) (Ok (put_done_of (next_own 1 holding (receipt_changes (id ∷ []))))) (holding ++ receipt_records here holding (id ∷ []))
 unfolding sha256 first_words schedule rounds compress hash_after digest_bytes id_of_update update_body update_fields numeral number bytes_of list_of dep record_text tagged birth own_put inner signed statement voucher_body voucher_fields rest_of foreign_leaves leaves_of next_own next_entries precedes_named prev_of named past by_id put_by_id history_hash history_text limit_of_put limit_of_own spent_by tips_of collides_by has_id leaf_count key_of full_with no_receipt holds first_values receipt_key
 is_given = (refl, (refl, (refl, refl)))
 
@@ -108,14 +108,14 @@ lacks_its_value : no_receipt lacking (id ∷ []) ≡ Some (lacks_value id)
 unfolding sha256 first_words schedule rounds compress hash_after digest_bytes id_of_update update_body update_fields numeral number bytes_of list_of dep next_own next_entries precedes_named prev_of named past by_id put_by_id history_hash history_text leaves_of no_receipt has_id holds first_values
 lacks_its_value = refl
 
-refused : Gives here lacking (id ∷ []) (Err (give.NoValue id)) lacking
+refused : GivesReceipts here lacking (id ∷ []) (Err (give.NoValue id)) lacking
 refused = (lacks_its_value, refl)
 
-not_given : (done : PutDone) (then : List Record) → Gives here lacking (id ∷ []) (Ok done) then → ⊥
+not_given : (done : PutDone) (then : List Record) → GivesReceipts here lacking (id ∷ []) (Ok done) then → ⊥
 not_given done then g = let none : Some (lacks_value id) ≡ None = sym lacks_its_value ∙ g.0 in cc
 
 -- an id that no update has comes before a value that isn't held
-unknown_first : Gives here lacking (id ∷ zeros ∷ []) (Err (give.Unknown zeros)) lacking
+unknown_first : GivesReceipts here lacking (id ∷ zeros ∷ []) (Err (give.Unknown zeros)) lacking
 unfolding sha256 first_words schedule rounds compress hash_after digest_bytes id_of_update update_body update_fields numeral number bytes_of list_of dep next_own next_entries precedes_named prev_of named past by_id put_by_id history_hash history_text leaves_of no_receipt has_id holds first_values
 unknown_first = (refl, refl)
 
@@ -123,6 +123,6 @@ unknown_first = (refl, refl)
 abbrev used_up : List Record
 used_up = holding ++ OwnVoucher (record { node = 1; seq = 1; ids = [] }) ∷ OwnVoucher (record { node = 1; seq = 2; ids = [] }) ∷ OwnVoucher (record { node = 1; seq = 3; ids = [] }) ∷ []
 
-no_leaf : Gives here used_up (id ∷ []) (Err (give.Spent 4)) used_up
+no_leaf : GivesReceipts here used_up (id ∷ []) (Err (give.Spent 4)) used_up
 unfolding sha256 first_words schedule rounds compress hash_after digest_bytes id_of_update update_body update_fields numeral number bytes_of list_of dep leaves_of next_own next_entries precedes_named prev_of named past by_id put_by_id history_hash history_text limit_of_put limit_of_own spent_by has_id leaf_count key_of no_receipt holds first_values
 no_leaf = (refl, (refl, refl))

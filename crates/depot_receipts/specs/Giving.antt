@@ -23,17 +23,17 @@ PutsReceipts here J ids answer then = (no_receipt J ids ≡ None) × Puts here J
 
 -- What a node answers where it is asked for receipts for these ids, and the journal after it. Memory may stand in place of each
 -- answer, and then nothing is appended; nor is it by a stopped node.
-abbrev pub Gives : Setting → List Record → List (List ℕ) → Result PutDone GiveError → List Record → Type 0
-Gives here J ids (Ok done) then = PutsReceipts here J ids (Ok done) then
-Gives here J ids (Err give.Memory) then = then ≡ J
-Gives here J ids (Err give.Disk) then = PutsReceipts here J ids (Err put.Disk) then
-Gives here J ids (Err give.Stopped) then = then ≡ J
-Gives here J ids (Err (give.Unknown h)) then = (no_receipt J ids ≡ Some (unknown h)) × (then ≡ J)
-Gives here J ids (Err (give.NoValue h)) then = (no_receipt J ids ≡ Some (lacks_value h)) × (then ≡ J)
-Gives here J ids (Err (give.Spent n)) then = PutsReceipts here J ids (Err (put.Spent n)) then
-Gives here J ids (Err (give.Tips n)) then = PutsReceipts here J ids (Err (put.Tips n)) then
-Gives here J ids (Err (give.Collides h)) then = PutsReceipts here J ids (Err (put.Collides h)) then
-Gives here J ids (Err (give.Full what)) then = PutsReceipts here J ids (Err (put.Full what)) then
+abbrev pub GivesReceipts : Setting → List Record → List (List ℕ) → Result PutDone GiveError → List Record → Type 0
+GivesReceipts here J ids (Ok done) then = PutsReceipts here J ids (Ok done) then
+GivesReceipts here J ids (Err give.Memory) then = then ≡ J
+GivesReceipts here J ids (Err give.Disk) then = PutsReceipts here J ids (Err put.Disk) then
+GivesReceipts here J ids (Err give.Stopped) then = then ≡ J
+GivesReceipts here J ids (Err (give.Unknown h)) then = (no_receipt J ids ≡ Some (unknown h)) × (then ≡ J)
+GivesReceipts here J ids (Err (give.NoValue h)) then = (no_receipt J ids ≡ Some (lacks_value h)) × (then ≡ J)
+GivesReceipts here J ids (Err (give.Spent n)) then = PutsReceipts here J ids (Err (put.Spent n)) then
+GivesReceipts here J ids (Err (give.Tips n)) then = PutsReceipts here J ids (Err (put.Tips n)) then
+GivesReceipts here J ids (Err (give.Collides h)) then = PutsReceipts here J ids (Err (put.Collides h)) then
+GivesReceipts here J ids (Err (give.Full what)) then = PutsReceipts here J ids (Err (put.Full what)) then
 
 -- the call was to give these receipts, and answered so; after each error but Disk nothing is appended
 abbrev pub IsReceiptCall : {N : Type 0} → Ghosts N → N → N → List (List ℕ) → Result PutDone GiveError → Type 0
@@ -44,23 +44,23 @@ IsReceiptCall g old new ids result =
 -- ---- on the way
 
 -- what is found before a put: the changes where nothing speaks against the receipts, or what does
-abbrev pub AreDue : List Record → List (List ℕ) → Result (List Change) GiveError → Type 0
-AreDue J ids (Ok changes) = (no_receipt J ids ≡ None) × (changes ≡ receipt_changes ids)
-AreDue J ids (Err give.Memory) = Unit {0}
-AreDue J ids (Err (give.Unknown h)) = no_receipt J ids ≡ Some (unknown h)
-AreDue J ids (Err (give.NoValue h)) = no_receipt J ids ≡ Some (lacks_value h)
-AreDue J ids (Err e) = ⊥
+abbrev pub AreReceiptsDue : List Record → List (List ℕ) → Result (List Change) GiveError → Type 0
+AreReceiptsDue J ids (Ok changes) = (no_receipt J ids ≡ None) × (changes ≡ receipt_changes ids)
+AreReceiptsDue J ids (Err give.Memory) = Unit {0}
+AreReceiptsDue J ids (Err (give.Unknown h)) = no_receipt J ids ≡ Some (unknown h)
+AreReceiptsDue J ids (Err (give.NoValue h)) = no_receipt J ids ≡ Some (lacks_value h)
+AreReceiptsDue J ids (Err e) = ⊥
 
 -- the refusal of a put, and its answer, as those of giving receipts
-abbrev pub as_refusal : PutError → GiveError
-as_refusal put.Memory = give.Memory
-as_refusal put.Disk = give.Disk
-as_refusal put.Stopped = give.Stopped
-as_refusal (put.Spent n) = give.Spent n
-as_refusal (put.Tips n) = give.Tips n
-as_refusal (put.Collides h) = give.Collides h
-as_refusal (put.Full what) = give.Full what
+abbrev pub as_give_error : PutError → GiveError
+as_give_error put.Memory = give.Memory
+as_give_error put.Disk = give.Disk
+as_give_error put.Stopped = give.Stopped
+as_give_error (put.Spent n) = give.Spent n
+as_give_error (put.Tips n) = give.Tips n
+as_give_error (put.Collides h) = give.Collides h
+as_give_error (put.Full what) = give.Full what
 
 abbrev pub as_give : Result PutDone PutError → Result PutDone GiveError
 as_give (Ok done) = Ok done
-as_give (Err e) = Err (as_refusal e)
+as_give (Err e) = Err (as_give_error e)

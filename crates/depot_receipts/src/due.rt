@@ -4,7 +4,7 @@ ghost use Rattle.std.specs.List.{list_all};
 ghost use Rattle.depot_base.specs.Writes.{value_in, values_in};
 ghost use Rattle.depot_model.specs.Journal.{accepted, has_id, holds};
 ghost use Rattle.depot_model.specs.Receipts.{lacks_one, receipt_changes};
-ghost use Rattle.depot_receipts.specs.Giving.{AreDue};
+ghost use Rattle.depot_receipts.specs.Giving.{AreReceiptsDue};
 
 use crate::give_error::GiveError;
 use crate::keys::receipt_key;
@@ -23,7 +23,7 @@ pub(crate) fn changes_due<P: Peer>(
 ) -> Result<Changes, GiveError>
     requires runs { P.stopped node.now ≡ false }
     requires graph { ⟦<Graph as Past>⟧.updates graph.now ≡ accepted (P.records node.now) }
-    ensures { AreDue (P.records node.now) ids.now result }
+    ensures { AreReceiptsDue (P.records node.now) ids.now result }
 {
     if let Some(id) = first_unknown(graph, ids) {
         return Err(GiveError::Unknown(id));

@@ -4,7 +4,7 @@ ghost use Rattle.depot_base.specs.Pairs.{AllPairsByRecursion};
 ghost use Rattle.depot_base.specs.Parts.{is_below};
 ghost use Rattle.depot_base.specs.declared.limits.TheConstants.{MOST_WRITES};
 ghost use Rattle.depot_model.specs.Receipts.{AreReceiptsTrue};
-ghost use Rattle.depot_receipts.specs.Giving.{Gives, IsReceiptCall, as_give, as_refusal};
+ghost use Rattle.depot_receipts.specs.Giving.{GivesReceipts, IsReceiptCall, as_give, as_give_error};
 
 use crate::due::changes_due;
 use crate::give_error::GiveError;
@@ -23,7 +23,7 @@ use std::alloc::Global;
 pub fn give<N: LocalNode>(alloc: Global, node: &mut N, ids: &Ids) -> Result<PutDone, GiveError>
     requires few { (1 ≤ length ids.now) × (length ids.now ≤ MOST_WRITES) }
     requires rising { AllPairsByRecursion (λ g h. is_below g h ≡ true) ids.now }
-    ensures gives { Gives (N.stands node.old) (N.records node.old) ids.now result (N.records node.new) }
+    ensures gives { GivesReceipts (N.stands node.old) (N.records node.old) ids.now result (N.records node.new) }
     ensures receipts { AreReceiptsTrue (N.records node.old) → AreReceiptsTrue (N.records node.new) }
     ensures call { IsReceiptCall N.NodeState node.old node.new ids.now result }
 {
@@ -48,7 +48,7 @@ fn as_give(answer: Result<PutDone, PutError>) -> Result<PutDone, GiveError>
 
 /// The refusal of a put as that of giving receipts.
 fn as_refusal(refusal: PutError) -> GiveError
-    ensures { result ≡ as_refusal refusal }
+    ensures { result ≡ as_give_error refusal }
 {
     match refusal {
         PutError::Memory => GiveError::Memory,

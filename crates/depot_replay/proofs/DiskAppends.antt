@@ -7,12 +7,12 @@ use Rattle.depot_journal.proofs.RecordBlocks.{appended}
 use Rattle.depot_journal.proofs.Walk.{stands_of}
 use Rattle.depot_outside.specs.Images.{Moment, synced_as, written_at}
 use Rattle.depot_outside.specs.StopImages.{left_by, overwritten}
-use Rattle.depot_outside.specs.Stopping.{State, Leads, done_before_stop, done_by}
+use Rattle.depot_outside.specs.Stopping.{State, CallsLead, done_before_stop, done_by}
 use Rattle.depot_outside.specs.declared.stops.Image.{Image}
 use Rattle.depot_outside.specs.declared.stops.Image.TheVariants as image
 use Rattle.depot_world.specs.Run.{PendingStop}
 use Rattle.depot_world.specs.ScheduleStops.{standing_after}
-use Rattle.depot_replay.specs.Disks.{IsAtRest, StoppedAppending, number_of}
+use Rattle.depot_replay.specs.Disks.{IsAtRest, StoppedAppending, image_number}
 use Rattle.depot_replay.proofs.DiskLaws.{FailsIn, Gone, StoppedIn, failed_on, fails_in, led_on}
 use Rattle.depot_replay.proofs.DiskFiles.{block_left, gate_left, opened_in, stands_to}
 use Rattle.depot_replay.proofs.DiskStops.{StopsAt, stopped_at, stops_later, stops_now}
@@ -64,7 +64,7 @@ has_appended s s1 s2 s3 u end body none block block_synced gate gate_synced = re
       stops_later (writes_at (end + 1) (closed_block body)) s s1 t (suc (suc (suc place))) image block (stops_later syncs s1 s2 t (suc (suc place)) image block_synced (stops_later (writes_at end (1 ∷ [])) s2 s3 t (suc place) image gate (stops_later syncs s3 u t place image gate_synced x)));
 }
 
-pub append_led : (s t : State) (end : ℕ) (body : List ℕ) (more : List Call) → s.fails ≡ [] → Leads s (made (calls_to_append end body ++ more)) t → (u : State) × HasAppended s u end body × Leads u (made more) t
+pub append_led : (s t : State) (end : ℕ) (body : List ℕ) (more : List Call) → s.fails ≡ [] → CallsLead s (made (calls_to_append end body ++ more)) t → (u : State) × HasAppended s u end body × CallsLead u (made more) t
 append_led s t end body more none led =
     let (s1, block, led1) = led_on s t (writes_at (end + 1) (closed_block body)) (syncs ∷ writes_at end (1 ∷ []) ∷ syncs ∷ more) led in
     let (s2, block_synced, led2) = led_on s1 t syncs (writes_at end (1 ∷ []) ∷ syncs ∷ more) led1 in
@@ -73,20 +73,20 @@ append_led s t end body more none led =
     (u, has_appended s s1 s2 s3 u end body none block block_synced gate gate_synced, led4)
 
 -- after appends the disk is at rest
-pub appends_rest : (s t : State) (gate : ℕ) (texts : List (List ℕ)) → IsAtRest s → Leads s (made (calls_to_append_all gate texts)) t → IsAtRest t
+pub appends_rest : (s t : State) (gate : ℕ) (texts : List (List ℕ)) → IsAtRest s → CallsLead s (made (calls_to_append_all gate texts)) t → IsAtRest t
 appends_rest s t gate [] rest led = subst IsAtRest (sym led) rest
 appends_rest s t gate (text ∷ texts) rest led =
     let (u, one, more) = append_led s t gate text (calls_to_append_all (gate + (5 + length text)) texts) rest.faultless led in
     appends_rest u t (gate + (5 + length text)) texts one.at_rest more
 
-grown_by : (s t : State) (bodies : List (List ℕ)) (end : ℕ) (texts : List (List ℕ)) → IsAtRest s → StandsTo s.file bodies end → Leads s (made (calls_to_append_all end texts)) t → StandsFor t.file (bodies ++ texts)
+grown_by : (s t : State) (bodies : List (List ℕ)) (end : ℕ) (texts : List (List ℕ)) → IsAtRest s → StandsTo s.file bodies end → CallsLead s (made (calls_to_append_all end texts)) t → StandsFor t.file (bodies ++ texts)
 grown_by s t bodies end [] rest stands led = rw (append-nil bodies) (subst (λ (x : State). StandsFor x.file bodies) (sym led) (stands_of s.file bodies end stands))
 grown_by s t bodies end (text ∷ texts) rest stands led =
     let (u, one, more) = append_led s t end text (calls_to_append_all (end + (5 + length text)) texts) rest.faultless led in
     subst (StandsFor t.file) (append_assoc bodies (text ∷ []) texts) (grown_by u t (bodies ++ text ∷ []) (end + (5 + length text)) texts one.at_rest (one.grown bodies stands) more)
 
 -- and their records stand behind those from before
-pub appends_stand : (s t : State) (bodies texts : List (List ℕ)) → IsAtRest s → StandsFor s.file bodies → Leads s (made (calls_to_append_all (length (blocks bodies)) texts)) t → StandsFor t.file (bodies ++ texts)
+pub appends_stand : (s t : State) (bodies texts : List (List ℕ)) → IsAtRest s → StandsFor s.file bodies → CallsLead s (made (calls_to_append_all (length (blocks bodies)) texts)) t → StandsFor t.file (bodies ++ texts)
 appends_stand s t bodies texts rest stands led = grown_by s t bodies (length (blocks bodies)) texts rest (stands_to s.file bodies stands) led
 
 -- ---- a stop in one of the calls
@@ -95,12 +95,12 @@ appends_stand s t bodies texts rest stands led = grown_by s t bodies (length (bl
 abbrev standing_at : ℕ → ℕ → ℕ
 standing_at place image = place / 4 + (if image == 1 && nat_le 2 (place % 4) then 1 else 0)
 
-block_none : (image : Image) → (standing_at 0 (number_of image) ≡ 0) × (standing_at 1 (number_of image) ≡ 0)
+block_none : (image : Image) → (standing_at 0 (image_number image) ≡ 0) × (standing_at 1 (image_number image) ≡ 0)
 block_none image.Synced = (refl, refl)
 block_none image.Written = (refl, refl)
 block_none image.Blanked = (refl, refl)
 
-gate_opened : (image : Image) → (standing_at 2 (number_of image) ≡ opened_in image) × (standing_at 3 (number_of image) ≡ opened_in image)
+gate_opened : (image : Image) → (standing_at 2 (image_number image) ≡ opened_in image) × (standing_at 3 (image_number image) ≡ opened_in image)
 gate_opened image.Synced = (refl, refl)
 gate_opened image.Written = (refl, refl)
 gate_opened image.Blanked = (refl, refl)
@@ -117,12 +117,12 @@ record StopsAppending (s t : State) (bodies texts : List (List ℕ)) : Type 0 wh
   image : Image
   within : place < 4 * length texts
   stops : StopsAt s t place image
-  stands : StandsFor t.file (bodies ++ take (standing_at place (number_of image)) texts)
+  stands : StandsFor t.file (bodies ++ take (standing_at place (image_number image)) texts)
 
 -- the record at hand doesn't stand yet
 in_block : (s t : State) (bodies : List (List ℕ)) (body : List ℕ) (texts : List (List ℕ)) (end place : ℕ) (image : Image) → StandsTo s.file bodies end
     → t.file ≡ left_by image (written_at (synced_as s.file) s.file (end + 1) (length (closed_block body))) (overwritten s.file (end + 1) (closed_block body))
-    → place < 4 → standing_at place (number_of image) ≡ 0 → StopsAt s t place image → StopsAppending s t bodies (body ∷ texts)
+    → place < 4 → standing_at place (image_number image) ≡ 0 → StopsAt s t place image → StopsAppending s t bodies (body ∷ texts)
 in_block s t bodies body texts end place image stands left h none stops =
     let kept : StandsFor t.file bodies = stands_of t.file bodies end (subst (λ (x : List ℕ). StandsTo x bodies end) (sym left) (block_left image s.file (closed_block body) bodies end stands)) in
     record {
@@ -136,7 +136,7 @@ in_block s t bodies body texts end place image stands left h none stops =
 -- it stands where the open gate does
 in_gate : (s s2 t : State) (bodies : List (List ℕ)) (body : List ℕ) (texts : List (List ℕ)) (end place : ℕ) (image : Image) → StandsTo s.file bodies end
     → s2.file ≡ overwritten s.file (end + 1) (closed_block body) → t.file ≡ left_by image (written_at (synced_as s2.file) s2.file end 1) (overwritten s2.file end (1 ∷ []))
-    → place < 4 → standing_at place (number_of image) ≡ opened_in image → StopsAt s t place image → StopsAppending s t bodies (body ∷ texts)
+    → place < 4 → standing_at place (image_number image) ≡ opened_in image → StopsAt s t place image → StopsAppending s t bodies (body ∷ texts)
 in_gate s s2 t bodies body texts end place image stands written left h some stops = record {
   place = place;
   image = image;
@@ -188,7 +188,7 @@ appends_stop s t bodies end (text ∷ texts) rest stands f = elim (append_fails 
         image = x.image;
         within = omega (arith, x.within);
         stops = one.later t x.place x.image x.stops;
-        stands = rw (standing_more x.place (number_of x.image)) (subst (StandsFor t.file) (append_assoc bodies (text ∷ []) (take (standing_at x.place (number_of x.image)) texts)) x.stands);
+        stands = rw (standing_more x.place (image_number x.image)) (subst (StandsFor t.file) (append_assoc bodies (text ∷ []) (take (standing_at x.place (image_number x.image)) texts)) x.stands);
       }
 ]
 
@@ -197,10 +197,10 @@ unfolding standing_after
 counted_so a place image call_is image_is = rw (← call_is, ← image_is) refl
 
 -- a stop in appends leaves what a run says
-pub stopped_appending : (s t : State) (bodies texts : List (List ℕ)) → IsAtRest s → StandsFor s.file bodies → FailsAmong Leads s t (calls_to_append_all (length (blocks bodies)) texts) → StoppedAppending s t bodies texts
+pub stopped_appending : (s t : State) (bodies texts : List (List ℕ)) → IsAtRest s → StandsFor s.file bodies → FailsAmong CallsLead s t (calls_to_append_all (length (blocks bodies)) texts) → StoppedAppending s t bodies texts
 stopped_appending s t bodies texts rest stands f =
     let x = appends_stop s t bodies (length (blocks bodies)) texts rest (stands_to s.file bodies stands) (fails_in s t (calls_to_append_all (length (blocks bodies)) texts) f) in
-    let same = counted_so x.stops.comes.pending x.place (number_of x.image) x.stops.comes.call_is x.stops.comes.image_is in
+    let same = counted_so x.stops.comes.pending x.place (image_number x.image) x.stops.comes.call_is x.stops.comes.image_is in
     record {
       stopped = stopped_at s t x.place x.image (4 * length texts) x.stops x.within;
       stands = subst (λ (n : ℕ). StandsFor t.file (bodies ++ take n texts)) same x.stands;

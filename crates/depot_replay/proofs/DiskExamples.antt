@@ -4,7 +4,7 @@ use Rattle.depot_base.specs.Calls.{FailsAmong, calls_to_append_all, syncs, write
 use Rattle.depot_base.specs.Cursor.{numeral}
 use Rattle.depot_base.specs.File.{closed_block, framed}
 use Rattle.depot_outside.specs.Images.{Moment, synced_as, written_at}
-use Rattle.depot_outside.specs.Stopping.{IsOutcome, Leads, State, after_call, done_before_stop, done_by}
+use Rattle.depot_outside.specs.Stopping.{IsOutcome, CallsLead, State, after_call, done_before_stop, done_by}
 use Rattle.depot_outside.specs.declared.stops.Image.{Image}
 use Rattle.depot_outside.specs.declared.stops.Image.TheVariants as image
 use Rattle.depot_world.specs.ScheduleStops.{standing_after}
@@ -54,7 +54,7 @@ none_listed made among = let at : among.0 < 0 = among.1 in omega (arith, at)
 
 -- the write of the gate fails
 fails_at_gate : (left : Image) (t : State) → t ≡ after_call (after_call (after_call (waiting left) (record { call = writes_at 1 (closed_block (7 ∷ [])); failed = false })) (record { call = syncs; failed = false })) (record { call = writes_at 0 (1 ∷ []); failed = true })
-    → FailsAmong Leads (waiting left) t (calls_to_append_all 0 ((7 ∷ []) ∷ []))
+    → FailsAmong CallsLead (waiting left) t (calls_to_append_all 0 ((7 ∷ []) ∷ []))
 unfolding IsOutcome after_call done_by
 fails_at_gate left t is = record {
   before = writes_at 1 (closed_block (7 ∷ [])) ∷ syncs ∷ [];
@@ -68,16 +68,16 @@ fails_at_gate left t is = record {
 }
 
 -- all that was written: the record stands
-written_leaves : FailsAmong Leads (waiting image.Written) (stopped_as (1 ∷ 0 ∷ 0 ∷ 0 ∷ 1 ∷ 7 ∷ 0 ∷ [])) (calls_to_append_all 0 ((7 ∷ []) ∷ []))
+written_leaves : FailsAmong CallsLead (waiting image.Written) (stopped_as (1 ∷ 0 ∷ 0 ∷ 0 ∷ 1 ∷ 7 ∷ 0 ∷ [])) (calls_to_append_all 0 ((7 ∷ []) ∷ []))
 unfolding after_call done_by done_before_stop framed numeral
 written_leaves = fails_at_gate image.Written (stopped_as (1 ∷ 0 ∷ 0 ∷ 0 ∷ 1 ∷ 7 ∷ 0 ∷ [])) refl
 
 -- what was synced last: the block behind a closed gate
-synced_leaves : FailsAmong Leads (waiting image.Synced) (stopped_as (0 ∷ 0 ∷ 0 ∷ 0 ∷ 1 ∷ 7 ∷ 0 ∷ [])) (calls_to_append_all 0 ((7 ∷ []) ∷ []))
+synced_leaves : FailsAmong CallsLead (waiting image.Synced) (stopped_as (0 ∷ 0 ∷ 0 ∷ 0 ∷ 1 ∷ 7 ∷ 0 ∷ [])) (calls_to_append_all 0 ((7 ∷ []) ∷ []))
 unfolding after_call done_by done_before_stop framed numeral
 synced_leaves = fails_at_gate image.Synced (stopped_as (0 ∷ 0 ∷ 0 ∷ 0 ∷ 1 ∷ 7 ∷ 0 ∷ [])) refl
 
 -- FF in place of the gate, which is closed, too
-blanked_leaves : FailsAmong Leads (waiting image.Blanked) (stopped_as (255 ∷ 0 ∷ 0 ∷ 0 ∷ 1 ∷ 7 ∷ 0 ∷ [])) (calls_to_append_all 0 ((7 ∷ []) ∷ []))
+blanked_leaves : FailsAmong CallsLead (waiting image.Blanked) (stopped_as (255 ∷ 0 ∷ 0 ∷ 0 ∷ 1 ∷ 7 ∷ 0 ∷ [])) (calls_to_append_all 0 ((7 ∷ []) ∷ []))
 unfolding after_call done_by done_before_stop framed numeral
 blanked_leaves = fails_at_gate image.Blanked (stopped_as (255 ∷ 0 ∷ 0 ∷ 0 ∷ 1 ∷ 7 ∷ 0 ∷ [])) refl

@@ -6,7 +6,7 @@ use Rattle.depot_base.specs.Calls.{Call, made, FailsAmong, asks_length, calls_to
 use Rattle.depot_base.specs.declared.limits.TheConstants.{MOST_JOURNAL}
 use Rattle.depot_outside.specs.Images.{Moment, synced_as}
 use Rattle.depot_outside.specs.StopImages.{left_by}
-use Rattle.depot_outside.specs.Stopping.{State, Leads, done_before_stop, done_by}
+use Rattle.depot_outside.specs.Stopping.{State, CallsLead, done_before_stop, done_by}
 use Rattle.depot_outside.specs.declared.stops.Image.{Image}
 use Rattle.depot_outside.specs.declared.stops.Image.TheVariants as image
 use Rattle.depot_replay.specs.Disks.{IsAtRest, StoppedReading}
@@ -57,7 +57,7 @@ same_in_stop : (call : Call) (s t : State) → WritesNothing call → IsAtRest s
 same_in_stop call s t nothing rest x =
     x.file_is ∙ ap (λ (u : State). left_by x.image u.unsynced u.file) (nothing_before_stop call s nothing) ∙ ap (λ (m : Moment). left_by x.image m s.file) rest.synced ∙ left_of_rest x.image s.file
 
-left_after_all : (s t : State) (calls : List Call) → WriteNothing calls → IsAtRest s → Leads s (made calls) t → IsLeft s t
+left_after_all : (s t : State) (calls : List Call) → WriteNothing calls → IsAtRest s → CallsLead s (made calls) t → IsLeft s t
 left_after_all s t [] nothing rest led = subst (IsLeft s) (sym led) (record { at_rest = rest; same = refl })
 left_after_all s t (call ∷ calls) nothing rest led =
     let (u, gone, more) = led_on s t call calls led in
@@ -92,13 +92,13 @@ start_reads : (file : List ℕ) → 2 ≤ length file → calls_to_start file �
 start_reads file long = rw (lt-leb (length file) 1 long) refl
 
 -- a start leaves the file as it is
-pub started : (s t : State) → IsAtRest s → 2 ≤ length s.file → Leads s (made (calls_to_start s.file)) t → IsAtRest t × (t.file ≡ s.file)
+pub started : (s t : State) → IsAtRest s → 2 ≤ length s.file → CallsLead s (made (calls_to_start s.file)) t → IsAtRest t × (t.file ≡ s.file)
 started s t rest long led =
-    let left = left_after_all s t (calls_to_read s.file) (tt, (tt, (tt, tt))) rest (subst (λ (l : List Call). Leads s (made l) t) (start_reads s.file long) led) in
+    let left = left_after_all s t (calls_to_read s.file) (tt, (tt, (tt, tt))) rest (subst (λ (l : List Call). CallsLead s (made l) t) (start_reads s.file long) led) in
     (left.at_rest, left.same)
 
 -- and so does a stop in it
-pub stopped_starting : (s t : State) → IsAtRest s → 2 ≤ length s.file → FailsAmong Leads s t (calls_to_start s.file) → StoppedReading s t 3
+pub stopped_starting : (s t : State) → IsAtRest s → 2 ≤ length s.file → FailsAmong CallsLead s t (calls_to_start s.file) → StoppedReading s t 3
 stopped_starting s t rest long f =
     let x = stops_reading s t (calls_to_read s.file) (tt, (tt, (tt, tt))) rest (subst (λ (l : List Call). FailsIn s l t) (start_reads s.file long) (fails_in s t (calls_to_start s.file) f)) in
     record { stopped = stopped_at s t x.place x.image 3 x.stops x.within; same = x.same }

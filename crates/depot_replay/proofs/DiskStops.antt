@@ -2,7 +2,7 @@
 use Rattle.std.proofs.Common.{◌≡◌, ◌≤◌, ◌<◌, ℕ, suc, ◌-◌, List, [], ◌∷◌, length, Option, None, Some, sym, ap, subst, ◌∙◌, inl, inr, arith}
 use Rattle.std.proofs.lemmas.Option.{same_Some}
 use Rattle.depot_base.specs.Calls.{Call, made, FailsAmong}
-use Rattle.depot_outside.specs.Stopping.{State, Leads}
+use Rattle.depot_outside.specs.Stopping.{State, CallsLead}
 use Rattle.depot_outside.specs.declared.stops.Image.{Image}
 use Rattle.depot_outside.specs.declared.stops.Stop.{Stop}
 use Rattle.depot_world.specs.Run.{PendingStop}
@@ -11,20 +11,15 @@ use Rattle.depot_replay.proofs.DiskLaws.{ComesIn, FailsIn, Gone, StoppedIn, come
 
 -- ---- calls of which none fails
 
--- no call is to fail
-pub faultless_after : (s t : State) (calls : List Call) → s.fails ≡ [] → Leads s (made calls) t → t.fails ≡ []
-faultless_after s t [] none led = ap (λ (x : State). x.fails) led ∙ none
-faultless_after s t (call ∷ calls) none led = let (u, gone, more) = led_on s t call calls led in faultless_after u t calls (gone.fails_are ∙ none) more
-
 -- no stop waits
-pub none_waits_after : (s t : State) (calls : List Call) → Leads s (made calls) t → pending_of s.next ≡ None → pending_of t.next ≡ None
+pub none_waits_after : (s t : State) (calls : List Call) → CallsLead s (made calls) t → pending_of s.next ≡ None → pending_of t.next ≡ None
 none_waits_after s t [] led none = ap (λ (x : State). pending_of x.next) led ∙ none
 none_waits_after s t (call ∷ calls) led none =
     let (u, gone, more) = led_on s t call calls led in
     none_waits_after u t calls more (ap pending_of gone.next_is ∙ still_none s.next none)
 
 -- the stop that waits is so many calls nearer
-pub nearer_after : (s t : State) (calls : List Call) (a : PendingStop) → Leads s (made calls) t → pending_of s.next ≡ Some a → pending_of t.next ≡ Some (record { call = a.call - length calls; image = a.image })
+pub nearer_after : (s t : State) (calls : List Call) (a : PendingStop) → CallsLead s (made calls) t → pending_of s.next ≡ Some a → pending_of t.next ≡ Some (record { call = a.call - length calls; image = a.image })
 nearer_after s t [] a led waits = let none : a.call - 0 ≡ a.call = omega arith in ap (λ (x : State). pending_of x.next) led ∙ waits ∙ ap (λ (n : ℕ). Some (record { call = n; image = a.image })) (sym none)
 nearer_after s t (call ∷ calls) a led waits =
     let (u, gone, more) = led_on s t call calls led in
@@ -33,7 +28,7 @@ nearer_after s t (call ∷ calls) a led waits =
     nearer_after u t calls (record { call = a.call - 1; image = a.image }) more (ap pending_of gone.next_is ∙ on.waits) ∙ ap (λ (n : ℕ). Some (record { call = n; image = a.image })) less
 
 -- and it comes behind them, where the next call has the number 1
-pub comes_after : (s t : State) (calls : List Call) (a : PendingStop) → Leads s (made calls) t → pending_of s.next ≡ Some a → 1 ≤ a.call → length calls < a.call
+pub comes_after : (s t : State) (calls : List Call) (a : PendingStop) → CallsLead s (made calls) t → pending_of s.next ≡ Some a → 1 ≤ a.call → length calls < a.call
 comes_after s t [] a led waits from_one = from_one
 comes_after s t (call ∷ calls) a led waits from_one =
     let (u, gone, more) = led_on s t call calls led in
@@ -78,14 +73,14 @@ stops_within s t (call ∷ calls) none f = elim (failed_on s t call calls none f
 ]
 
 -- no call fails where no stop waits
-pub none_fails : (s t : State) (calls : List Call) → IsAtRest s → pending_of s.next ≡ None → FailsAmong Leads s t calls → ⊥
+pub none_fails : (s t : State) (calls : List Call) → IsAtRest s → pending_of s.next ≡ None → FailsAmong CallsLead s t calls → ⊥
 none_fails s t calls rest none f =
     let w = stops_within s t calls rest.faultless (fails_in s t calls f) in
     let wrong : None ≡ Some w.stops.comes.pending = sym none ∙ w.stops.comes.waits in
     cc
 
 -- and where it comes behind these calls
-pub none_fails_yet : (s t : State) (calls : List Call) (a : PendingStop) → IsAtRest s → pending_of s.next ≡ Some a → length calls < a.call → FailsAmong Leads s t calls → ⊥
+pub none_fails_yet : (s t : State) (calls : List Call) (a : PendingStop) → IsAtRest s → pending_of s.next ≡ Some a → length calls < a.call → FailsAmong CallsLead s t calls → ⊥
 none_fails_yet s t calls a rest waits behind f =
     let w = stops_within s t calls rest.faultless (fails_in s t calls f) in
     let same = ap (λ (x : PendingStop). x.call) (same_Some a w.stops.comes.pending (sym waits ∙ w.stops.comes.waits)) in

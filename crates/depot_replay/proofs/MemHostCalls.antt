@@ -28,13 +28,13 @@ use Rattle.depot_model.specs.Texts.{hash_of_roster}
 use Rattle.depot_model.specs.Vouching.{limit_of_vouchers, records_of}
 use Rattle.depot_model.specs.World.{Correct}
 use Rattle.depot_model.specs.declared.hello.Hello.{Hello}
-use Rattle.depot_outside.specs.Stopping.{State, Leads}
+use Rattle.depot_outside.specs.Stopping.{State, CallsLead}
 use Rattle.depot_world.specs.Effects.{bundle_by, bundle_with, give_by}
 use Rattle.depot_world.specs.Run.{Host}
 use Rattle.depot_world.specs.ScheduleStops.{Effect}
 use Rattle.depot_world.specs.Setups.{Setup, signs_on, stands_on}
 use Rattle.depot_world.proofs.ByteBundles.{unvouched_are_foreign}
-use Rattle.depot_simulation.specs.Acting.{IsHosted, View}
+use Rattle.depot_simulation.specs.Acting.{IsHosted, ActorView}
 use Rattle.depot_replay.specs.Disks.{pending_of}
 use Rattle.depot_node_lines.specs.Printing.{SettlesBundle, SettlesFeed}
 use Rattle.depot_replay.specs.MemHosts.{Appends, IsBegunOn, IsCalled}
@@ -45,10 +45,10 @@ use Rattle.depot_node_lines.specs.declared.feeds.FeedResult.{FeedResult}
 
 -- The disk was called to append what the journal grew by, or, where it failed, some of what was to be appended.
 pub record IsDoneOn (s t : State) (J K appends : List Record) (failed : Type 0) : Type 0 where
-  pub whole : (failed → ⊥) → (grown : List Record) → K ≡ J ++ grown → Leads s (made (calls_to_record J grown)) t
-  pub part : failed → FailsAmong Leads s t (calls_to_record J appends)
+  pub whole : (failed → ⊥) → (grown : List Record) → K ≡ J ++ grown → CallsLead s (made (calls_to_record J grown)) t
+  pub part : failed → FailsAmong CallsLead s t (calls_to_record J appends)
 
-pub done_on : {N : Type 0} {v : JournalView N} {failed : Type 0} (old new : N) (s t : State) (appends : List Record) → CallsDisk v old new appends failed → ((calls : List Made) → v.after old calls new → Leads s calls t)
+pub done_on : {N : Type 0} {v : JournalView N} {failed : Type 0} (old new : N) (s t : State) (appends : List Record) → CallsDisk v old new appends failed → ((calls : List Made) → v.after old calls new → CallsLead s calls t)
     → IsDoneOn s t (v.records old) (v.records new) appends failed
 done_on old new s t appends c sees = record {
   whole = λ well grown is. sees _ (c.whole well grown is);
@@ -60,7 +60,7 @@ pub done_alike : (s t : State) (J K appends : List Record) (one other : Type 0) 
 done_alike s t J K appends one other same done = record { whole = λ well grown is. done.whole (λ f. well (same.0 f)) grown is; part = λ f. done.part (same.1 f) }
 
 -- a call that was to append nothing
-pub none_called : (v : View) (s t : State) (K longer : List Record) (failed : Type 0) → v.pending ≡ pending_of s.next → IsBegunOn v.here s v.journal → (failed → ⊥) → longer ≡ v.journal → K ≡ v.journal → (appends : List Record) → IsDoneOn s t v.journal K appends failed
+pub none_called : (v : ActorView) (s t : State) (K longer : List Record) (failed : Type 0) → v.pending ≡ pending_of s.next → IsBegunOn v.here s v.journal → (failed → ⊥) → longer ≡ v.journal → K ≡ v.journal → (appends : List Record) → IsDoneOn s t v.journal K appends failed
     → IsCalled v s t K longer failed
 none_called v s t K longer failed pending begun well stays same appends done =
     let nil : v.journal ≡ v.journal ++ [] = sym (append-nil v.journal) in
@@ -78,7 +78,7 @@ none_called v s t K longer failed pending begun well stays same appends done =
 
 -- what a effect makes of the journal is the same for the node of a host
 pub appends_there : (longer : Setting → Signs → List Record → List Record) (effect : Setting → Signs → Correct → Effect) → ((here : Setting) (sign : Signs) (c : Correct) → here.me ≡ c.node → Appends (effect here sign c) c.journal (longer here sign c.journal))
-    → (setup : Setup) (x : Host) (v : View) → IsHosted setup x v → Appends (effect (stands_on setup x.correct.node) (signs_on setup x.correct.node) x.correct) v.journal (longer v.here v.sign v.journal)
+    → (setup : Setup) (x : Host) (v : ActorView) → IsHosted setup x v → Appends (effect (stands_on setup x.correct.node) (signs_on setup x.correct.node) x.correct) v.journal (longer v.here v.sign v.journal)
 appends_there longer effect all setup x v mem_host =
     rw (mem_host.here, mem_host.sign, mem_host.journal) (all (stands_on setup x.correct.node) (signs_on setup x.correct.node) x.correct refl)
 
@@ -137,7 +137,7 @@ bundle_grows text here sign J K (Err (error.OtherRoster given mine)) made settle
 bundle_grows text here sign J K (Err (error.Spent n)) made settled well = made.1 ∙ sym (append-nil J) ∙ sym (ap (λ (a : BundleAnswer). J ++ journaled_for a) made.0)
 bundle_grows text here sign J K (Err (error.Full what)) made settled well = made.1 ∙ sym (append-nil J) ∙ sym (ap (λ (a : BundleAnswer). J ++ journaled_for a) made.0)
 
-pub bundle_called : (v : View) (s t : State) (K : List Record) (text : List ℕ) (r : Result Bundled BundleError) (printed : Option Printed) → v.pending ≡ pending_of s.next → IsBegunOn v.here s v.journal → Bundles v.here v.sign v.journal false text r K → SettlesBundle r
+pub bundle_called : (v : ActorView) (s t : State) (K : List Record) (text : List ℕ) (r : Result Bundled BundleError) (printed : Option Printed) → v.pending ≡ pending_of s.next → IsBegunOn v.here s v.journal → Bundles v.here v.sign v.journal false text r K → SettlesBundle r
     → IsDoneOn s t v.journal K (journaled_for (bundle_answer v.here v.sign v.journal text)) (IsErrOf r error.Disk) → (printed ≡ None) ↔ IsErrOf r error.Disk → IsCalled v s t K (bundle_longer text v.here v.sign v.journal) (printed ≡ None)
 bundle_called v s t K text r printed pending begun made settled done is = record {
   pending = pending;
@@ -162,7 +162,7 @@ give_appends stream here sign c same = record { journal = refl; calls = refl }
 give_lawful : (stream : List ℕ) (here : Setting) (J : List Record) → AreBytes stream → IsLawful here J → is_empty J ≡ false → IsLawful here (feed_of here J stream).journal
 give_lawful stream here J are l some = (feed_keeps here (feeding_from J) stream are (record { lawful = l; some = some; bytes = λ i. omega arith })).lawful
 
-pub give_called : (v : View) (s t : State) (K : List Record) (stream : List ℕ) (appends : List Record) (r : Result FeedResult FeedError) (printed : Option Printed) → v.pending ≡ pending_of s.next → IsBegunOn v.here s v.journal → AreBytes stream
+pub give_called : (v : ActorView) (s t : State) (K : List Record) (stream : List ℕ) (appends : List Record) (r : Result FeedResult FeedError) (printed : Option Printed) → v.pending ≡ pending_of s.next → IsBegunOn v.here s v.journal → AreBytes stream
     → IfOk r (λ _. K ≡ (feed_of v.here v.journal stream).journal) → SettlesFeed r → (feed_of v.here v.journal stream).journal ≡ v.journal ++ appends → IsDoneOn s t v.journal K appends (IsErrOf r feed_error.Disk) → (printed ≡ None) ↔ IsErrOf r feed_error.Disk
     → IsCalled v s t K (give_longer stream v.here v.sign v.journal) (printed ≡ None)
 give_called v s t K stream appends r printed pending begun are grown settled brings done is = record {

@@ -30,7 +30,7 @@ use Rattle.depot_world.specs.ScheduleStops.{Effect, event_result}
 use Rattle.depot_world.specs.Setups.{Setup, stands_on}
 use Rattle.depot_world.proofs.OnlyBytes.{OnlyBytes}
 use Rattle.depot_world.proofs.CheckpointChanges.{checkpoint_is_change, made_is_good, opened_is_good}
-use Rattle.depot_simulation.specs.Acting.{CameTo, IsHosted, View}
+use Rattle.depot_simulation.specs.Acting.{CameTo, IsHosted, ActorView}
 use Rattle.depot_node_lines.specs.Printing.{IsPrintOf}
 use Rattle.depot_node_lines.specs.PutPrinting.{SettlesPut}
 use Rattle.depot_node_lines.specs.CheckpointPrinting.{SettlesMake, SettlesSign}
@@ -79,10 +79,6 @@ sign_within text here sign J other = J
 abbrev pub sign_longer : List ℕ → Setting → Signs → List Record → List Record
 sign_longer text here sign J = sign_within text here sign J (opened_text here J text)
 
-sign_is : (here : Setting) (c : Correct) (text : List ℕ) (o : Opened) → opened_text here c.journal text ≡ o → sign_by here c text ≡ sign_with here c text o
-unfolding sign_by
-sign_is here c text o is = ap (sign_with here c text) is
-
 idle_appends : (J : List Record) → 0 ≡ 4 * (length J - length J)
 idle_appends J = omega arith
 
@@ -98,7 +94,7 @@ sign_appends text here sign c same = within_appends text here sign c (opened_tex
 
 -- ---- the call that signs
 
-module _ (v : View) (s t : State) (K : List Record) (text : List ℕ) (only : OnlyBytes text) (pending : v.pending ≡ pending_of s.next) (begun : IsBegunOn v.here s v.journal) where
+module _ (v : ActorView) (s t : State) (K : List Record) (text : List ℕ) (only : OnlyBytes text) (pending : v.pending ≡ pending_of s.next) (begun : IsBegunOn v.here s v.journal) where
   -- its put was tried
   by_put : (r : Result PutDone CheckpointError) (answer : Result PutDone PutError) (printed : Option Printed) → PutsCheckpoint v.here v.journal text answer K → IsErrOf answer refused.Disk ↔ IsErrOf r unsigned.Disk → SettlesPut answer
       → IsDoneOn s t v.journal K (signing_records v.here v.journal text) (IsErrOf r unsigned.Disk) → (printed ≡ None) ↔ IsErrOf r unsigned.Disk → IsCalled v s t K (sign_longer text v.here v.sign v.journal) (printed ≡ None)
@@ -116,7 +112,7 @@ module _ (v : View) (s t : State) (K : List Record) (text : List ℕ) (only : On
       none_called v s t K (sign_longer text v.here v.sign v.journal) (printed ≡ None) pending begun (λ none. well (cut.0 none)) (ap (sign_within text v.here v.sign v.journal) is ∙ stays) same (signing_records v.here v.journal text)
       (done_alike s t v.journal K (signing_records v.here v.journal text) (IsErrOf r unsigned.Disk) (printed ≡ None) (cut.1, cut.0) done)
 
-  pub sign_called : (r : Result PutDone CheckpointError) (printed : Option Printed) → signing.Signs v.here v.journal text r K → SettlesSign r → IsDoneOn s t v.journal K (signing_records v.here v.journal text) (IsErrOf r unsigned.Disk) → (printed ≡ None) ↔ IsErrOf r unsigned.Disk
+  pub sign_called : (r : Result PutDone CheckpointError) (printed : Option Printed) → signing.SignsCheckpoint v.here v.journal text r K → SettlesSign r → IsDoneOn s t v.journal K (signing_records v.here v.journal text) (IsErrOf r unsigned.Disk) → (printed ≡ None) ↔ IsErrOf r unsigned.Disk
       → IsCalled v s t K (sign_longer text v.here v.sign v.journal) (printed ≡ None)
   sign_called (Ok d) printed signs settled done cut = by_put (Ok d) (Ok d) printed signs ((λ e. absurd cc), (λ e. absurd cc)) tt done cut
   sign_called (Err unsigned.Memory) printed signs settled done cut = absurd settled
@@ -133,20 +129,20 @@ module _ (v : View) (s t : State) (K : List Record) (text : List ℕ) (only : On
 -- ---- what the events came to
 
 module _ (there here : Setting) (stands : there ≡ here) (given sign : Signs) (signs : given ≡ sign) (s t : State) (J K : List Record) (begun : IsBegunOn here s J) where
-  pub sign_hosted : (text : List ℕ) (r : Result PutDone CheckpointError) (printed : Option Printed) → OnlyBytes text → signing.Signs there J text r K → SettlesSign r → IsDoneOn s t J K (signing_records there J text) (IsErrOf r unsigned.Disk) → (printed ≡ None) ↔ IsErrOf r unsigned.Disk
+  pub sign_hosted : (text : List ℕ) (r : Result PutDone CheckpointError) (printed : Option Printed) → OnlyBytes text → signing.SignsCheckpoint there J text r K → SettlesSign r → IsDoneOn s t J K (signing_records there J text) (IsErrOf r unsigned.Disk) → (printed ≡ None) ↔ IsErrOf r unsigned.Disk
       → IsCalled (seen_so here sign s J) s t K (sign_longer text here sign J) (printed ≡ None)
   sign_hosted text r printed only signed settled done is =
-      sign_called (seen_so here sign s J) s t K text only refl begun r printed (subst (λ (h : Setting). signing.Signs h J text r K) stands signed) settled
+      sign_called (seen_so here sign s J) s t K text only refl begun r printed (subst (λ (h : Setting). signing.SignsCheckpoint h J text r K) stands signed) settled
       (subst (λ (h : Setting). IsDoneOn s t J K (signing_records h J text) (IsErrOf r unsigned.Disk)) stands done) is
 
-  pub sign_turn : (text : List ℕ) (r : Result PutDone CheckpointError) (printed : Option Printed) (w : View) (lines bytes : List ℕ) → signing.Signs there J text r K
-      → ((h : Setting) (c : Correct) (x : List ℕ) (then : List Record) → h.me ≡ c.node → signing.Signs h c.journal x r then → IsPrintOf printed (sign_by h c x)) → EndsAs (seen_so here sign s J) (sign_longer text here sign J) printed w lines bytes
+  pub sign_turn : (text : List ℕ) (r : Result PutDone CheckpointError) (printed : Option Printed) (w : ActorView) (lines bytes : List ℕ) → signing.SignsCheckpoint there J text r K
+      → ((h : Setting) (c : Correct) (x : List ℕ) (then : List Record) → h.me ≡ c.node → signing.SignsCheckpoint h c.journal x r then → IsPrintOf printed (sign_by h c x)) → EndsAs (seen_so here sign s J) (sign_longer text here sign J) printed w lines bytes
       → (setup : Setup) (x : Host) → IsHosted setup x (seen_so here sign s J) → CameTo setup (event_result x (sign_by (stands_on setup x.correct.node) x.correct text)) w lines bytes
   sign_turn text r printed w lines bytes signed prints ends setup x mem_host =
       ends setup x (sign_by (stands_on setup x.correct.node) x.correct text) mem_host (appends_there (sign_longer text) (λ h _ c. sign_by h c text) (sign_appends text) setup x (seen_so here sign s J) mem_host)
-      (prints (stands_on setup x.correct.node) x.correct text K refl (subst (λ (l : List Record). signing.Signs (stands_on setup x.correct.node) l text r K) mem_host.journal (subst (λ (h : Setting). signing.Signs h J text r K) (stands ∙ mem_host.here) signed)))
+      (prints (stands_on setup x.correct.node) x.correct text K refl (subst (λ (l : List Record). signing.SignsCheckpoint (stands_on setup x.correct.node) l text r K) mem_host.journal (subst (λ (h : Setting). signing.SignsCheckpoint h J text r K) (stands ∙ mem_host.here) signed)))
 
-  checkpoint_turned : (text : List ℕ) (r : Result PutDone PutError) (printed : Option Printed) (w : View) (lines bytes : List ℕ) → make_of there J ≡ made_text text → Puts there J (checkpoint_changes text) r K
+  checkpoint_turned : (text : List ℕ) (r : Result PutDone PutError) (printed : Option Printed) (w : ActorView) (lines bytes : List ℕ) → make_of there J ≡ made_text text → Puts there J (checkpoint_changes text) r K
       → ((h : Setting) (c : Correct) (then : List Record) → h.me ≡ c.node → make_of h c.journal ≡ made_text text → Puts h c.journal (checkpoint_changes text) r then → IsPrintOf printed (checkpoint_by h c))
       → EndsAs (seen_so here sign s J) (put_longer (checkpoint_changes text) here sign J) printed w lines bytes
       → (setup : Setup) (x : Host) → IsHosted setup x (seen_so here sign s J) → CameTo setup (event_result x (checkpoint_by (stands_on setup x.correct.node) x.correct)) w lines bytes
@@ -158,7 +154,7 @@ module _ (there here : Setting) (stands : there ≡ here) (given sign : Signs) (
       (prints at x.correct K refl made (subst (λ (l : List Record). Puts at l (checkpoint_changes text) r K) mem_host.journal (subst (λ (h : Setting). Puts h J (checkpoint_changes text) r K) (stands ∙ mem_host.here) puts)))
 
   -- the same of the changes as they were put
-  pub checkpoint_turn : (text : List ℕ) (changes : List Change) (r : Result PutDone PutError) (printed : Option Printed) (w : View) (lines bytes : List ℕ) → changes ≡ checkpoint_changes text → make_of there J ≡ made_text text → Puts there J changes r K
+  pub checkpoint_turn : (text : List ℕ) (changes : List Change) (r : Result PutDone PutError) (printed : Option Printed) (w : ActorView) (lines bytes : List ℕ) → changes ≡ checkpoint_changes text → make_of there J ≡ made_text text → Puts there J changes r K
       → ((h : Setting) (c : Correct) (then : List Record) → h.me ≡ c.node → make_of h c.journal ≡ made_text text → Puts h c.journal (checkpoint_changes text) r then → IsPrintOf printed (checkpoint_by h c))
       → EndsAs (seen_so here sign s J) (put_longer changes here sign J) printed w lines bytes
       → (setup : Setup) (x : Host) → IsHosted setup x (seen_so here sign s J) → CameTo setup (event_result x (checkpoint_by (stands_on setup x.correct.node) x.correct)) w lines bytes
@@ -178,7 +174,7 @@ unmade_is_still here c unmade.Memory settled makes = absurd settled
 unmade_is_still here c unmade.Empty settled makes = subst (λ (d : Effect). IsStill d c.journal) (sym (ap (checkpoint_with here c) makes)) (record { calls = refl; journal = refl })
 unmade_is_still here c (unmade.Many n) settled makes = subst (λ (d : Effect). IsStill d c.journal) (sym (ap (checkpoint_with here c) makes)) (record { calls = refl; journal = refl })
 
-pub unmade_came : (setup : Setup) (x : Host) (v w : View) (s : State) (there : Setting) (r : MakeError) → IsHosted setup x v → v.pending ≡ pending_of s.next → IsToCome s → IsThen v w v.journal v.pending → there ≡ v.here → SettlesMake r → Makes there v.journal (Err r)
+pub unmade_came : (setup : Setup) (x : Host) (v w : ActorView) (s : State) (there : Setting) (r : MakeError) → IsHosted setup x v → v.pending ≡ pending_of s.next → IsToCome s → IsThen v w v.journal v.pending → there ≡ v.here → SettlesMake r → Makes there v.journal (Err r)
     → (p : Printed) → ((here : Setting) (c : Correct) → Makes here c.journal (Err r) → IsPrintOf (Some p) (checkpoint_by here c)) → CameTo setup (event_result x (checkpoint_by (stands_on setup x.correct.node) x.correct)) w p.lines p.bytes
 unmade_came setup x v w s there r mem_host pending to_come then same settled makes p told =
     let at = stands_on setup x.correct.node in

@@ -14,11 +14,11 @@ use Rattle.depot_model.specs.Lawful.{IsLawful, is_empty}
 use Rattle.depot_model.specs.Roster.{Verifies}
 use Rattle.depot_model.specs.Stops.{calls_to_record}
 use Rattle.depot_base.specs.declared.key.RosterEntry.{RosterEntry}
-use Rattle.depot_outside.specs.Stopping.{State, Leads}
+use Rattle.depot_outside.specs.Stopping.{State, CallsLead}
 use Rattle.depot_world.specs.Run.{PendingStop, Host}
-use Rattle.depot_world.specs.ScheduleStops.{Effect, EventResult, left_of, standing_after, event_result}
+use Rattle.depot_world.specs.ScheduleStops.{Effect, EventResult, journal_left, standing_after, event_result}
 use Rattle.depot_world.specs.Setups.{Setup}
-use Rattle.depot_simulation.specs.Acting.{CameTo, IsHosted, View}
+use Rattle.depot_simulation.specs.Acting.{CameTo, IsHosted, ActorView}
 use Rattle.depot_replay.specs.Disks.{Stopped, pending_of}
 use Rattle.depot_replay.specs.PrintedRuns.{EndsAs}
 use Rattle.depot_replay.specs.MemHostFacts.{lawful_there}
@@ -53,34 +53,34 @@ fed_runs (Err (error.IllFormed at)) printed stopped runs none settled some = abs
 -- ---- the node after it
 
 -- the node afterwards is the one before it, with this journal and this stop
-pub record IsThen (v w : View) (J : List Record) (pending : Option PendingStop) : Type 0 where
+pub record IsThen (v w : ActorView) (J : List Record) (pending : Option PendingStop) : Type 0 where
   pub here : w.here ≡ v.here
   pub sign : w.sign ≡ v.sign
   pub journal : w.journal ≡ J
   pub pending_is : w.pending ≡ pending
 
 -- an event that went as it goes, by calls of which none failed
-pub came_well : (setup : Setup) (x : Host) (d : Effect) (v w : View) (s t : State) (calls : List Call) (lines bytes : List ℕ) → IsHosted setup x v → v.pending ≡ pending_of s.next → IsToCome s → Leads s (made calls) t → d.calls ≡ length calls
+pub came_well : (setup : Setup) (x : Host) (d : Effect) (v w : ActorView) (s t : State) (calls : List Call) (lines bytes : List ℕ) → IsHosted setup x v → v.pending ≡ pending_of s.next → IsToCome s → CallsLead s (made calls) t → d.calls ≡ length calls
     → IsThen v w d.journal (pending_of t.next) → lines ≡ lines_of_effect d → bytes ≡ d.bytes → CameTo setup (event_result x d) w lines bytes
 came_well setup x d v w s t calls lines bytes mem_host pending to_come led count then is gives =
     subst (λ (g : EventResult). CameTo setup g w lines bytes) (sym (went_well x d s t calls (sym mem_host.pending ∙ pending) to_come led count))
     (record { hosted = record { here = then.here ∙ mem_host.here; sign = then.sign ∙ mem_host.sign; journal = then.journal; pending = then.pending_is }; lines_are = is; bytes_are = gives })
 
 -- an event into which a stop fell
-pub came_stopped : (setup : Setup) (x : Host) (d : Effect) (v w : View) (s t : State) (cut : Stopped s t d.calls) (lines : List ℕ) → IsHosted setup x v → v.pending ≡ pending_of s.next → IsThen v w (left_of v.journal d.journal cut.pending) None → lines ≡ stopped_line w.journal
+pub came_stopped : (setup : Setup) (x : Host) (d : Effect) (v w : ActorView) (s t : State) (cut : Stopped s t d.calls) (lines : List ℕ) → IsHosted setup x v → v.pending ≡ pending_of s.next → IsThen v w (journal_left v.journal d.journal cut.pending) None → lines ≡ stopped_line w.journal
     → CameTo setup (event_result x d) w lines []
 came_stopped setup x d v w s t cut lines mem_host pending then is =
-    let left : w.journal ≡ left_of x.correct.journal d.journal cut.pending = then.journal ∙ ap (λ (J : List Record). left_of J d.journal cut.pending) mem_host.journal in
+    let left : w.journal ≡ journal_left x.correct.journal d.journal cut.pending = then.journal ∙ ap (λ (J : List Record). journal_left J d.journal cut.pending) mem_host.journal in
     subst (λ (g : EventResult). CameTo setup g w lines []) (sym (went_cut x d s t cut (sym mem_host.pending ∙ pending)))
     (record {
       hosted = record { here = then.here ∙ mem_host.here; sign = then.sign ∙ mem_host.sign; journal = left; pending = then.pending_is };
-      lines_are = is ∙ ap stopped_line left ∙ sym (append-nil (stopped_line (left_of x.correct.journal d.journal cut.pending)));
+      lines_are = is ∙ ap stopped_line left ∙ sym (append-nil (stopped_line (journal_left x.correct.journal d.journal cut.pending)));
       bytes_are = refl;
     })
 
 -- ---- a call that appends
 
-module _ {v : View} {s t : State} {K longer : List Record} {failed : Type 0} (c : IsCalled v s t K longer failed) where
+module _ {v : ActorView} {s t : State} {K longer : List Record} {failed : Type 0} (c : IsCalled v s t K longer failed) where
   -- the disk has the journal after it
   pub called_kept : (failed → ⊥) → IsKeptOn t K
   called_kept well =
@@ -91,7 +91,7 @@ module _ {v : View} {s t : State} {K longer : List Record} {failed : Type 0} (c 
   counted d a = a.calls ∙ omega (arith, ap length c.grows, length-append v.journal c.new)
 
   -- it went as it goes
-  pub called_well : (setup : Setup) (x : Host) (d : Effect) (w : View) (lines bytes : List ℕ) → (failed → ⊥) → IsHosted setup x v → Appends d v.journal longer → IsThen v w K (pending_of t.next) → lines ≡ lines_of_effect d → bytes ≡ d.bytes → CameTo setup (event_result x d) w lines bytes
+  pub called_well : (setup : Setup) (x : Host) (d : Effect) (w : ActorView) (lines bytes : List ℕ) → (failed → ⊥) → IsHosted setup x v → Appends d v.journal longer → IsThen v w K (pending_of t.next) → lines ≡ lines_of_effect d → bytes ≡ d.bytes → CameTo setup (event_result x d) w lines bytes
   called_well setup x d w lines bytes well mem_host a then is gives =
       let whole = c.whole well in
       came_well setup x d v w s t (calls_to_record v.journal c.new) lines bytes mem_host c.pending c.begun.kept.to_come whole.1 (counted d a ∙ sym (calls_counted v.journal c.new))
@@ -116,7 +116,7 @@ module _ {v : View} {s t : State} {K longer : List Record} {failed : Type 0} (c 
       }
 
   -- a stop fell into it
-  pub called_cut : (setup : Setup) (x : Host) (d : Effect) (w : View) (lines : List ℕ) (f : failed) → IsHosted setup x v → Appends d v.journal longer → IsThen v w (left_by_cut f) None → lines ≡ stopped_line w.journal → CameTo setup (event_result x d) w lines []
+  pub called_cut : (setup : Setup) (x : Host) (d : Effect) (w : ActorView) (lines : List ℕ) (f : failed) → IsHosted setup x v → Appends d v.journal longer → IsThen v w (left_by_cut f) None → lines ≡ stopped_line w.journal → CameTo setup (event_result x d) w lines []
   unfolding left_by_cut
   called_cut setup x d w lines f mem_host a then is =
       let cut = cut_of f in
@@ -131,7 +131,7 @@ module _ {v : View} {s t : State} {K longer : List Record} {failed : Type 0} (c 
 
 -- ---- what is printed of it
 
-pub cut_ends : {v : View} {s t : State} {K longer : List Record} (p : Option Printed) (none : p ≡ None) (c : IsCalled v s t K longer (p ≡ None)) (w : View) (lines bytes : List ℕ) → IsThen v w (left_by_cut c none) None → lines ≡ stopped_line w.journal → bytes ≡ []
+pub cut_ends : {v : ActorView} {s t : State} {K longer : List Record} (p : Option Printed) (none : p ≡ None) (c : IsCalled v s t K longer (p ≡ None)) (w : ActorView) (lines bytes : List ℕ) → IsThen v w (left_by_cut c none) None → lines ≡ stopped_line w.journal → bytes ≡ []
     → EndsAs v longer p w lines bytes
 cut_ends p none c w lines bytes then is gives setup x d mem_host a print = subst (λ (b : List ℕ). CameTo setup (event_result x d) w lines b) (sym gives) (called_cut c setup x d w lines none mem_host a then is)
 
@@ -148,5 +148,5 @@ same_signs a b same = λ i. λ seq body. same seq body i
 
 -- a node that is seen so
 pub view_is : (verifies : Verifies) (me : ℕ) (listed given : List RosterEntry) (sign : Signs) (J K : List Record) (pending waits : Option PendingStop) → listed ≡ given → J ≡ K → pending ≡ waits
-    → ◌≡◌ {A = View} (record { here = record { verifies = verifies; me = me; listed = listed }; sign = sign; journal = J; pending = pending }) (record { here = record { verifies = verifies; me = me; listed = given }; sign = sign; journal = K; pending = waits })
+    → ◌≡◌ {A = ActorView} (record { here = record { verifies = verifies; me = me; listed = listed }; sign = sign; journal = J; pending = pending }) (record { here = record { verifies = verifies; me = me; listed = given }; sign = sign; journal = K; pending = waits })
 view_is verifies me listed given sign J K pending waits is_listed is_journal is_pending = λ i. record { here = record { verifies = verifies; me = me; listed = is_listed i }; sign = sign; journal = is_journal i; pending = is_pending i }

@@ -14,9 +14,9 @@ use Rattle.depot_model.specs.Lawful.{IsLawful, is_empty}
 use Rattle.depot_model.specs.Records.{journal_bytes, text_of_record}
 use Rattle.depot_model.specs.Stops.{HasRecords, calls_to_record}
 use Rattle.depot_laws.proofs.OwnTexts.{lawful_is_light, lawful_is_short}
-use Rattle.depot_outside.specs.Stopping.{State, Leads}
+use Rattle.depot_outside.specs.Stopping.{State, CallsLead}
 use Rattle.depot_world.specs.Run.{PendingStop, Host}
-use Rattle.depot_world.specs.ScheduleStops.{Effect, left_of, standing_after, stopped_with, event_result, result_by}
+use Rattle.depot_world.specs.ScheduleStops.{Effect, journal_left, standing_after, stopped_with, event_result, result_by}
 use Rattle.depot_replay.specs.Disks.{Stopped, pending_of}
 use Rattle.depot_replay.specs.MemHosts.{IsKeptOn, StandIn}
 use Rattle.depot_replay.proofs.DiskAppends.{appends_rest, appends_stand, stopped_appending}
@@ -82,7 +82,7 @@ calls_counted J new = calls_many (length (blocks (map text_of_record J))) (map t
 abbrev pub IsToCome : State → Type 0
 IsToCome s = (a : PendingStop) → pending_of s.next ≡ Some a → 1 ≤ a.call
 
-pub to_come_after : (s t : State) (calls : List Call) → IsToCome s → Leads s (made calls) t → IsToCome t
+pub to_come_after : (s t : State) (calls : List Call) → IsToCome s → CallsLead s (made calls) t → IsToCome t
 to_come_after s t calls to_come led a waits = by_pending (pending_of s.next) refl where
   by_pending : (o : Option PendingStop) → pending_of s.next ≡ o → 1 ≤ a.call
   by_pending None none = let never : None ≡ Some a = sym (none_waits_after s t calls led none) ∙ waits in absurd cc
@@ -91,7 +91,7 @@ to_come_after s t calls to_come led a waits = by_pending (pending_of s.next) ref
       omega (arith, comes_after s t calls b led is (to_come b is), ap (λ (x : PendingStop). x.call) same)
 
 -- the disk has the records that were appended, too
-pub kept_after : (s t : State) (J new : List Record) → IsKeptOn s J → Leads s (made (calls_to_record J new)) t → IsKeptOn t (J ++ new)
+pub kept_after : (s t : State) (J new : List Record) → IsKeptOn s J → CallsLead s (made (calls_to_record J new)) t → IsKeptOn t (J ++ new)
 kept_after s t J new kept led = record {
   at_rest = appends_rest s t (length (blocks (map text_of_record J))) (map text_of_record new) kept.at_rest led;
   stand = subst (StandIn t.file) (sym (map-append text_of_record J new)) (stand_in t.file (map text_of_record J ++ map text_of_record new)
@@ -100,7 +100,7 @@ kept_after s t J new kept led = record {
 }
 
 -- the event went as it goes, and the stop that waits is so many calls nearer
-pub went_well : (x : Host) (d : Effect) (s t : State) (calls : List Call) → x.pending ≡ pending_of s.next → IsToCome s → Leads s (made calls) t → d.calls ≡ length calls → event_result x d ≡ result_by x (pending_of t.next) d
+pub went_well : (x : Host) (d : Effect) (s t : State) (calls : List Call) → x.pending ≡ pending_of s.next → IsToCome s → CallsLead s (made calls) t → d.calls ≡ length calls → event_result x d ≡ result_by x (pending_of t.next) d
 unfolding event_result
 went_well x d s t calls same to_come led count = by_pending (pending_of s.next) refl where
   by_pending : (o : Option PendingStop) → pending_of s.next ≡ o → event_result x d ≡ result_by x (pending_of t.next) d
@@ -113,7 +113,7 @@ went_well x d s t calls same to_come led count = by_pending (pending_of s.next) 
 -- ---- a stop
 
 -- the stop falls into the event
-pub went_cut : (x : Host) (d : Effect) (s t : State) (cut : Stopped s t d.calls) → x.pending ≡ pending_of s.next → event_result x d ≡ stopped_with x (left_of x.correct.journal d.journal cut.pending)
+pub went_cut : (x : Host) (d : Effect) (s t : State) (cut : Stopped s t d.calls) → x.pending ≡ pending_of s.next → event_result x d ≡ stopped_with x (journal_left x.correct.journal d.journal cut.pending)
 unfolding event_result
 went_cut x d s t cut same = rw (same ∙ cut.waited, le-leb cut.pending.call d.calls cut.within) refl
 
@@ -128,7 +128,7 @@ none_to_come t none a waits = let never : None ≡ Some a = sym none ∙ waits i
 take_texts : (n : ℕ) (new : List Record) → take n (map text_of_record new) ≡ map text_of_record (take n new)
 take_texts n new = take-map text_of_record n new
 
-pub cut_short : (s t : State) (J new : List Record) → IsKeptOn s J → FailsAmong Leads s t (calls_to_record J new) → IsCut s t J new
+pub cut_short : (s t : State) (J new : List Record) → IsKeptOn s J → FailsAmong CallsLead s t (calls_to_record J new) → IsCut s t J new
 cut_short s t J new kept fails =
     let x = stopped_appending s t (map text_of_record J) (map text_of_record new) kept.at_rest (stands_for s.file (map text_of_record J) kept.stand) fails in
     let some : 4 * length (map text_of_record new) ≡ 4 * length new = ap (λ (n : ℕ). 4 * n) (length-map new text_of_record) in

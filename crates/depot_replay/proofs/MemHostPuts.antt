@@ -18,7 +18,7 @@ use Rattle.depot_model.specs.declared.put_answers.PutError.TheVariants as refuse
 use Rattle.depot_outside.specs.Stopping.{State}
 use Rattle.depot_world.specs.Effects.{grown, put_by}
 use Rattle.depot_world.specs.ScheduleStops.{Effect}
-use Rattle.depot_simulation.specs.Acting.{View}
+use Rattle.depot_simulation.specs.Acting.{ActorView}
 use Rattle.depot_replay.specs.Disks.{pending_of}
 use Rattle.depot_node_lines.specs.PutPrinting.{SettlesPut}
 use Rattle.depot_replay.specs.MemHosts.{Appends, IsBegunOn, IsCalled}
@@ -55,7 +55,7 @@ put_appends changes here sign c same = within_appends here c changes (limit_of_p
 
 -- ---- the call
 
-module _ (v : View) (s t : State) (K : List Record) (changes : List Change) (pending : v.pending ≡ pending_of s.next) (begun : IsBegunOn v.here s v.journal) where
+module _ (v : ActorView) (s t : State) (K : List Record) (changes : List Change) (pending : v.pending ≡ pending_of s.next) (begun : IsBegunOn v.here s v.journal) where
   none_put : (failed : Type 0) (limit : Limit) → (failed → ⊥) → limit_of_put v.here v.journal changes ≡ Some limit → K ≡ v.journal → (appends : List Record) → IsDoneOn s t v.journal K appends failed
       → IsCalled v s t K (put_longer changes v.here v.sign v.journal) failed
   none_put failed limit well is same appends done = none_called v s t K _ failed pending begun well (ap (put_within v.here v.journal changes) is) same appends done

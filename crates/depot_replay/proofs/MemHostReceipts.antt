@@ -11,12 +11,12 @@ use Rattle.depot_model.specs.Checks.{Setting}
 use Rattle.depot_model.specs.Receipts.{NoReceipt, no_receipt, receipt_changes}
 use Rattle.depot_model.specs.World.{Correct}
 use Rattle.depot_outside.specs.Stopping.{State}
-use Rattle.depot_receipts.specs.Giving.{Gives, PutsReceipts, receipt_records}
+use Rattle.depot_receipts.specs.Giving.{GivesReceipts, PutsReceipts, receipt_records}
 use Rattle.depot_receipts.specs.declared.give_error.GiveError.{GiveError}
 use Rattle.depot_receipts.specs.declared.give_error.GiveError.TheVariants as give
 use Rattle.depot_world.specs.Effects.{receipt_by}
 use Rattle.depot_world.specs.ScheduleStops.{Effect}
-use Rattle.depot_simulation.specs.Acting.{View}
+use Rattle.depot_simulation.specs.Acting.{ActorView}
 use Rattle.depot_node_lines.specs.PutPrinting.{SettlesPut}
 use Rattle.depot_node_lines.specs.ReceiptPrinting.{SettlesGive}
 use Rattle.depot_node_lines.specs.declared.printed.Printed.{Printed}
@@ -49,7 +49,7 @@ receipt_appends ids here sign c same = within_appends ids here sign c (no_receip
 
 -- ---- the call
 
-module _ (v : View) (s t : State) (K : List Record) (ids : List (List ℕ)) (pending : v.pending ≡ pending_of s.next) (begun : IsBegunOn v.here s v.journal) where
+module _ (v : ActorView) (s t : State) (K : List Record) (ids : List (List ℕ)) (pending : v.pending ≡ pending_of s.next) (begun : IsBegunOn v.here s v.journal) where
   -- their put was tried
   by_put : (r : Result PutDone GiveError) (answer : Result PutDone PutError) (printed : Option Printed) → PutsReceipts v.here v.journal ids answer K → IsErrOf answer refused.Disk ↔ IsErrOf r give.Disk → SettlesPut answer → AreChanges (receipt_changes ids)
       → IsDoneOn s t v.journal K (receipt_records v.here v.journal ids) (IsErrOf r give.Disk) → (printed ≡ None) ↔ IsErrOf r give.Disk → IsCalled v s t K (receipt_longer ids v.here v.sign v.journal) (printed ≡ None)
@@ -66,7 +66,7 @@ module _ (v : View) (s t : State) (K : List Record) (ids : List (List ℕ)) (pen
       none_called v s t K (receipt_longer ids v.here v.sign v.journal) (printed ≡ None) pending begun (λ none. well (cut.0 none)) (ap (receipt_within ids v.here v.sign v.journal) gives.0) gives.1 (receipt_records v.here v.journal ids)
       (done_alike s t v.journal K (receipt_records v.here v.journal ids) (IsErrOf r give.Disk) (printed ≡ None) (cut.1, cut.0) done)
 
-  pub receipt_called : (r : Result PutDone GiveError) (printed : Option Printed) → AreChanges (receipt_changes ids) → Gives v.here v.journal ids r K → SettlesGive r → IsDoneOn s t v.journal K (receipt_records v.here v.journal ids) (IsErrOf r give.Disk) → (printed ≡ None) ↔ IsErrOf r give.Disk
+  pub receipt_called : (r : Result PutDone GiveError) (printed : Option Printed) → AreChanges (receipt_changes ids) → GivesReceipts v.here v.journal ids r K → SettlesGive r → IsDoneOn s t v.journal K (receipt_records v.here v.journal ids) (IsErrOf r give.Disk) → (printed ≡ None) ↔ IsErrOf r give.Disk
       → IsCalled v s t K (receipt_longer ids v.here v.sign v.journal) (printed ≡ None)
   receipt_called (Ok d) printed are gives settled done cut = by_put (Ok d) (Ok d) printed gives (cut_by_put (Ok d) (Ok d) refl) tt are done cut
   receipt_called (Err give.Memory) printed are gives settled done cut = absurd settled

@@ -16,8 +16,8 @@ use Rattle.depot_node.specs.Starting.{IsStartedFrom, LeavesFile, calls_to_start_
 use Rattle.depot_node.specs.declared.start_error.StartError.{StartError}
 use Rattle.depot_node.specs.declared.start_error.StartError.TheVariants as refused
 use Rattle.depot_node.proofs.StartLaws.{lawful_file_is_read}
-use Rattle.depot_outside.specs.Stopping.{State, Leads, done_by, fresh}
-use Rattle.depot_outside.specs.StopImages.{numbered}
+use Rattle.depot_outside.specs.Stopping.{State, CallsLead, done_by, fresh}
+use Rattle.depot_outside.specs.StopImages.{image_of_number}
 use Rattle.depot_outside.specs.declared.stops.Stop.{Stop}
 use Rattle.depot_world.specs.Run.{PendingStop}
 use Rattle.depot_replay.specs.Disks.{IsAtRest, StoppedReading, pending_of}
@@ -46,7 +46,7 @@ three_calls file long = rw (lt-leb (length file) 1 long) refl
 pub record IsStartedOn (here : Setting) (s t : State) (J K : List Record) : Type 0 where
   pub same : K ≡ J
   pub begun : IsBegunOn here t J
-  pub led : Leads s (made (calls_to_start s.file)) t
+  pub led : CallsLead s (made (calls_to_start s.file)) t
   pub long : 2 ≤ length s.file
 
 same_begun : (here : Setting) (s t : State) (J : List Record) → IsBegunOn here s J → IsAtRest t → t.file ≡ s.file → IsToCome t → IsBegunOn here t J
@@ -56,11 +56,11 @@ same_begun here s t J begun rest same to_come = record {
   kept = record { at_rest = rest; stand = subst (λ (file : List ℕ). StandIn file (map text_of_record J)) (sym same) begun.kept.stand; to_come = to_come };
 }
 
-pub started_on : (here : Setting) (s t : State) (J K : List Record) → IsBegunOn here s J → IsStartedFrom here s.file K → ((L : List Record) → HasRecords L s.file → Leads s (made (calls_to_start_node here s.file L)) t) → IsStartedOn here s t J K
+pub started_on : (here : Setting) (s t : State) (J K : List Record) → IsBegunOn here s J → IsStartedFrom here s.file K → ((L : List Record) → HasRecords L s.file → CallsLead s (made (calls_to_start_node here s.file L)) t) → IsStartedOn here s t J K
 started_on here s t J K begun from calls =
     let has = has_records here s.file J begun.lawful begun.kept.stand in
     let long = two_bytes s.file J begun.some begun.kept.stand in
-    let led = subst (λ (c : List Call). Leads s (made c) t) (again_calls here s.file J begun.some) (calls J has) in
+    let led = subst (λ (c : List Call). CallsLead s (made c) t) (again_calls here s.file J begun.some) (calls J has) in
     let left = starts.started s t begun.kept.at_rest long led in
     record {
       same = lawful_file_is_read here s.file J K has begun.lawful from ∙ again_started here J begun.some;
@@ -70,10 +70,10 @@ started_on here s t J K begun from calls =
     }
 
 -- a stop fell into it
-pub start_stopped : (here : Setting) (s t : State) (J : List Record) → IsBegunOn here s J → ((L : List Record) → HasRecords L s.file → FailsAmong Leads s t (calls_to_start_node here s.file L)) → StoppedReading s t 3
+pub start_stopped : (here : Setting) (s t : State) (J : List Record) → IsBegunOn here s J → ((L : List Record) → HasRecords L s.file → FailsAmong CallsLead s t (calls_to_start_node here s.file L)) → StoppedReading s t 3
 start_stopped here s t J begun fails =
     starts.stopped_starting s t begun.kept.at_rest (two_bytes s.file J begun.some begun.kept.stand)
-    (subst (λ (c : List Call). FailsAmong Leads s t c) (again_calls here s.file J begun.some) (fails J (has_records here s.file J begun.lawful begun.kept.stand)))
+    (subst (λ (c : List Call). FailsAmong CallsLead s t c) (again_calls here s.file J begun.some) (fails J (has_records here s.file J begun.lawful begun.kept.stand)))
 
 pub stopped_begun : (here : Setting) (s t : State) (J : List Record) → IsBegunOn here s J → (x : StoppedReading s t 3) → IsBegunOn here t J
 stopped_begun here s t J begun x = same_begun here s t J begun x.stopped.at_rest x.same (none_to_come t x.stopped.none_waits)
@@ -85,13 +85,13 @@ record IsGated (t : State) (more : List Call) : Type 0 where
   gated : State
   at_rest : IsAtRest gated
   file_is : gated.file ≡ 0 ∷ []
-  led : Leads gated (made more) t
+  led : CallsLead gated (made more) t
 
 empty_file : (s1 s2 : State) → Gone syncs (fresh [] []) s1 → Gone asks_length s1 s2 → s2.file ≡ []
 unfolding done_by
 empty_file s1 s2 first asked = asked.file_is ∙ first.file_is
 
-gated_on : (t : State) (more : List Call) → Leads (fresh [] []) (made (calls_to_start [] ++ more)) t → IsGated t more
+gated_on : (t : State) (more : List Call) → CallsLead (fresh [] []) (made (calls_to_start [] ++ more)) t → IsGated t more
 gated_on t more led =
     let (s1, first, led1) = led_on (fresh [] []) t syncs (asks_length ∷ writes_at 0 (0 ∷ []) ∷ syncs ∷ more) led in
     let (s2, asked, led2) = led_on s1 t asks_length (writes_at 0 (0 ∷ []) ∷ syncs ∷ more) led1 in
@@ -114,10 +114,10 @@ pub record IsFreshOn (here : Setting) (t : State) (K : List Record) : Type 0 whe
 empty_has : HasRecords [] []
 empty_has = inl (omega arith, refl)
 
-pub fresh_on : (here : Setting) (t : State) (K : List Record) → IsStartedFrom here [] K → ((L : List Record) → HasRecords L [] → Leads (fresh [] []) (made (calls_to_start_node here [] L)) t) → IsFreshOn here t K
+pub fresh_on : (here : Setting) (t : State) (K : List Record) → IsStartedFrom here [] K → ((L : List Record) → HasRecords L [] → CallsLead (fresh [] []) (made (calls_to_start_node here [] L)) t) → IsFreshOn here t K
 fresh_on here t K from calls =
     let texts : List (List ℕ) = text_of_record (Birth here.me (hash_of_roster here.listed)) ∷ [] in
-    let led : Leads (fresh [] []) (made (calls_to_start [] ++ calls_to_append_all 0 texts)) t = calls [] empty_has in
+    let led : CallsLead (fresh [] []) (made (calls_to_start [] ++ calls_to_append_all 0 texts)) t = calls [] empty_has in
     let g = gated_on t (calls_to_append_all 0 texts) led in
     let none = none_waits_after (fresh [] []) t (calls_to_start [] ++ calls_to_append_all 0 texts) led refl in
     let is : K ≡ Birth here.me (hash_of_roster here.listed) ∷ [] = lawful_file_is_read here [] [] K empty_has (lawful_none here) from in
@@ -132,9 +132,9 @@ fresh_on here t K from calls =
     }
 
 -- the same of a disk that is as a fresh one
-pub fresh_from : (here : Setting) (s t : State) (K : List Record) → s ≡ fresh [] [] → IsStartedFrom here s.file K → ((L : List Record) → HasRecords L s.file → Leads s (made (calls_to_start_node here s.file L)) t) → IsFreshOn here t K
+pub fresh_from : (here : Setting) (s t : State) (K : List Record) → s ≡ fresh [] [] → IsStartedFrom here s.file K → ((L : List Record) → HasRecords L s.file → CallsLead s (made (calls_to_start_node here s.file L)) t) → IsFreshOn here t K
 fresh_from here s t K is from calls =
-    fresh_on here t K (subst (λ (x : State). IsStartedFrom here x.file K) is from) (subst (λ (x : State). (L : List Record) → HasRecords L x.file → Leads x (made (calls_to_start_node here x.file L)) t) is calls)
+    fresh_on here t K (subst (λ (x : State). IsStartedFrom here x.file K) is from) (subst (λ (x : State). (L : List Record) → HasRecords L x.file → CallsLead x (made (calls_to_start_node here x.file L)) t) is calls)
 
 -- ---- a start on which a stop waits
 
@@ -150,11 +150,11 @@ pending_begun here s u J stop begun is from_one = subst (λ (x : State). IsBegun
   };
 })
 
-waits_behind : (s u : State) (call image : ℕ) → image ≤ 2 → u ≡ record s { next = Some (record { call = call + 3; image = numbered image }) } → pending_of u.next ≡ Some (record { call = call + 3; image = image })
+waits_behind : (s u : State) (call image : ℕ) → image ≤ 2 → u ≡ record s { next = Some (record { call = call + 3; image = image_of_number image }) } → pending_of u.next ≡ Some (record { call = call + 3; image = image })
 waits_behind s u call image small is = ap (λ (x : State). pending_of x.next) is ∙ pending_numbered (call + 3) image small
 
 -- the start brings it three calls nearer
-pub pending_on : (here : Setting) (s u t : State) (J K : List Record) (call image : ℕ) → image ≤ 2 → u ≡ record s { next = Some (record { call = call + 3; image = numbered image }) } → IsStartedOn here u t J K → pending_of t.next ≡ Some (record { call = call; image = image })
+pub pending_on : (here : Setting) (s u t : State) (J K : List Record) (call image : ℕ) → image ≤ 2 → u ≡ record s { next = Some (record { call = call + 3; image = image_of_number image }) } → IsStartedOn here u t J K → pending_of t.next ≡ Some (record { call = call; image = image })
 pending_on here s u t J K call image small is x =
     let waits = waits_behind s u call image small is in
     let left : call + 3 - length (calls_to_start u.file) ≡ call = omega (arith, three_calls u.file x.long) in
@@ -174,7 +174,7 @@ memory_or_disk (refused.OtherRoster kept given) spared = absurd (spared tt)
 memory_or_disk (refused.NotLawful place fault) spared = absurd (spared tt)
 
 -- from the records of a lawful journal it is for want of memory, where no call fails
-only_memory : (here : Setting) (s t : State) (J : List Record) (e : StartError) → HasRecords J s.file → IsLawful here J → SparesLawful here s e → (e ≡ refused.Disk → FailsToStart here s t) → (FailsAmong Leads s t (calls_to_start_node here s.file J) → ⊥) → e ≡ refused.Memory
+only_memory : (here : Setting) (s t : State) (J : List Record) (e : StartError) → HasRecords J s.file → IsLawful here J → SparesLawful here s e → (e ≡ refused.Disk → FailsToStart here s t) → (FailsAmong CallsLead s t (calls_to_start_node here s.file J) → ⊥) → e ≡ refused.Memory
 only_memory here s t J e has l spares fails well = elim (memory_or_disk e (spares J has l)) [ inl memory ↦ memory | inr disk ↦ absurd (well (fails disk J has)) ]
 
 -- as from an empty disk
@@ -191,7 +191,7 @@ again_wants here s t e was spares fails =
     only_memory here s t was.journal e (has_records here s.file was.journal begun.lawful begun.kept.stand) begun.lawful spares fails (none_fails s t (calls_to_start_node here s.file was.journal) begun.kept.at_rest was.none_waits)
 
 -- and where the stop comes behind the start
-pub behind_wants : (here : Setting) (s u t : State) (J : List Record) (call image : ℕ) (e : StartError) → 1 ≤ call → image ≤ 2 → IsBegunOn here u J → u ≡ record s { next = Some (record { call = call + 3; image = numbered image }) } → SparesLawful here u e
+pub behind_wants : (here : Setting) (s u t : State) (J : List Record) (call image : ℕ) (e : StartError) → 1 ≤ call → image ≤ 2 → IsBegunOn here u J → u ≡ record s { next = Some (record { call = call + 3; image = image_of_number image }) } → SparesLawful here u e
     → (e ≡ refused.Disk → FailsToStart here u t) → e ≡ refused.Memory
 behind_wants here s u t J call image e from_one small begun is spares fails =
     let three : length (calls_to_start_node here u.file J) ≡ 3 = ap (λ (calls : List Call). length calls) (again_calls here u.file J begun.some) ∙ three_calls u.file (two_bytes u.file J begun.some begun.kept.stand) in

@@ -23,14 +23,14 @@ use Rattle.depot_model.specs.declared.put_answers.PutDone.{PutDone}
 use Rattle.depot_model.specs.declared.put_answers.PutError.{PutError}
 use Rattle.depot_model.specs.declared.put_answers.PutError.TheVariants as put_error
 use Rattle.depot_outside.specs.Stopping.{State}
-use Rattle.depot_receipts.specs.Giving.{Gives, receipt_records}
+use Rattle.depot_receipts.specs.Giving.{GivesReceipts, receipt_records}
 use Rattle.depot_receipts.specs.declared.give_error.GiveError.{GiveError}
 use Rattle.depot_receipts.specs.declared.give_error.GiveError.TheVariants as give_error
 use Rattle.depot_world.specs.Effects.{bundle_by, fed_by, give_by, put_by, receipt_by}
 use Rattle.depot_world.specs.Run.{Host}
 use Rattle.depot_world.specs.ScheduleStops.{event_result}
 use Rattle.depot_world.specs.Setups.{Setup, signs_on, stands_on}
-use Rattle.depot_simulation.specs.Acting.{CameTo, IsHosted, View}
+use Rattle.depot_simulation.specs.Acting.{CameTo, IsHosted, ActorView}
 use Rattle.depot_replay.specs.Disks.{pending_of}
 use Rattle.depot_node_lines.specs.Printing.{IsPrintOf, IsToldOf, SettlesBundle, SettlesFeed}
 use Rattle.depot_replay.specs.PrintedRuns.{EndsAs}
@@ -48,7 +48,7 @@ pub same_setting : (verifies : Verifies) (me own : ℕ) (listed given : List Ros
 same_setting verifies me own listed given is_me is_listed = λ i. record { verifies = verifies; me = is_me i; listed = is_listed i }
 
 -- how it is seen
-abbrev pub seen_so : Setting → Signs → State → List Record → View
+abbrev pub seen_so : Setting → Signs → State → List Record → ActorView
 seen_so here sign s J = record { here = here; sign = sign; journal = J; pending = pending_of s.next }
 
 -- The node stands there, and was started with what it is seen with; its call made of one state of its disk another one, and of its journal
@@ -62,7 +62,7 @@ module _ (there here : Setting) (stands : there ≡ here) (given sign : Signs) (
       put_called (seen_so here sign s J) s t K changes refl begun r printed are (subst (λ (h : Setting). Puts h J changes r K) stands puts) settled
       (subst (λ (h : Setting). IsDoneOn s t J K (put_records h J changes) (IsErrOf r put_error.Disk)) stands done) is
 
-  pub put_turn : (changes : List Change) (r : Result PutDone PutError) (printed : Option Printed) (w : View) (lines bytes : List ℕ) → Puts there J changes r K
+  pub put_turn : (changes : List Change) (r : Result PutDone PutError) (printed : Option Printed) (w : ActorView) (lines bytes : List ℕ) → Puts there J changes r K
       → ((h : Setting) (c : Correct) (cs : List Change) (then : List Record) → h.me ≡ c.node → Puts h c.journal cs r then → IsPrintOf printed (put_by h c cs)) → EndsAs (seen_so here sign s J) (put_longer changes here sign J) printed w lines bytes
       → (setup : Setup) (x : Host) → IsHosted setup x (seen_so here sign s J) → CameTo setup (event_result x (put_by (stands_on setup x.correct.node) x.correct changes)) w lines bytes
   put_turn changes r printed w lines bytes puts prints ends setup x mem_host =
@@ -71,18 +71,18 @@ module _ (there here : Setting) (stands : there ≡ here) (given sign : Signs) (
 
   -- ---- receipts
 
-  pub receipt_hosted : (ids : List (List ℕ)) (r : Result PutDone GiveError) (printed : Option Printed) → AreChanges (receipt_changes ids) → Gives there J ids r K → SettlesGive r → IsDoneOn s t J K (receipt_records there J ids) (IsErrOf r give_error.Disk) → (printed ≡ None) ↔ IsErrOf r give_error.Disk
+  pub receipt_hosted : (ids : List (List ℕ)) (r : Result PutDone GiveError) (printed : Option Printed) → AreChanges (receipt_changes ids) → GivesReceipts there J ids r K → SettlesGive r → IsDoneOn s t J K (receipt_records there J ids) (IsErrOf r give_error.Disk) → (printed ≡ None) ↔ IsErrOf r give_error.Disk
       → IsCalled (seen_so here sign s J) s t K (receipt_longer ids here sign J) (printed ≡ None)
   receipt_hosted ids r printed are gives settled done is =
-      receipt_called (seen_so here sign s J) s t K ids refl begun r printed are (subst (λ (h : Setting). Gives h J ids r K) stands gives) settled
+      receipt_called (seen_so here sign s J) s t K ids refl begun r printed are (subst (λ (h : Setting). GivesReceipts h J ids r K) stands gives) settled
       (subst (λ (h : Setting). IsDoneOn s t J K (receipt_records h J ids) (IsErrOf r give_error.Disk)) stands done) is
 
-  pub receipt_turn : (ids : List (List ℕ)) (r : Result PutDone GiveError) (printed : Option Printed) (w : View) (lines bytes : List ℕ) → Gives there J ids r K
-      → ((h : Setting) (c : Correct) (hs : List (List ℕ)) (then : List Record) → h.me ≡ c.node → Gives h c.journal hs r then → IsPrintOf printed (receipt_by h c hs)) → EndsAs (seen_so here sign s J) (receipt_longer ids here sign J) printed w lines bytes
+  pub receipt_turn : (ids : List (List ℕ)) (r : Result PutDone GiveError) (printed : Option Printed) (w : ActorView) (lines bytes : List ℕ) → GivesReceipts there J ids r K
+      → ((h : Setting) (c : Correct) (hs : List (List ℕ)) (then : List Record) → h.me ≡ c.node → GivesReceipts h c.journal hs r then → IsPrintOf printed (receipt_by h c hs)) → EndsAs (seen_so here sign s J) (receipt_longer ids here sign J) printed w lines bytes
       → (setup : Setup) (x : Host) → IsHosted setup x (seen_so here sign s J) → CameTo setup (event_result x (receipt_by (stands_on setup x.correct.node) x.correct ids)) w lines bytes
   receipt_turn ids r printed w lines bytes gives prints ends setup x mem_host =
       ends setup x (receipt_by (stands_on setup x.correct.node) x.correct ids) mem_host (appends_there (receipt_longer ids) (λ h _ c. receipt_by h c ids) (receipt_appends ids) setup x (seen_so here sign s J) mem_host)
-      (prints (stands_on setup x.correct.node) x.correct ids K refl (subst (λ (l : List Record). Gives (stands_on setup x.correct.node) l ids r K) mem_host.journal (subst (λ (h : Setting). Gives h J ids r K) (stands ∙ mem_host.here) gives)))
+      (prints (stands_on setup x.correct.node) x.correct ids K refl (subst (λ (l : List Record). GivesReceipts (stands_on setup x.correct.node) l ids r K) mem_host.journal (subst (λ (h : Setting). GivesReceipts h J ids r K) (stands ∙ mem_host.here) gives)))
 
   -- ---- bundles
 
@@ -92,7 +92,7 @@ module _ (there here : Setting) (stands : there ≡ here) (given sign : Signs) (
       bundle_called (seen_so here sign s J) s t K text r printed refl begun (subst (λ (g : Signs). Bundles here g J false text r K) signs (subst (λ (h : Setting). Bundles h given J false text r K) stands made)) settled
       (subst (λ (g : Signs). IsDoneOn s t J K (journaled_for (bundle_answer here g J text)) (IsErrOf r bundle_error.Disk)) signs (subst (λ (h : Setting). IsDoneOn s t J K (journaled_for (bundle_answer h given J text)) (IsErrOf r bundle_error.Disk)) stands done)) is
 
-  pub bundle_turn : (text : List ℕ) (r : Result Bundled BundleError) (printed : Option Printed) (w : View) (lines bytes : List ℕ) → Bundles there given J false text r K
+  pub bundle_turn : (text : List ℕ) (r : Result Bundled BundleError) (printed : Option Printed) (w : ActorView) (lines bytes : List ℕ) → Bundles there given J false text r K
       → ((h : Setting) (g : Signs) (c : Correct) (hello : List ℕ) (then : List Record) → Bundles h g c.journal false hello r then → IsPrintOf printed (bundle_by h g c hello)) → EndsAs (seen_so here sign s J) (bundle_longer text here sign J) printed w lines bytes
       → (setup : Setup) (x : Host) → IsHosted setup x (seen_so here sign s J) → CameTo setup (event_result x (bundle_by (stands_on setup x.correct.node) (signs_on setup x.correct.node) x.correct text)) w lines bytes
   bundle_turn text r printed w lines bytes made prints ends setup x mem_host =
@@ -107,7 +107,7 @@ module _ (there here : Setting) (stands : there ≡ here) (given sign : Signs) (
   give_hosted stream appends r printed are grown settled brings done is =
       give_called (seen_so here sign s J) s t K stream appends r printed refl begun are (subst (λ (h : Setting). IfOk r (λ _. K ≡ (feed_of h J stream).journal)) stands grown) settled (subst (λ (h : Setting). (feed_of h J stream).journal ≡ J ++ appends) stands brings) done is
 
-  pub give_turn : (stream : List ℕ) (r : Result FeedResult FeedError) (printed : Option Printed) (w : View) (lines bytes : List ℕ) → IfOk r (λ told. IsToldOf (feed_of there J stream) told)
+  pub give_turn : (stream : List ℕ) (r : Result FeedResult FeedError) (printed : Option Printed) (w : ActorView) (lines bytes : List ℕ) → IfOk r (λ told. IsToldOf (feed_of there J stream) told)
       → ((c : Correct) (f : Feeding) → IfOk r (λ told. IsToldOf f told) → IsPrintOf printed (fed_by c f)) → EndsAs (seen_so here sign s J) (give_longer stream here sign J) printed w lines bytes
       → (setup : Setup) (x : Host) → IsHosted setup x (seen_so here sign s J) → CameTo setup (event_result x (give_by (stands_on setup x.correct.node) x.correct stream)) w lines bytes
   unfolding give_by

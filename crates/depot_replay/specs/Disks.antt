@@ -10,15 +10,15 @@ use Rattle.depot_world.specs.Run.{PendingStop}
 use Rattle.depot_world.specs.ScheduleStops.{standing_after}
 
 -- the number of an image, as schedules write it
-abbrev pub number_of : Image → ℕ
-number_of image.Synced = 0
-number_of image.Written = 1
-number_of image.Blanked = 2
+abbrev pub image_number : Image → ℕ
+image_number image.Synced = 0
+image_number image.Written = 1
+image_number image.Blanked = 2
 
 -- the stop that waits on a disk, as a run keeps it
 abbrev pub pending_of : Option Stop → Option PendingStop
 pending_of None = None
-pending_of (Some stop) = Some (record { call = stop.call; image = number_of stop.image })
+pending_of (Some stop) = Some (record { call = stop.call; image = image_number stop.image })
 
 -- All that was written is synced, and no call fails but by a stop.
 pub record IsAtRest (s : State) : Type 0 where

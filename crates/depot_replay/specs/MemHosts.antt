@@ -10,12 +10,12 @@ use Rattle.depot_model.specs.Records.{text_of_record}
 use Rattle.depot_model.specs.Stops.{HasRecords, calls_to_record}
 use Rattle.depot_node.specs.Starting.{IsStartedFrom, LeavesFile, calls_to_start_node}
 use Rattle.depot_node.specs.declared.start_error.StartError.{StartError}
-use Rattle.depot_outside.specs.Stopping.{State, Leads}
+use Rattle.depot_outside.specs.Stopping.{State, CallsLead}
 use Rattle.depot_answers.specs.AnswerTexts.{text_of_number}
 use Rattle.depot_world.specs.Run.{PendingStop}
-use Rattle.depot_world.specs.ScheduleStops.{Effect, calls_to_append}
+use Rattle.depot_world.specs.ScheduleStops.{Effect, calls_for_records}
 use Rattle.depot_world.specs.Transcript.{ended}
-use Rattle.depot_simulation.specs.Acting.{View}
+use Rattle.depot_simulation.specs.Acting.{ActorView}
 use Rattle.depot_replay.specs.Disks.{IsAtRest, pending_of}
 
 -- ---- its disk
@@ -49,11 +49,11 @@ pub record WasStopped (here : Setting) (s : State) : Type 0 where
 -- A node was started from a disk in memory, and has this journal: by the calls that start it from the records of the file, and by no other.
 pub record IsStartedIn (here : Setting) (s t : State) (records : List Record) : Type 0 where
   pub from : IsStartedFrom here s.file records
-  pub calls : (J : List Record) → HasRecords J s.file → Leads s (made (calls_to_start_node here s.file J)) t
+  pub calls : (J : List Record) → HasRecords J s.file → CallsLead s (made (calls_to_start_node here s.file J)) t
 
 -- one of the calls that start a node from the records of the file failed
 abbrev pub FailsToStart : Setting → State → State → Type 0
-FailsToStart here s t = (J : List Record) → HasRecords J s.file → FailsAmong Leads s t (calls_to_start_node here s.file J)
+FailsToStart here s t = (J : List Record) → HasRecords J s.file → FailsAmong CallsLead s t (calls_to_start_node here s.file J)
 
 -- no start is refused for what stands in the file of a lawful journal
 abbrev pub SparesLawful : Setting → State → StartError → Type 0
@@ -63,18 +63,18 @@ SparesLawful here s e = (J : List Record) → HasRecords J s.file → IsLawful h
 
 -- A call on a node that was seen so, and had this disk, was to make its journal a longer one. It did so, or it failed on the disk while
 -- it appended.
-pub record IsCalled (v : View) (s t : State) (K longer : List Record) (failed : Type 0) : Type 0 where
+pub record IsCalled (v : ActorView) (s t : State) (K longer : List Record) (failed : Type 0) : Type 0 where
   pub pending : v.pending ≡ pending_of s.next
   pub begun : IsBegunOn v.here s v.journal
   pub new : List Record
   pub grows : longer ≡ v.journal ++ new
   pub lawful : IsLawful v.here longer
-  pub whole : (failed → ⊥) → (K ≡ longer) × Leads s (made (calls_to_record v.journal new)) t
-  pub part : failed → FailsAmong Leads s t (calls_to_record v.journal new)
+  pub whole : (failed → ⊥) → (K ≡ longer) × CallsLead s (made (calls_to_record v.journal new)) t
+  pub part : failed → FailsAmong CallsLead s t (calls_to_record v.journal new)
 
 -- the same of a node that was seen so here, and had some disk
 pub record WasCalled (here : Setting) (t : State) (K : List Record) (failed : Type 0) : Type 0 where
-  pub view : View
+  pub view : ActorView
   pub before : State
   pub longer : List Record
   pub here_is : view.here ≡ here
@@ -83,7 +83,7 @@ pub record WasCalled (here : Setting) (t : State) (K : List Record) (failed : Ty
 -- an event whose calls are those that append what its journal grows by
 pub record Appends (d : Effect) (J longer : List Record) : Type 0 where
   pub journal : d.journal ≡ longer
-  pub calls : d.calls ≡ calls_to_append (length longer - length J)
+  pub calls : d.calls ≡ calls_for_records (length longer - length J)
 
 -- the line of a node that was stopped and has these records
 abbrev pub stopped_line : List Record → List ℕ
@@ -91,7 +91,7 @@ stopped_line J = ended (32 ∷ text_of_number (codes "stopped records") (length 
 
 -- A node that was stopped was started again from its disk, and is hosted: it is seen so, and these are the lines of the event into which the
 -- stop fell, and the bytes that it gives a label.
-pub record IsHostedAgain (here : Setting) (sign : Signs) (s : State) (w : View) (lines bytes : List ℕ) : Type 0 where
+pub record IsHostedAgain (here : Setting) (sign : Signs) (s : State) (w : ActorView) (lines bytes : List ℕ) : Type 0 where
   pub here_is : w.here ≡ here
   pub sign_is : w.sign ≡ sign
   pub journal : (J : List Record) → IsBegunOn here s J → w.journal ≡ J

@@ -9,17 +9,17 @@ use Rattle.depot_outside.specs.Stopping.{State}
 use Rattle.depot_world.specs.Run.{Host}
 use Rattle.depot_world.specs.ScheduleStops.{Effect, event_result}
 use Rattle.depot_world.specs.Setups.{Setup}
-use Rattle.depot_simulation.specs.Acting.{CameTo, IsHosted, View}
+use Rattle.depot_simulation.specs.Acting.{CameTo, IsHosted, ActorView}
 use Rattle.depot_simulation.specs.declared.actor.EventOutcome.{EventOutcome}
 use Rattle.depot_replay.specs.MemHosts.{Appends, IsCalled}
 
 -- What an event comes to that was to make the journal of a node a longer one: the node after it, the lines, and the bytes for a label. It is
 -- printed so, or a stop fell into it.
-abbrev pub EndsAs : View → List Record → Option Printed → View → List ℕ → List ℕ → Type 0
+abbrev pub EndsAs : ActorView → List Record → Option Printed → ActorView → List ℕ → List ℕ → Type 0
 EndsAs v longer printed w lines bytes = (setup : Setup) (x : Host) (d : Effect) → IsHosted setup x v → Appends d v.journal longer → IsPrintOf printed d → CameTo setup (event_result x d) w lines bytes
 
 -- Of whatever node stood so and signed so before a call that left this disk and these records: what the event comes to in which it was
 -- called, where something is printed of it.
-abbrev pub EndsCall : {A E : Type 0} → Setting → Signs → State → List Record → Result (Option Printed) E → (A → View) → EventOutcome A → Type 0
-EndsCall here sign t K printed view outcome = IfOk printed (λ p. (v : View) (s : State) (longer : List Record) → v.here ≡ here → v.sign ≡ sign
+abbrev pub EndsCall : {A E : Type 0} → Setting → Signs → State → List Record → Result (Option Printed) E → (A → ActorView) → EventOutcome A → Type 0
+EndsCall here sign t K printed view outcome = IfOk printed (λ p. (v : ActorView) (s : State) (longer : List Record) → v.here ≡ here → v.sign ≡ sign
     → IsCalled v s t K longer (p ≡ None) → EndsAs v longer p (view outcome.actor) outcome.lines outcome.bytes)

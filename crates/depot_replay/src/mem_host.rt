@@ -1,6 +1,5 @@
 //! A correct node over a disk in memory.
 ghost use Rattle.std.specs.Prelude.{◌≡◌, ◌≢◌, ◌≤◌, [], ℕ, List, length, false, nat_le, Some, None, Ok, IfOk, IfErr, IfSome, IsOk, refl};
-ghost use Rattle.depot_base.specs.declared.record.Record.{Record};
 ghost use Rattle.depot_answers.specs.AnswerTexts.{name_of_settled, text_of_number, spaced, text_of_named};
 ghost use Rattle.depot_node_lines.specs.Printing.{shown_text};
 ghost use Rattle.depot_model.specs.Hello.{hello_of, text_of_hello};
@@ -11,7 +10,7 @@ ghost use Rattle.depot_node.specs.Keyed.{HasKey-prop};
 ghost use Rattle.depot_node.specs.Starting.{IsNodeAt, LeavesFile, placed};
 ghost use Rattle.depot_node.specs.declared.start_error.StartError.TheVariants as start_error;
 ghost use Rattle.depot_outside.specs.Stopping.{state_of};
-ghost use Rattle.depot_node.specs.Holdings.{standing};
+ghost use Rattle.depot_node.specs.Holdings.{node_setting};
 ghost use Rattle.depot_model.specs.ShownWrites.{shown_of};
 ghost use Rattle.depot_world.specs.Effects.{checkpoint_by};
 ghost use Rattle.depot_world.specs.Transcript.{ended};
@@ -24,6 +23,7 @@ ghost use Rattle.depot_replay.specs.MemHosts.{FailsToStart, IsHostedAgain, IsKep
 use crate::mem_host_reader::{MemHostReader, trimming};
 use depot_base::{Bytes, Changes, Hash32, Ids, Items, Key, Memory, NodeId, Update, Value};
 use depot_gossip::{bundle, encode_hello, node_hello};
+use depot_local::LocalNode;
 use depot_model::{NodeState, Past, Replica, Scheme, Signer};
 use depot_node::{Node, StartError};
 use depot_node_lines::{
@@ -235,8 +235,8 @@ fn hello_printed<S: Scheme, G: Signer<Of = S>>(
     node: &Node<MemDisk, S, G>,
 ) -> Result<Printed, Memory>
     requires { node.now.store.stopped ≡ false }
-    ensures lines { IfOk result (λ p. p.lines ≡ ended (spaced (text_of_named (hello_of (standing S.verifies node.now.store) node.now.store.records)))) }
-    ensures bytes { IfOk result (λ p. p.bytes ≡ text_of_hello (hello_of (standing S.verifies node.now.store) node.now.store.records)) }
+    ensures lines { IfOk result (λ p. p.lines ≡ ended (spaced (text_of_named (hello_of (node_setting S.verifies node.now.store) node.now.store.records)))) }
+    ensures bytes { IfOk result (λ p. p.bytes ≡ text_of_hello (hello_of (node_setting S.verifies node.now.store) node.now.store.records)) }
 {
     let told = node_hello(node)?;
     let bytes = encode_hello(alloc, &told)?;
@@ -272,7 +272,7 @@ impl<S: Scheme + Copy, G: Signer<Of = S> + Copy> MemHost<S, G> {
 
     /// Puts the text of the checkpoint that it made under its key.
     fn put_checkpoint(self, text: Bytes) -> Result<EventOutcome<MemHost<S, G>>, Memory>
-        requires { make_of (standing S.verifies self.node.store) self.node.store.records ≡ made_text text }
+        requires { make_of (node_setting S.verifies self.node.store) self.node.store.records ≡ made_text text }
         ensures { IfOk result (λ outcome. Acts ⟦<MemHost<S, G> as Actor>⟧.view self (λ here sign correct. checkpoint_by here correct) outcome) }
     {
         let MemHost {

@@ -9,34 +9,26 @@ use Rattle.depot_model.specs.Lists.{is_among}
 use Rattle.depot_model.specs.Order.{prevs, parents}
 use Rattle.depot_base.proofs.GeneralLaws.{bytes_eq_comm, or_swap}
 use Rattle.depot_model.proofs.Members.{all-append, all-map, among-append}
-use Rattle.depot_scan.specs.Ids.{Marks, PutsMark, is_known, is_covered, IsUncovered, HasMore}
-use Rattle.depot_scan.specs.declared.log_ids.Ids.{Ids}
+use Rattle.depot_scan.specs.Ids.{IdMarks, PutsIdMark, is_id_marked, IsUncovered, HasMore}
+use Rattle.depot_scan.specs.declared.log_ids.LogIds.{LogIds}
 
 known_by : (b mark : Bool) (o : Option Bool) → is_some (cond b (Some mark) o) ≡ ((b || false) || is_some o)
 known_by true mark o = refl
 known_by false mark o = refl
 
-covered_by : (b : Bool) (o : Option Bool) → unwrap_or (cond b (Some true) o) false ≡ ((b || false) || unwrap_or o false)
-covered_by true o = refl
-covered_by false o = refl
-
 uncovered_by : (b : Bool) (o : Option Bool) → unwrap_or o false ≡ false → unwrap_or (cond b (Some false) o) false ≡ false
 uncovered_by true o none = refl
 uncovered_by false o none = none
 
-put_at : (old new : Marks) (id : List ℕ) (mark : Bool) → PutsMark old new id mark → (h : List ℕ) → get bytes_eq new h ≡ cond (bytes_eq h id) (Some mark) (get bytes_eq old h)
+put_at : (old new : IdMarks) (id : List ℕ) (mark : Bool) → PutsIdMark old new id mark → (h : List ℕ) → get bytes_eq new h ≡ cond (bytes_eq h id) (Some mark) (get bytes_eq old h)
 put_at old new id mark p h = p.marks h ∙ ap (λ (b : Bool). cond b (Some mark) (get bytes_eq old h)) (bytes_eq_comm id h)
 
 -- an id that was marked is known
-pub known_more : (old new : Marks) (id : List ℕ) (mark : Bool) → PutsMark old new id mark → HasMore (id ∷ []) (is_known old) (is_known new)
+pub known_more : (old new : IdMarks) (id : List ℕ) (mark : Bool) → PutsIdMark old new id mark → HasMore (id ∷ []) (is_id_marked old) (is_id_marked new)
 known_more old new id mark p h = ap is_some (put_at old new id mark p h) ∙ known_by (bytes_eq h id) mark (get bytes_eq old h)
 
--- an id that was marked as covered is covered
-pub covered_more : (old new : Ids) (id : List ℕ) → PutsMark old.marks new.marks id true → HasMore (id ∷ []) (is_covered old) (is_covered new)
-covered_more old new id p h = ap (λ (o : Option Bool). unwrap_or o false) (put_at old.marks new.marks id true p h) ∙ covered_by (bytes_eq h id) (get bytes_eq old.marks h)
-
 -- none is covered where it was marked as not covered
-pub uncovered_stay : (old new : Ids) (id : List ℕ) → PutsMark old.marks new.marks id false → IsUncovered old → IsUncovered new
+pub uncovered_stay : (old new : LogIds) (id : List ℕ) → PutsIdMark old.marks new.marks id false → IsUncovered old → IsUncovered new
 uncovered_stay old new id p none = record { none = λ h. ap (λ (o : Option Bool). unwrap_or o false) (put_at old.marks new.marks id false p h) ∙ uncovered_by (bytes_eq h id) (get bytes_eq old.marks h) (none.none h) }
 
 -- ---- parents

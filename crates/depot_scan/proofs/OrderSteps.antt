@@ -13,7 +13,7 @@ use Rattle.depot_model.proofs.Members.{among-append}
 use Rattle.depot_model.proofs.LogLaws.{firsts_are_causal}
 use Rattle.depot_scan.specs.Bodies.{updates}
 use Rattle.depot_scan.specs.Ids.{HasMore}
-use Rattle.depot_scan.specs.Ordering.{AreFirsts}
+use Rattle.depot_scan.specs.Ordering.{AreFirstUpdates}
 use Rattle.depot_scan.specs.declared.body.Body.{Body}
 
 -- the ids of bodies
@@ -141,7 +141,7 @@ ordering_here bodies left kept b known place o not_all =
     sym o.orphan ∙ step
 
 -- no body is left
-pub ordering_all : (bodies left kept : List Body) (known : List ℕ → Bool) (place : ℕ) → Ordering bodies left kept known place → left ≡ [] → AreFirsts (updates bodies) (updates kept)
+pub ordering_all : (bodies left kept : List Body) (known : List ℕ → Bool) (place : ℕ) → Ordering bodies left kept known place → left ≡ [] → AreFirstUpdates (updates bodies) (updates kept)
 unfolding orphan_behind
 ordering_all bodies left kept known place o none =
     let end : orphan_behind o.before place (updates left) ≡ None = rw none refl in

@@ -2,19 +2,19 @@
 ghost use Rattle.std.specs.Prelude.{◌≡◌, [], ◌∷◌, not, map, IfOk, OnOk};
 ghost use Rattle.std.specs.List.{list_all};
 ghost use Rattle.depot_model.specs.Order.{prevs, parents};
-ghost use Rattle.depot_scan.specs.Ids.{PutsMark, is_known, knows, is_covered, HasMore, IsBlank, IsUncovered};
+ghost use Rattle.depot_scan.specs.Ids.{PutsIdMark, is_id_marked, knows, is_id_covered, HasMore, IsBlank, IsUncovered};
 
 use depot_base::{Dep, Hash32, Memory, Update};
 use indexmap::IndexMap;
 use std::alloc::Global;
 
 /// Each id, and whether it is covered.
-type Marks = IndexMap<Hash32, bool>;
+type IdMarks = IndexMap<Hash32, bool>;
 
 /// Puts a mark at an id, in place of the one that it has.
-fn put_mark(marks: &mut Marks, id: Hash32, mark: bool) -> Result<bool, Memory>
-    ensures new { IfOk result (λ is_new. is_new ≡ not (is_known marks.old id)) }
-    ensures ok { OnOk result (PutsMark marks.old marks.new id mark) }
+fn put_mark(marks: &mut IdMarks, id: Hash32, mark: bool) -> Result<bool, Memory>
+    ensures new { IfOk result (λ is_new. is_new ≡ not (is_id_marked marks.old id)) }
+    ensures ok { OnOk result (PutsIdMark marks.old marks.new id mark) }
 {
     match marks.insert(id, mark) {
         Ok(old) => Ok(old.is_none()),
@@ -24,16 +24,16 @@ fn put_mark(marks: &mut Marks, id: Hash32, mark: bool) -> Result<bool, Memory>
 
 /// A table of ids by hash. An id that is put in is SHA-256 of a body, so nobody can choose ids that fall together.
 #[derive(Drop)]
-pub struct Ids {
-    marks: Marks,
+pub struct LogIds {
+    marks: IdMarks,
 }
 
-impl Ids {
+impl LogIds {
     /// No ids, and room for so many.
-    pub fn with_capacity(alloc: Global, count: usize) -> Result<Ids, Memory>
+    pub fn with_capacity(alloc: Global, count: usize) -> Result<LogIds, Memory>
         ensures { IfOk result IsBlank }
     {
-        Ok(Ids {
+        Ok(LogIds {
             marks: IndexMap::with_capacity(alloc, count)?,
         })
     }
@@ -47,7 +47,7 @@ impl Ids {
 
     /// Whether the id is covered.
     pub fn is_covered(&self, id: &Hash32) -> bool
-        ensures { result ≡ is_covered self.now id.now }
+        ensures { result ≡ is_id_covered self.now id.now }
     {
         match self.marks.get(id) {
             Some(mark) => *mark,
@@ -67,7 +67,7 @@ impl Ids {
 
     /// Covers the id.
     fn cover(&mut self, id: Hash32) -> Result<(), Memory>
-        ensures { OnOk result (HasMore (id ∷ []) (is_covered self.old) (is_covered self.new)) }
+        ensures { OnOk result (HasMore (id ∷ []) (is_id_covered self.old) (is_id_covered self.new)) }
     {
         put_mark(&mut self.marks, id, true)?;
         Ok(())
@@ -96,7 +96,7 @@ impl Ids {
 
     /// Covers the update's prev, where that names an update.
     fn cover_prev(&mut self, update: &Update) -> Result<(), Memory>
-        ensures { OnOk result (HasMore (prevs update.now) (is_covered self.old) (is_covered self.new)) }
+        ensures { OnOk result (HasMore (prevs update.now) (is_id_covered self.old) (is_id_covered self.new)) }
     {
         if !update.prev.is_zeros() {
             self.cover(update.prev)?;
@@ -106,7 +106,7 @@ impl Ids {
 
     /// Covers the id of each entry.
     fn cover_entries(&mut self, deps: &[Dep]) -> Result<(), Memory>
-        ensures { OnOk result (HasMore (map (λ d. d.id) deps.now) (is_covered self.old) (is_covered self.new)) }
+        ensures { OnOk result (HasMore (map (λ d. d.id) deps.now) (is_id_covered self.old) (is_id_covered self.new)) }
     {
         for dep in deps {
             self.cover(dep.id)?;
@@ -116,7 +116,7 @@ impl Ids {
 
     /// Covers each parent of the update.
     pub fn cover_parents(&mut self, update: &Update) -> Result<(), Memory>
-        ensures { OnOk result (HasMore (parents update.now) (is_covered self.old) (is_covered self.new)) }
+        ensures { OnOk result (HasMore (parents update.now) (is_id_covered self.old) (is_id_covered self.new)) }
     {
         self.cover_prev(update)?;
         self.cover_entries(update.deps.as_slice())

@@ -5,7 +5,7 @@ ghost use Rattle.depot_scan.specs.Ids.{IsBlank, IsUncovered};
 ghost use Rattle.depot_scan.specs.Ordering.{OrdersTo};
 
 use crate::body::Body;
-use crate::log_ids::Ids;
+use crate::log_ids::LogIds;
 use depot_base::Memory;
 use std::alloc::Global;
 
@@ -19,7 +19,7 @@ pub enum Ordered {
 }
 
 /// Goes through a log, and fills a blank table with its ids.
-pub fn in_order(alloc: Global, ids: &mut Ids, bodies: Vec<Body>) -> Result<Ordered, Memory>
+pub fn in_order(alloc: Global, ids: &mut LogIds, bodies: Vec<Body>) -> Result<Ordered, Memory>
     requires { IsBlank ids.old }
     ensures order { IfOk result (OrdersTo (updates bodies.items)) }
     ensures uncovered { OnOk result (IsUncovered ids.new) }

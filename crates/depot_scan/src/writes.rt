@@ -2,19 +2,19 @@
 ghost use Rattle.std.specs.Prelude.{◌≡◌, ◌&&◌, [], not, reverse, IfOk, OnOk};
 ghost use Rattle.depot_model.specs.Order.{IsCausal, AreLatestIn};
 ghost use Rattle.depot_scan.specs.Bodies.{updates};
-ghost use Rattle.depot_scan.specs.Ids.{is_covered, IsUncovered};
+ghost use Rattle.depot_scan.specs.Ids.{is_id_covered, IsUncovered};
 ghost use Rattle.depot_model.specs.Contents.{writes as writes_key};
 ghost use Rattle.depot_scan.specs.Covered.{Covers, uncovered};
 
 use crate::body::Body;
-use crate::log_ids::Ids;
+use crate::log_ids::LogIds;
 use depot_base::Memory;
 use std::alloc::Global;
 
 /// Covers the parents of a body that writes the key or is itself covered, and says whether the body is a latest write.
-fn visit(ids: &mut Ids, key: &[u8], body: &Body) -> Result<bool, Memory>
-    ensures latest { IfOk result (λ latest. latest ≡ (writes_key key.now body.now.update && not (is_covered ids.old body.now.id))) }
-    ensures covers { OnOk result (Covers key.now body.now.update (is_covered ids.old) (is_covered ids.new)) }
+fn visit(ids: &mut LogIds, key: &[u8], body: &Body) -> Result<bool, Memory>
+    ensures latest { IfOk result (λ latest. latest ≡ (writes_key key.now body.now.update && not (is_id_covered ids.old body.now.id))) }
+    ensures covers { OnOk result (Covers key.now body.now.update (is_id_covered ids.old) (is_id_covered ids.new)) }
 {
     let writes = body.writes(key);
     let is_covered = ids.is_covered(&body.id);
@@ -29,7 +29,7 @@ fn uncovered(
     alloc: Global,
     key: &[u8],
     mut bodies: Vec<Body>,
-    ids: &mut Ids,
+    ids: &mut LogIds,
 ) -> Result<Vec<Body>, Memory>
     requires { IsUncovered ids.old }
     ensures { IfOk result (λ v. updates v.items ≡ reverse (uncovered key.now (updates bodies.items))) }
@@ -50,7 +50,7 @@ pub fn latest(
     alloc: Global,
     key: &[u8],
     bodies: Vec<Body>,
-    ids: &mut Ids,
+    ids: &mut LogIds,
 ) -> Result<Vec<Body>, Memory>
     requires causal { IsCausal [] (updates bodies.items) }
     requires uncovered { IsUncovered ids.old }

@@ -3,6 +3,7 @@ pub mod EntryOrder
 pub mod FlipLaws
 pub mod JudgedLaws
 pub mod LabelTables
+pub mod UsesOfLabels
 pub mod SeenUpdates
 pub mod SignedLaws
 pub mod ValueFrames

@@ -85,3 +85,16 @@ pub hash_of_items : (us : List Update) (u : Update) (items hash : List ℕ) → 
 unfolding closure_of
 hash_of_items us u items hash are is =
     is ∙ ap (λ (hs : List (List ℕ)). history_hash (reached hs us)) (ids_there us (parents u) items are) ∙ ap (λ (ts : List Update). history_hash ts) (sym (past_is_reached u us))
+
+-- ---- updates without parents
+
+-- no ids reach no updates
+nothing_reached : (us : List Update) → reached [] us ≡ []
+unfolding reached
+nothing_reached [] = refl
+nothing_reached (t ∷ ts) = rw (nothing_reached ts) refl
+
+-- the hash of no items is that of the past of an update without parents
+pub hash_of_none : (us : List Update) (u : Update) (hash : List ℕ) → parents u ≡ [] → hash ≡ history_hash (closure_of [] []) → hash ≡ history_hash (past u us)
+unfolding closure_of reached
+hash_of_none us u hash none is = is ∙ ap (λ (ts : List Update). history_hash ts) (sym (past_is_reached u us ∙ ap (λ (hs : List (List ℕ)). reached hs us) none ∙ nothing_reached us))

@@ -9,7 +9,7 @@ use Rattle.depot_base.specs.declared.statement.Signed.{Signed}
 use Rattle.depot_model.specs.Lists.{when}
 use Rattle.depot_schedule.specs.declared.event.Event.{Event}
 use Rattle.depot_schedule.specs.declared.event.Event.TheVariants as event
-use Rattle.depot_world.specs.Run.{Made, made_in}
+use Rattle.depot_world.specs.Run.{Labelled, made_in}
 use Rattle.depot_scenario.specs.declared.label_table.Given.{Given}
 
 -- what a label names among these
@@ -17,27 +17,27 @@ abbrev pub named_in : {V : Type 0} → List ℕ → List (Vec ℕ Global × V) �
 named_in label entries = lookup (λ k. is_eq (slice_cmp nat_cmp label k.items)) entries
 
 -- what was made under a label, as it is kept
-abbrev pub given_by : Made → Given
-given_by m = record { bytes = m.bytes; signed = m.signed; plain = m.plain }
+abbrev pub given_of_label : Labelled → Given
+given_of_label m = record { bytes = m.bytes; signed = m.signed; plain = m.plain }
 
 -- each label names what it names in a run
-abbrev pub AreLabels : List (Vec ℕ Global × Given) → List Made → Type 0
-AreLabels entries labels = (label : List ℕ) → named_in label entries ≡ option_map given_by (made_in labels label)
+abbrev pub AreLabels : List (Vec ℕ Global × Given) → List Labelled → Type 0
+AreLabels entries labels = (label : List ℕ) → named_in label entries ≡ option_map given_of_label (made_in labels label)
 
 -- Where each label named what it names in a run, it now names what it names with this made too.
-abbrev pub TakesIn : List (Vec ℕ Global × Given) → Made → List (Vec ℕ Global × Given) → Type 0
-TakesIn old m new = (labels : List Made) → AreLabels old labels → AreLabels new (labels ++ m ∷ [])
+abbrev pub TakesIn : List (Vec ℕ Global × Given) → Labelled → List (Vec ℕ Global × Given) → Type 0
+TakesIn old m new = (labels : List Labelled) → AreLabels old labels → AreLabels new (labels ++ m ∷ [])
 
 -- the bytes of a label of a run with these labels
-abbrev pub bytes_in : List Made → List ℕ → List ℕ
+abbrev pub bytes_in : List Labelled → List ℕ → List ℕ
 bytes_in labels label = option_map_or (λ m. m.bytes) (made_in labels label) []
 
 -- the signed statement of a label of a run with these labels
-abbrev pub signed_in : List Made → List ℕ → Option Signed
-signed_in labels label = option_and_then (λ m. m.signed) (made_in labels label)
+abbrev pub signed_of_label : List Labelled → List ℕ → Option Signed
+signed_of_label labels label = option_and_then (λ m. m.signed) (made_in labels label)
 
 -- the bytes of a plain label of a run with these labels
-abbrev pub plain_in : List Made → List ℕ → Option (List ℕ)
+abbrev pub plain_in : List Labelled → List ℕ → Option (List ℕ)
 plain_in labels label = option_and_then (λ m. when m.plain m.bytes) (made_in labels label)
 
 -- ---- labels of nodes' events
@@ -50,6 +50,6 @@ label_by (event.Checkpoint node label) = Some label
 label_by e = None
 
 -- labels, and that one with these bytes
-abbrev pub labels_with : List Made → Option (List ℕ) → List ℕ → List Made
+abbrev pub labels_with : List Labelled → Option (List ℕ) → List ℕ → List Labelled
 labels_with labels None bytes = labels
 labels_with labels (Some label) bytes = labels ++ record { label = label; bytes = bytes; signed = None; plain = false } ∷ []

@@ -8,64 +8,101 @@ ghost use Rattle.depot_model.specs.Order.{parents, past, prevs};
 ghost use Rattle.depot_model.specs.Texts.{IsUpdate, id_of_update};
 ghost use Rattle.depot_world.specs.FaultySigning.{history_by, with_history};
 ghost use Rattle.depot_world.specs.Run.{seen_with};
-ghost use Rattle.depot_scenario.specs.KnownUpdates.{HasSeenParents};
+ghost use Rattle.depot_graph.specs.Kept.{updates_in};
+ghost use Rattle.depot_scenario.specs.KnownUpdates.{HasSeenParents, MayAsk};
 
+use crate::listed_updates::ListedUpdates;
 use depot_base::{Hash32, Memory, Update};
 use depot_graph::{Graph, history_hash};
 use depot_model::Past;
 use depot_schedule::HistoryWord;
 use std::alloc::Global;
 
-/// The updates that events made and that correct nodes accepted, each id once, in the order in which they came.
+/// The updates that events made and that correct nodes accepted, each id once, in the order in which they came. Contracts see them all.
+/// Memory is taken for them only where right histories of updates with parents are asked for.
 #[derive(Drop)]
 pub struct KnownUpdates {
     alloc: Global,
-    pub graph: Graph,
+    graph: Graph,
+    /// Whether right histories of updates with parents are asked for.
+    pub asked: bool,
+    pub listed: ListedUpdates,
+    ghost held: { asked ≡ true → updates_in graph.items.entries ≡ listed.updates },
+}
+
+/// Adds an update to a graph, unless one with its id is there.
+fn hold(graph: &mut Graph, update: &Update, id: &Hash32) -> Result<(), Memory>
+    requires id { id.now ≡ id_of_update update.now }
+    requires text { IsUpdate update.now }
+    requires parents { HasSeenParents (⟦<Graph as Past>⟧.updates graph.old) update.now }
+    ensures ok { OnOk result (⟦<Graph as Past>⟧.updates graph.new ≡ seen_with (⟦<Graph as Past>⟧.updates graph.old) (update.now ∷ [])) }
+    ensures err { OnErr result (⟦<Graph as Past>⟧.updates graph.new ≡ ⟦<Graph as Past>⟧.updates graph.old) }
+{
+    if graph.find(id).is_some() {
+        return Ok(());
+    }
+    if graph.count() == u32::MAX {
+        return Err(Memory);
+    }
+    graph.add_uncounted(update.copy()?, &[], *id)?;
+    Ok(())
 }
 
 impl KnownUpdates {
-    /// No updates. It takes no memory.
-    pub fn new(alloc: Global) -> KnownUpdates
-        ensures { ⟦<Graph as Past>⟧.updates result.graph ≡ [] }
+    /// No updates, and whether right histories of updates with parents will be asked for. It takes no memory.
+    pub fn new(alloc: Global, asked: bool) -> KnownUpdates
+        ensures none { result.listed.updates ≡ [] }
+        ensures asked { result.asked ≡ asked }
     {
         KnownUpdates {
             alloc,
             graph: Graph::new(alloc),
+            asked,
+            listed: ListedUpdates::new(),
         }
     }
 
-    /// Adds an update with its id, unless one with that id is there. Its parents are. There is room for 4,294,967,295 updates, and
-    /// Memory comes behind them too.
+    /// Adds an update with its id, unless one with that id is there. Its parents are. Where histories are asked for there is
+    /// room for 4,294,967,295 updates, and Memory comes behind them too.
     pub fn add(&mut self, update: &Update, id: &Hash32) -> Result<(), Memory>
         requires id { id.now ≡ id_of_update update.now }
         requires text { IsUpdate update.now }
-        requires parents { HasSeenParents (⟦<Graph as Past>⟧.updates self.old.graph) update.now }
-        ensures ok { OnOk result (⟦<Graph as Past>⟧.updates self.new.graph ≡ seen_with (⟦<Graph as Past>⟧.updates self.old.graph) (update.now ∷ [])) }
-        ensures err { OnErr result (⟦<Graph as Past>⟧.updates self.new.graph ≡ ⟦<Graph as Past>⟧.updates self.old.graph) }
+        requires parents { HasSeenParents self.old.listed.updates update.now }
+        ensures ok { OnOk result (self.new.listed.updates ≡ seen_with self.old.listed.updates (update.now ∷ [])) }
+        ensures err { OnErr result (self.new.listed.updates ≡ self.old.listed.updates) }
+        ensures asked { self.new.asked ≡ self.old.asked }
     {
-        if self.graph.find(id).is_some() {
-            return Ok(());
+        if self.asked {
+            hold(&mut self.graph, update, id)?;
         }
-        if self.graph.count() == u32::MAX {
-            return Err(Memory);
-        }
-        self.graph.add_uncounted(update.copy()?, &[], *id)?;
+        self.listed.note(update);
         Ok(())
     }
 
     /// The history hash that the parents of an update call for. They are here.
     fn right_history(&self, update: &Update) -> Result<Hash32, Memory>
-        requires { HasSeenParents (⟦<Graph as Past>⟧.updates self.now.graph) update.now }
-        ensures { IfOk result (λ hash. hash ≡ hash_of_history (past update.now (⟦<Graph as Past>⟧.updates self.now.graph))) }
+        requires parents { HasSeenParents self.now.listed.updates update.now }
+        requires asked { self.now.asked ≡ true }
+        ensures { IfOk result (λ hash. hash ≡ hash_of_history (past update.now self.now.listed.updates)) }
     {
         let items = self.parent_items(update)?;
         history_hash(self.alloc, &self.graph, items.as_slice())
     }
 
+    /// The history hash of an update without parents.
+    fn first_history(&self, update: &Update) -> Result<Hash32, Memory>
+        requires { parents update.now ≡ [] }
+        ensures { IfOk result (λ hash. hash ≡ hash_of_history (past update.now self.now.listed.updates)) }
+    {
+        let none = Graph::new(self.alloc);
+        history_hash(self.alloc, &none, &[])
+    }
+
     /// The update with the history hash that is asked for: one that is given, or the right one. Its parents are here.
     pub fn with_history(&self, draft: Update, history: HistoryWord) -> Result<Update, Memory>
-        requires { HasSeenParents (⟦<Graph as Past>⟧.updates self.now.graph) draft }
-        ensures { IfOk result (λ u. u ≡ with_history draft (history_by (⟦<Graph as Past>⟧.updates self.now.graph) history draft)) }
+        requires parents { HasSeenParents self.now.listed.updates draft }
+        requires asked { MayAsk self.now.asked draft history }
+        ensures { IfOk result (λ u. u ≡ with_history draft (history_by self.now.listed.updates history draft)) }
     {
         let history = self.history_of(&draft, history)?;
         let mut update = draft;
@@ -75,11 +112,13 @@ impl KnownUpdates {
 
     /// The history hash that is asked for of an update whose parents are here.
     fn history_of(&self, draft: &Update, history: HistoryWord) -> Result<Hash32, Memory>
-        requires { HasSeenParents (⟦<Graph as Past>⟧.updates self.now.graph) draft.now }
-        ensures { IfOk result (λ hash. hash ≡ history_by (⟦<Graph as Past>⟧.updates self.now.graph) history draft.now) }
+        requires parents { HasSeenParents self.now.listed.updates draft.now }
+        requires asked { MayAsk self.now.asked draft.now history }
+        ensures { IfOk result (λ hash. hash ≡ history_by self.now.listed.updates history draft.now) }
     {
         match history {
-            HistoryWord::Right => self.right_history(draft),
+            HistoryWord::Right if self.asked => self.right_history(draft),
+            HistoryWord::Right => self.first_history(draft),
             HistoryWord::Given(hash) => Ok(hash),
         }
     }

@@ -2,8 +2,9 @@
 ghost use Rattle.std.specs.Prelude.{◌≡◌, ◌++◌, ◌∷◌, List, [], IfOk, OnOk, option_and_then, option_copied};
 ghost use Rattle.depot_answers.specs.AnswerTexts.{spaced};
 ghost use Rattle.depot_model.specs.Journal.{update_in};
-ghost use Rattle.depot_world.specs.Run.{Made, first_update};
-ghost use Rattle.depot_scenario.specs.Labels.{AreLabels, TakesIn, bytes_in, label_by, labels_with, named_in, plain_in, signed_in};
+ghost use Rattle.depot_world.specs.Forgetting.{labels_without};
+ghost use Rattle.depot_world.specs.Run.{Labelled, first_update};
+ghost use Rattle.depot_scenario.specs.Labels.{AreLabels, TakesIn, bytes_in, label_by, labels_with, named_in, plain_in, signed_of_label};
 
 use crate::drafts::update_of;
 use crate::signed_apart::{Apart, put_apart};
@@ -24,7 +25,7 @@ pub struct Given {
 }
 
 /// What each label names, in a map that keeps the labels in order. Who writes a schedule picks them, so none is hashed: a
-/// look-up takes logarithmic time, whatever they are. What a label was given first stays.
+/// look-up takes logarithmic time, whatever they are. What a label was given first stays, until it is forgotten.
 #[derive(Drop)]
 pub struct Labels {
     alloc: Global,
@@ -51,7 +52,7 @@ impl Labels {
 
     /// The bytes of a label: none where it names nothing. It takes no memory.
     pub fn bytes(&self, label: &Label) -> &[u8]
-        ensures { (labels : List Made) → AreLabels self.now.map.entries labels → result.now ≡ bytes_in labels label.now }
+        ensures { (labels : List Labelled) → AreLabels self.now.map.entries labels → result.now ≡ bytes_in labels label.now }
     {
         match self.get(label.bytes()) {
             Some(given) => given.bytes.as_slice(),
@@ -61,7 +62,7 @@ impl Labels {
 
     /// The signed statement of a label, if it names one. It takes no memory.
     pub fn signed(&self, label: &Label) -> Option<&Signed>
-        ensures { (labels : List Made) → AreLabels self.now.map.entries labels → option_copied result ≡ signed_in labels label.now }
+        ensures { (labels : List Labelled) → AreLabels self.now.map.entries labels → option_copied result ≡ signed_of_label labels label.now }
     {
         let signed = self.get(label.bytes())?.signed.as_ref()?;
         Some(signed.get())
@@ -69,14 +70,14 @@ impl Labels {
 
     /// The update that a label's signed statement states, if it names one. It takes no memory.
     pub fn update(&self, label: &Label) -> Option<&Update>
-        ensures { (labels : List Made) → AreLabels self.now.map.entries labels → option_copied result ≡ option_and_then (λ s. first_update (update_in s.statement)) (signed_in labels label.now) }
+        ensures { (labels : List Labelled) → AreLabels self.now.map.entries labels → option_copied result ≡ option_and_then (λ s. first_update (update_in s.statement)) (signed_of_label labels label.now) }
     {
         update_of(self.signed(label)?)
     }
 
     /// The bytes of a label, if it is plain. It takes no memory.
     pub fn plain(&self, label: &Label) -> Option<&[u8]>
-        ensures { (labels : List Made) → AreLabels self.now.map.entries labels → option_copied result ≡ plain_in labels label.now }
+        ensures { (labels : List Labelled) → AreLabels self.now.map.entries labels → option_copied result ≡ plain_in labels label.now }
     {
         let given = self.get(label.bytes())?;
         match given.plain {
@@ -111,7 +112,7 @@ impl Labels {
 
     /// Gives the label that a node's event makes, if it makes one, what the node handed out, unless it names something already.
     pub fn keep(&mut self, event: &Event, bytes: Bytes) -> Result<(), Memory>
-        ensures { OnOk result ((labels : List Made) → AreLabels self.old.map.entries labels → AreLabels self.new.map.entries (labels_with labels (label_by event.now) bytes)) }
+        ensures { OnOk result ((labels : List Labelled) → AreLabels self.old.map.entries labels → AreLabels self.new.map.entries (labels_with labels (label_by event.now) bytes)) }
     {
         match label_of(event) {
             Some(label) => self.put(
@@ -124,6 +125,13 @@ impl Labels {
             ),
             None => Ok(()),
         }
+    }
+
+    /// Forgets a label: it names nothing any more. It takes no memory.
+    pub fn forget(&mut self, label: &Label)
+        ensures { (labels : List Labelled) → AreLabels self.old.map.entries labels → AreLabels self.new.map.entries (labels_without label.now labels) }
+    {
+        self.map.remove(label.bytes());
     }
 
     /// Gives a label what an event made, unless it names something already.

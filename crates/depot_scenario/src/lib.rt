@@ -6,8 +6,9 @@
 //! voucher, in rising order and each once (`entries`).
 //!
 //! A schedule is defined to be played in a setup (`depot_world`): the roster and the scheme. A `Scenario` is that setup at work
-//! (`IsScenarioOf`): the roster of the members, and their signers. `Labels` are what events gave labels (`AreLabels`), `KnownUpdates` the updates over
-//! which right histories are computed.
+//! (`IsScenarioOf`): the roster of the members, and their signers. `Labels` are what events gave labels (`AreLabels`), and `LabelUses` says
+//! when an event names one last (`AreUses`), so that it can be forgotten. `KnownUpdates` are the updates over which right histories
+//! are computed.
 //!
 //! `drafts` has the updates that faulty nodes sign, `texts` the bytes that events give their labels, `event_heads` the front of an
 //! event's line and `judging_events` what is printed of a judgement.
@@ -18,9 +19,12 @@
 mod drafts;
 mod entries;
 mod event_heads;
+mod event_labels;
 mod judging_events;
 mod known_updates;
 mod label_table;
+mod label_uses;
+mod listed_updates;
 mod member_places;
 mod scenario;
 mod signed_apart;
@@ -32,9 +36,12 @@ mod value_frames;
 pub use drafts::{drafted, is_by, writes_of};
 pub use entries::{entries_of_others, entry_of, rising_ids};
 pub use event_heads::event_head;
+pub use event_labels::labels_of;
 pub use judging_events::judged;
 pub use known_updates::KnownUpdates;
 pub use label_table::Labels;
+pub use label_uses::LabelUses;
+pub use listed_updates::ListedUpdates;
 pub use member_places::{Numbered, place_of};
 pub use scenario::Scenario;
 pub use signers::{plain_signers, roster_of, signer_of, winter_signers};

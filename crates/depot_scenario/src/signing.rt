@@ -7,7 +7,7 @@ ghost use Rattle.depot_base.specs.declared.proof.Proof.TheVariants.{Hollow, Pair
 ghost use Rattle.depot_model.specs.Bundle.{proof_frame, signed_with, statement_frame};
 ghost use Rattle.depot_model.specs.Frames.{text_of_frame};
 ghost use Rattle.depot_model.specs.Texts.{IsProof, IsSigned, IsStatement};
-ghost use Rattle.depot_world.specs.FaultySigning.{proof_by};
+ghost use Rattle.depot_world.specs.FaultySigning.{proof_of_halves};
 
 use depot_base::{Bytes, FrameTag, Kind, Memory, Proof, Signed, Statement};
 use depot_frames::put_frame;
@@ -74,7 +74,7 @@ pub fn proof_of(kind: Kind, a: &Signed, b: &Signed) -> Result<Proof, Memory>
     requires kind { IsPairKind kind }
     requires first { IsSigned a.now }
     requires second { IsSigned b.now }
-    ensures made { IfOk result (λ p. p ≡ proof_by kind a.now b.now) }
+    ensures made { IfOk result (λ p. p ≡ proof_of_halves kind a.now b.now) }
     ensures fits { IfOk result IsProof }
 {
     if b.body.as_slice().cmp(a.body.as_slice()).is_lt() {

@@ -9,7 +9,7 @@ ghost use Rattle.depot_base.specs.declared.statement.Statement.TheVariants as st
 ghost use Rattle.depot_model.specs.Own.{values_of};
 ghost use Rattle.depot_model.specs.Texts.{IsProof, IsSigned, IsStatement, IsUpdate};
 ghost use Rattle.depot_answers.specs.AnswerTexts.{text_of_number, spaced};
-ghost use Rattle.depot_world.specs.FaultySigning.{counted_bytes, flip_at, no_reference, proof_by, proof_with, update_text, voucher_text};
+ghost use Rattle.depot_world.specs.FaultySigning.{counted_bytes, flip_at, no_reference, proof_of_halves, proof_with, update_text, voucher_text};
 ghost use Rattle.depot_scenario.specs.ScenarioTexts.{IsText};
 
 use crate::signing::{hollow_of, proof_of, put_proof, put_signed, signed};
@@ -111,7 +111,7 @@ pub fn proof(alloc: Global, kind: Kind, a: &Signed, b: &Signed) -> Result<Text, 
     requires kind { IsPairKind kind }
     requires first { IsSigned a.now }
     requires second { IsSigned b.now }
-    ensures { IfOk result (λ t. IsText t (proof_with kind (proof_by kind a.now b.now))) }
+    ensures { IfOk result (λ t. IsText t (proof_with kind (proof_of_halves kind a.now b.now))) }
 {
     let proof = proof_of(kind, a, b)?;
     framed(alloc, kind, &proof)

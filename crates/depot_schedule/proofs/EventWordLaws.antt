@@ -18,7 +18,7 @@ use Rattle.depot_schedule.specs.declared.verb.Wanted.TheVariants as wanted
 use Rattle.depot_lines.specs.Spelling.{is_word, is_word_byte, is_within}
 use Rattle.depot_base.specs.Format.{◌>>=◌}
 use Rattle.depot_lines.specs.Language.{split, join, or_none, or_empty, parts_of}
-use Rattle.depot_lines.specs.Vocabulary.{id, any_u32, digest, label}
+use Rattle.depot_lines.specs.Vocabulary.{id, any_u32, digest_word, label}
 use Rattle.depot_schedule.specs.EventWords.{correct, faulty, seq, piece_size, stop_call, image, new_label, label_for, is_correct, is_faulty, named_by, meets, history, FitsHistory, text_of_history, FitsRef, text_of_ref, ref_of, reference_for, references_for, reference, references}
 use Rattle.depot_lines.proofs.LanguageLaws.{LawfulWord, bind_ok, need_ok, is_same, such_that_lawful, or_none_lawful, or_empty_lawful, ok_is}
 use Rattle.depot_lines.proofs.Splitting.{lacks, split_none, split_at, join_split, all_append}
@@ -56,10 +56,10 @@ label_for_lawful asked = such_that_lawful label (λ s l. meets asked (named_by s
 
 -- ---- histories
 
-history_takes : (t : List ℕ) (h : HistoryWord) (b : Bool) → bytes_eq t (codes "right") ≡ b → cond b (Ok Right) ((digest {C = Unit {0}}).read tt t >>= λ h. Ok (Given h)) ≡ Ok h → FitsHistory h × (t ≡ text_of_history h)
+history_takes : (t : List ℕ) (h : HistoryWord) (b : Bool) → bytes_eq t (codes "right") ≡ b → cond b (Ok Right) ((digest_word {C = Unit {0}}).read tt t >>= λ h. Ok (Given h)) ≡ Ok h → FitsHistory h × (t ≡ text_of_history h)
 history_takes t h true test e = subst (λ (x : HistoryWord). FitsHistory x × (t ≡ text_of_history x)) (ok_is Right h e) (tt, is_same t _ test)
 history_takes t h false test e =
-    let b = bind_ok ((digest {C = Unit {0}}).read tt t) (λ h. Ok (Given h)) h e in
+    let b = bind_ok ((digest_word {C = Unit {0}}).read tt t) (λ h. Ok (Given h)) h e in
     let d = (digest_lawful {C = Unit {0}}).takes tt t b.0 b.1 in
     subst (λ (x : HistoryWord). FitsHistory x × (t ≡ text_of_history x)) (ok_is (Given b.0) h b.2) d
 

@@ -17,7 +17,7 @@ use Rattle.depot_schedule.specs.declared.schedule.Schedule.{Schedule}
 use Rattle.depot_schedule.specs.declared.verb.Verb.{Verb}
 use Rattle.depot_schedule.specs.declared.verb.Verb.TheVariants as verb
 use Rattle.depot_schedule.specs.declared.verb.TheConstants.{VERBS}
-use Rattle.depot_lines.specs.Language.{Words, word, made, optional, counted, or_none, or_empty}
+use Rattle.depot_lines.specs.Language.{Words, word, line_made, optional, counted_words, or_none, or_empty}
 use Rattle.depot_schedule.specs.EventWords.{correct, faulty, seq, piece_size, stop_call, image, new_label, made_label, signed_label, voucher_label, plain_label, reader_label, history, reference, references, vouched_references}
 use Rattle.depot_lines.specs.Vocabulary.{clock, any_u32, node_count, key, put_key, value, raw_bytes, kind, changes}
 
@@ -181,113 +181,113 @@ EventForm = Words Schedule Event
 
 -- `put N KEY VALUE`
 unfoldable pub put_line : EventForm
-put_line = counted 3 3 (word correct event_node λ node. word put_key event_key λ k. word value event_value λ v. made (Put node k v))
+put_line = counted_words 3 3 (word correct event_node λ node. word put_key event_key λ k. word value event_value λ v. line_made (Put node k v))
 
 -- `puts N WRITES`
 unfoldable pub puts_line : EventForm
-puts_line = counted 2 2 (word correct event_node λ node. word (changes keys.Put) event_changes λ cs. made (Puts node cs))
+puts_line = counted_words 2 2 (word correct event_node λ node. word (changes keys.Put) event_changes λ cs. line_made (Puts node cs))
 
 -- `get N KEY`
 unfoldable pub get_line : EventForm
-get_line = counted 2 2 (word correct event_node λ node. word key event_key λ k. made (Get node k))
+get_line = counted_words 2 2 (word correct event_node λ node. word key event_key λ k. line_made (Get node k))
 
 -- `hello N LABEL`
 unfoldable pub hello_line : EventForm
-hello_line = counted 2 2 (word correct event_node λ node. word new_label event_label λ label. made (Hello node label))
+hello_line = counted_words 2 2 (word correct event_node λ node. word new_label event_label λ label. line_made (Hello node label))
 
 -- `bundle N HELLO LABEL`
 unfoldable pub bundle_line : EventForm
-bundle_line = counted 3 3 (word correct event_node λ node. word made_label event_source λ hello. word new_label event_label λ label. made (Bundle node hello label))
+bundle_line = counted_words 3 3 (word correct event_node λ node. word made_label event_source λ hello. word new_label event_label λ label. line_made (Bundle node hello label))
 
 -- `give N LABEL` or `give N LABEL SIZE`
 unfoldable pub give_line : EventForm
-give_line = counted 2 3 (word correct event_node λ node. word made_label event_label λ label. optional piece_size event_size λ size. Give node label size)
+give_line = counted_words 2 3 (word correct event_node λ node. word made_label event_label λ label. optional piece_size event_size λ size. Give node label size)
 
 -- `restart N`
 unfoldable pub restart_line : EventForm
-restart_line = counted 1 1 (word correct event_node λ node. made (Restart node))
+restart_line = counted_words 1 1 (word correct event_node λ node. line_made (Restart node))
 
 -- `update LABEL W SEQ CLOCK PREV KEY VALUE DEPS HISTORY`
 unfoldable pub update_line : EventForm
-update_line = counted 9 9 (
+update_line = counted_words 9 9 (
     word new_label event_label λ label. word faulty event_node λ writer. word seq event_seq λ n. word clock event_clock λ time. word (or_none reference) event_prev λ prev.
     word key event_key λ k. word value event_value λ v. word (or_empty (references MOST_ENTRIES)) event_refs λ deps. word history event_history λ hash.
-    made (Update label writer n time prev k v deps hash))
+    line_made (Update label writer n time prev k v deps hash))
 
 -- `updates LABEL W SEQ CLOCK PREV WRITES DEPS HISTORY`
 unfoldable pub updates_line : EventForm
-updates_line = counted 8 8 (
+updates_line = counted_words 8 8 (
     word new_label event_label λ label. word faulty event_node λ writer. word seq event_seq λ n. word clock event_clock λ time. word (or_none reference) event_prev λ prev.
     word (changes keys.Any) event_changes λ cs. word (or_empty (references MOST_ENTRIES)) event_refs λ deps. word history event_history λ hash.
-    made (Updates label writer n time prev cs deps hash))
+    line_made (Updates label writer n time prev cs deps hash))
 
 -- `voucher LABEL W SEQ REFS`
 unfoldable pub voucher_line : EventForm
-voucher_line = counted 4 4 (word new_label event_label λ label. word faulty event_node λ writer. word seq event_seq λ n. word (vouched_references MOST_IDS) event_refs λ refs. made (Voucher label writer n refs))
+voucher_line = counted_words 4 4 (word new_label event_label λ label. word faulty event_node λ writer. word seq event_seq λ n. word (vouched_references MOST_IDS) event_refs λ refs. line_made (Voucher label writer n refs))
 
 -- `proof LABEL KIND A B`
 unfoldable pub proof_line : EventForm
-proof_line = counted 4 4 (word new_label event_label λ label. word kind event_kind λ k. word signed_label event_source λ first. word signed_label event_second λ second. made (Proof label k first second))
+proof_line = counted_words 4 4 (word new_label event_label λ label. word kind event_kind λ k. word signed_label event_source λ first. word signed_label event_second λ second. line_made (Proof label k first second))
 
 -- `hollow LABEL V T`
 unfoldable pub hollow_line : EventForm
-hollow_line = counted 3 3 (word new_label event_label λ label. word voucher_label event_source λ voucher. word plain_label event_second λ text. made (Hollow label voucher text))
+hollow_line = counted_words 3 3 (word new_label event_label λ label. word voucher_label event_source λ voucher. word plain_label event_second λ text. line_made (Hollow label voucher text))
 
 -- `judge LABEL`
 unfoldable pub judge_line : EventForm
-judge_line = counted 1 1 (word made_label event_label λ label. made (Judge label))
+judge_line = counted_words 1 1 (word made_label event_label λ label. line_made (Judge label))
 
 -- `raw LABEL HEX`
 unfoldable pub raw_line : EventForm
-raw_line = counted 2 2 (word new_label event_label λ label. word raw_bytes event_bytes λ bytes. made (Raw label bytes))
+raw_line = counted_words 2 2 (word new_label event_label λ label. word raw_bytes event_bytes λ bytes. line_made (Raw label bytes))
 
 -- `cut LABEL FROM START COUNT`
 unfoldable pub cut_line : EventForm
-cut_line = counted 4 4 (word new_label event_label λ label. word made_label event_source λ source. word any_u32 event_place λ start. word any_u32 event_count λ count. made (Cut label source start count))
+cut_line = counted_words 4 4 (word new_label event_label λ label. word made_label event_source λ source. word any_u32 event_place λ start. word any_u32 event_count λ count. line_made (Cut label source start count))
 
 -- `flip LABEL FROM PLACE`
 unfoldable pub flip_line : EventForm
-flip_line = counted 3 3 (word new_label event_label λ label. word made_label event_source λ source. word any_u32 event_place λ place. made (Flip label source place))
+flip_line = counted_words 3 3 (word new_label event_label λ label. word made_label event_source λ source. word any_u32 event_place λ place. line_made (Flip label source place))
 
 -- `join LABEL A B`
 unfoldable pub join_line : EventForm
-join_line = counted 3 3 (word new_label event_label λ label. word made_label event_source λ first. word made_label event_second λ second. made (Join label first second))
+join_line = counted_words 3 3 (word new_label event_label λ label. word made_label event_source λ first. word made_label event_second λ second. line_made (Join label first second))
 
 -- `stop N K IMAGE`
 unfoldable pub stop_line : EventForm
-stop_line = counted 3 3 (word correct event_node λ node. word stop_call event_call λ call. word image event_image λ left. made (Stop node call left))
+stop_line = counted_words 3 3 (word correct event_node λ node. word stop_call event_call λ call. word image event_image λ left. line_made (Stop node call left))
 
 -- `receipt N REFS`
 unfoldable pub receipt_line : EventForm
-receipt_line = counted 2 2 (word correct event_node λ node. word (references MOST_WRITES) event_refs λ refs. made (Receipt node refs))
+receipt_line = counted_words 2 2 (word correct event_node λ node. word (references MOST_WRITES) event_refs λ refs. line_made (Receipt node refs))
 
 -- `settled N REF K`
 unfoldable pub settled_line : EventForm
-settled_line = counted 3 3 (word correct event_node λ node. word reference event_reference λ update. word node_count event_nodes λ k. made (Settled node update k))
+settled_line = counted_words 3 3 (word correct event_node λ node. word reference event_reference λ update. word node_count event_nodes λ k. line_made (Settled node update k))
 
 -- `audit`
 unfoldable pub audit_line : EventForm
-audit_line = counted 0 0 (made Audit)
+audit_line = counted_words 0 0 (line_made Audit)
 
 -- `checkpoint N LABEL`
 unfoldable pub checkpoint_line : EventForm
-checkpoint_line = counted 2 2 (word correct event_node λ node. word new_label event_label λ label. made (Checkpoint node label))
+checkpoint_line = counted_words 2 2 (word correct event_node λ node. word new_label event_label λ label. line_made (Checkpoint node label))
 
 -- `sign N LABEL`
 unfoldable pub sign_line : EventForm
-sign_line = counted 2 2 (word correct event_node λ node. word made_label event_label λ label. made (Sign node label))
+sign_line = counted_words 2 2 (word correct event_node λ node. word made_label event_label λ label. line_made (Sign node label))
 
 -- `trim N LABEL NAME`
 unfoldable pub trim_line : EventForm
-trim_line = counted 3 3 (word correct event_node λ node. word made_label event_label λ label. word new_label event_reader λ name. made (Trim node label name))
+trim_line = counted_words 3 3 (word correct event_node λ node. word made_label event_label λ label. word new_label event_reader λ name. line_made (Trim node label name))
 
 -- `tgive NAME LABEL`
 unfoldable pub tgive_line : EventForm
-tgive_line = counted 2 2 (word reader_label event_reader λ name. word made_label event_label λ label. made (Tgive name label))
+tgive_line = counted_words 2 2 (word reader_label event_reader λ name. word made_label event_label λ label. line_made (Tgive name label))
 
 -- `tget NAME KEY`
 unfoldable pub tget_line : EventForm
-tget_line = counted 2 2 (word reader_label event_reader λ name. word key event_key λ k. made (Tget name k))
+tget_line = counted_words 2 2 (word reader_label event_reader λ name. word key event_key λ k. line_made (Tget name k))
 
 -- ---- all kinds of events
 

@@ -22,7 +22,7 @@ use Rattle.depot_schedule.specs.declared.verb.Wanted.{Wanted}
 use Rattle.depot_schedule.specs.declared.verb.Wanted.TheVariants as wanted
 use Rattle.depot_base.specs.Format.{◌>>=◌}
 use Rattle.depot_lines.specs.Language.{split, Word, such_that, parts_of}
-use Rattle.depot_lines.specs.Vocabulary.{number_or, number, id, any_u32, digest, label}
+use Rattle.depot_lines.specs.Vocabulary.{number_or, number_between, id, any_u32, digest_word, label}
 
 -- ---- what the schedule so far says of nodes and labels
 
@@ -141,11 +141,11 @@ seq = such_that any_u32 (λ s n. nat_lt n (2 ^ s.height)) is.Number
 
 -- the most bytes of a piece
 abbrev pub piece_size : {C : Type 0} → Word C ℕ
-piece_size = number 1 MOST_PIECE
+piece_size = number_between 1 MOST_PIECE
 
 -- the call on a disk in which a stop comes
 abbrev pub stop_call : {C : Type 0} → Word C ℕ
-stop_call = number 1 MOST_STOP_CALL
+stop_call = number_between 1 MOST_STOP_CALL
 
 -- the number of an image of a disk
 abbrev pub image : {C : Type 0} → Word C ℕ
@@ -185,7 +185,7 @@ reader_label = label_for wanted.Reader
 
 abbrev pub FitsHistory : HistoryWord → Type 0
 FitsHistory Right = Unit {0}
-FitsHistory (Given hash) = (digest {C = Unit {0}}).fits tt hash
+FitsHistory (Given hash) = (digest_word {C = Unit {0}}).fits tt hash
 
 abbrev pub text_of_history : HistoryWord → List ℕ
 text_of_history Right = codes "right"
@@ -196,7 +196,7 @@ abbrev pub history : {C : Type 0} → Word C HistoryWord
 history = record {
   fits = λ c h. FitsHistory h;
   text = text_of_history;
-  read = λ c word. if bytes_eq word (codes "right") then Ok Right else (digest.read c word >>= λ hash. Ok (Given hash));
+  read = λ c word. if bytes_eq word (codes "right") then Ok Right else (digest_word.read c word >>= λ hash. Ok (Given hash));
 }
 
 -- ---- references

@@ -4,8 +4,8 @@ use Rattle.std.specs.Str.{bytes_eq}
 use Rattle.depot_base.specs.Writes.{one_change}
 use Rattle.depot_base.specs.declared.write.Change.{Change}
 use Rattle.depot_lines.specs.declared.changes.Keys.TheVariants as keys
-use Rattle.depot_lines.specs.Language.{Words, word, made, counted}
-use Rattle.depot_lines.specs.Vocabulary.{key, put_key, value, digest, node_count, changes}
+use Rattle.depot_lines.specs.Language.{Words, word, line_made, counted_words}
+use Rattle.depot_lines.specs.Vocabulary.{key, put_key, value, digest_word, node_count, changes}
 use Rattle.depot_script.specs.declared.command.Command.{Command}
 use Rattle.depot_script.specs.declared.command.Command.TheVariants.{Put, Puts, Get, Hello, Bundle, Take, Receipt, Settled, Export, Checkpoint, Sign, Trim, Tgive, Tget}
 use Rattle.depot_script.specs.declared.command_verb.CommandVerb.{CommandVerb}
@@ -65,59 +65,59 @@ CommandForm = Words (Unit {0}) Command
 
 -- `put KEY VALUE`
 unfoldable pub put_form : CommandForm
-put_form = counted 2 2 (word put_key command_key λ k. word value command_value λ v. made (Put k v))
+put_form = counted_words 2 2 (word put_key command_key λ k. word value command_value λ v. line_made (Put k v))
 
 -- `puts WRITES`
 unfoldable pub puts_form : CommandForm
-puts_form = counted 1 1 (word (changes keys.Put) command_changes λ cs. made (Puts cs))
+puts_form = counted_words 1 1 (word (changes keys.Put) command_changes λ cs. line_made (Puts cs))
 
 -- `get KEY`
 unfoldable pub get_form : CommandForm
-get_form = counted 1 1 (word key command_key λ k. made (Get k))
+get_form = counted_words 1 1 (word key command_key λ k. line_made (Get k))
 
 -- `hello FILE`
 unfoldable pub hello_form : CommandForm
-hello_form = counted 1 1 (word file_name command_file λ file. made (Hello file))
+hello_form = counted_words 1 1 (word file_name command_file λ file. line_made (Hello file))
 
 -- `bundle HELLO FILE`
 unfoldable pub bundle_form : CommandForm
-bundle_form = counted 2 2 (word file_name command_hello λ hello. word file_name command_file λ file. made (Bundle hello file))
+bundle_form = counted_words 2 2 (word file_name command_hello λ hello. word file_name command_file λ file. line_made (Bundle hello file))
 
 -- `take FILE`
 unfoldable pub take_form : CommandForm
-take_form = counted 1 1 (word file_name command_file λ file. made (Take file))
+take_form = counted_words 1 1 (word file_name command_file λ file. line_made (Take file))
 
 -- `receipt ID`
 unfoldable pub receipt_form : CommandForm
-receipt_form = counted 1 1 (word digest command_id λ id. made (Receipt id))
+receipt_form = counted_words 1 1 (word digest_word command_id λ id. line_made (Receipt id))
 
 -- `settled ID K`
 unfoldable pub settled_form : CommandForm
-settled_form = counted 2 2 (word digest command_id λ id. word node_count command_nodes λ k. made (Settled id k))
+settled_form = counted_words 2 2 (word digest_word command_id λ id. word node_count command_nodes λ k. line_made (Settled id k))
 
 -- `export FILE`
 unfoldable pub export_form : CommandForm
-export_form = counted 1 1 (word file_name command_file λ file. made (Export file))
+export_form = counted_words 1 1 (word file_name command_file λ file. line_made (Export file))
 
 -- `checkpoint FILE`
 unfoldable pub checkpoint_form : CommandForm
-checkpoint_form = counted 1 1 (word file_name command_file λ file. made (Checkpoint file))
+checkpoint_form = counted_words 1 1 (word file_name command_file λ file. line_made (Checkpoint file))
 
 -- `sign FILE`
 unfoldable pub sign_form : CommandForm
-sign_form = counted 1 1 (word file_name command_file λ file. made (Sign file))
+sign_form = counted_words 1 1 (word file_name command_file λ file. line_made (Sign file))
 
 -- `trim FILE`
 unfoldable pub trim_form : CommandForm
-trim_form = counted 1 1 (word file_name command_file λ file. made (Trim file))
+trim_form = counted_words 1 1 (word file_name command_file λ file. line_made (Trim file))
 
 -- `tgive FILE`
 unfoldable pub tgive_form : CommandForm
-tgive_form = counted 1 1 (word file_name command_file λ file. made (Tgive file))
+tgive_form = counted_words 1 1 (word file_name command_file λ file. line_made (Tgive file))
 
 -- `tget KEY`
 unfoldable pub tget_form : CommandForm
-tget_form = counted 1 1 (word key command_key λ k. made (Tget k))
+tget_form = counted_words 1 1 (word key command_key λ k. line_made (Tget k))
 
 -- ---- all kinds of commands
 

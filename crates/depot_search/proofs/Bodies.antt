@@ -5,7 +5,7 @@ use Rattle.depot_base.specs.declared.update.Update.{Update}
 use Rattle.depot_model.specs.Audit.{same_body, is_body_in, new_bodies, bodies_once}
 use Rattle.depot_model.specs.Journal.{accepted}
 use Rattle.depot_search.specs.Writes.{with_bodies, with_journals}
-use Rattle.depot_search.specs.declared.journal.Journal.{Journal}
+use Rattle.depot_search.specs.declared.journal.TracedJournal.{TracedJournal}
 
 -- ---- one more is known
 
@@ -51,10 +51,10 @@ pub bodies_behind : (known us vs : List Update) → with_bodies known (us ++ vs)
 bodies_behind known [] vs = refl
 bodies_behind known (u ∷ us) vs = bodies_behind (cond (is_body_in u known) known (known ++ u ∷ [])) us vs
 
-journals_put : (known : List Update) (js : List Journal) → with_journals known js ≡ with_bodies known (flat_map (λ (j : Journal). accepted j.entries) js)
+journals_put : (known : List Update) (js : List TracedJournal) → with_journals known js ≡ with_bodies known (flat_map (λ (j : TracedJournal). accepted j.entries) js)
 journals_put known [] = refl
-journals_put known (j ∷ js) = journals_put (with_bodies known (accepted j.entries)) js ∙ sym (bodies_behind known (accepted j.entries) (flat_map (λ (k : Journal). accepted k.entries) js))
+journals_put known (j ∷ js) = journals_put (with_bodies known (accepted j.entries)) js ∙ sym (bodies_behind known (accepted j.entries) (flat_map (λ (k : TracedJournal). accepted k.entries) js))
 
 -- of journals they are the bodies of all that they accepted
-pub journals_once : (js : List Journal) → with_journals [] js ≡ bodies_once (flat_map (λ (j : Journal). accepted j.entries) js)
-journals_once js = journals_put [] js ∙ bodies_put [] (flat_map (λ (j : Journal). accepted j.entries) js)
+pub journals_once : (js : List TracedJournal) → with_journals [] js ≡ bodies_once (flat_map (λ (j : TracedJournal). accepted j.entries) js)
+journals_once js = journals_put [] js ∙ bodies_put [] (flat_map (λ (j : TracedJournal). accepted j.entries) js)

@@ -26,7 +26,7 @@ use Rattle.depot_search.specs.Read.{is_put_in_each, is_exact_by, first_inexact, 
 use Rattle.depot_search.specs.Rows.{over_each, first_own}
 use Rattle.depot_search.specs.Search.{op_among, circle_among, found_among}
 use Rattle.depot_search.specs.Writes.{with_journals}
-use Rattle.depot_search.specs.declared.journal.Journal.{Journal}
+use Rattle.depot_search.specs.declared.journal.TracedJournal.{TracedJournal}
 use Rattle.depot_traces.specs.SeenTraces.{finding_of}
 use Rattle.depot_traces.specs.SeenTraces as seen
 use Rattle.depot_traces.specs.declared.finding.Finding.{Finding}
@@ -64,17 +64,17 @@ length_map f (x ∷ xs) = ap (λ (n : ℕ). suc n) (length_map f xs)
 
 -- ---- what journals tell of a world
 
-writes_are : (cs : List Correct) (js : List Journal) → AreOf cs js → flat_map (λ (j : Journal). accepted j.entries) js ≡ flat_map (λ (c : Correct). accepted c.journal) cs
+writes_are : (cs : List Correct) (js : List TracedJournal) → AreOf cs js → flat_map (λ (j : TracedJournal). accepted j.entries) js ≡ flat_map (λ (c : Correct). accepted c.journal) cs
 writes_are [] [] of = refl
 writes_are [] (j ∷ js) of = absurd of
 writes_are (c ∷ cs) [] of = absurd of
-writes_are (c ∷ cs) (j ∷ js) of = ap (λ (J : List Record). accepted J ++ flat_map (λ (k : Journal). accepted k.entries) js) (sym of.0.journal) ∙ ap (λ (us : List Update). accepted c.journal ++ us) (writes_are cs js of.1)
+writes_are (c ∷ cs) (j ∷ js) of = ap (λ (J : List Record). accepted J ++ flat_map (λ (k : TracedJournal). accepted k.entries) js) (sym of.0.journal) ∙ ap (λ (us : List Update). accepted c.journal ++ us) (writes_are cs js of.1)
 
-pub once_is : (W : World) (js : List Journal) → AreOf W.nodes js → with_journals [] js ≡ writes_once W
+pub once_is : (W : World) (js : List TracedJournal) → AreOf W.nodes js → with_journals [] js ≡ writes_once W
 unfolding writes_once
 once_is W js of = journals_once js ∙ ap (λ (us : List Update). audits.bodies_once us) (writes_are W.nodes js of)
 
-puts_among : (key : List ℕ) (s : Shown) (cs : List Correct) (js : List Journal) → AreOf cs js
+puts_among : (key : List ℕ) (s : Shown) (cs : List Correct) (js : List TracedJournal) → AreOf cs js
     → list_all (λ d. not (s.update.writer == d.node) || list_any (is_put_of key s.update s.seen) d.journal) cs ≡ is_put_in_each js key s.update s.seen
 puts_among key s [] [] of = refl
 puts_among key s [] (j ∷ js) of = absurd of
@@ -85,7 +85,7 @@ puts_among key s (c ∷ cs) (j ∷ js) of =
     ∙ ap (λ (b : Bool). (not (s.update.writer == j.node) || list_any (is_put_of key s.update s.seen) j.entries) && b) (puts_among key s cs js of.1)
 
 -- the writes of journals, each body once, and the closed table of them
-pub record IsMade (js : List Journal) (vs : List Update) (rows : List (List Bool)) : Type 0 where
+pub record IsMade (js : List TracedJournal) (vs : List Update) (rows : List (List Bool)) : Type 0 where
   pub writes : vs ≡ with_journals [] js
   pub table : rows ≡ over_each (table_of is_parent vs) (length vs)
 
@@ -94,18 +94,18 @@ pub record IsMade (js : List Journal) (vs : List Update) (rows : List (List Bool
 abbrev ops_of : List Correct → Update → List (Option audits.Op)
 ops_of cs u = map (λ c. option_map (λ place. the_write c.node place) (place_in c.journal u)) cs
 
-op_at : (n m : ℕ) (J K : List Record) (u : Update) → n ≡ m → J ≡ K → option_map seen.op_of (option_map (λ place. Write m place) (place_in K u)) ≡ option_map (λ place. the_write n place) (place_in J u)
+op_at : (n m : ℕ) (J K : List Record) (u : Update) → n ≡ m → J ≡ K → option_map seen.op_of_trace (option_map (λ place. Write m place) (place_in K u)) ≡ option_map (λ place. the_write n place) (place_in J u)
 op_at n m J K u e f = by_place (place_in K u) ∙ ap (λ (x : ℕ). option_map (λ place. the_write x place) (place_in K u)) (sym e) ∙ ap (λ (L : List Record). option_map (λ place. the_write n place) (place_in L u)) (sym f) where
-  by_place : (o : Option ℕ) → option_map seen.op_of (option_map (λ place. Write m place) o) ≡ option_map (λ place. the_write m place) o
+  by_place : (o : Option ℕ) → option_map seen.op_of_trace (option_map (λ place. Write m place) o) ≡ option_map (λ place. the_write m place) o
   by_place None = refl
   by_place (Some place) = refl
 
-ops_are : (u : Update) (cs : List Correct) (js : List Journal) → AreOf cs js → option_map seen.op_of (op_among js u) ≡ first (ops_of cs u)
+ops_are : (u : Update) (cs : List Correct) (js : List TracedJournal) → AreOf cs js → option_map seen.op_of_trace (op_among js u) ≡ first (ops_of cs u)
 ops_are u [] [] of = refl
 ops_are u [] (j ∷ js) of = absurd of
 ops_are u (c ∷ cs) [] of = absurd of
 ops_are u (c ∷ cs) (j ∷ js) of =
-    map_first seen.op_of (option_map (λ place. Write j.node place) (place_in j.entries u)) (map (λ (k : Journal). option_map (λ place. Write k.node place) (place_in k.entries u)) js) (ops_of cs u) (ops_are u cs js of.1)
+    map_first seen.op_of_trace (option_map (λ place. Write j.node place) (place_in j.entries u)) (map (λ (k : TracedJournal). option_map (λ place. Write k.node place) (place_in k.entries u)) js) (ops_of cs u) (ops_are u cs js of.1)
     ∙ same_first _ _ (ops_of cs u) (ops_of cs u) (op_at c.node j.node c.journal j.entries u of.0.node of.0.journal) refl
 
 op_there : (W : World) (u : Update) → IsIn u (writes_of W) → first (ops_of W.nodes u) ≡ None → ⊥
@@ -116,11 +116,11 @@ op_there W u on none =
     (no_place_to (λ (x : Record). is_body_in u (accepted_by x)) w.by.journal (none_of_map (λ place. the_write w.by.node place) (place_in w.by.journal u) (row_none_to (λ (c : Correct). option_map (λ place. the_write c.node place) (place_in c.journal u)) W.nodes none w.by w.correct)) r.by (giver_in accepted_by u w.by.journal r))
     (body_in_from u (accepted_by r.by) r.given)
 
-circle_at : (o : Option Op) (m : Option audits.Op) (d : audits.Op) → option_map seen.op_of o ≡ m → (m ≡ None → ⊥) → option_map finding_of (option_map Circle o) ≡ Some (circle_found (unwrap_or m d))
+circle_at : (o : Option Op) (m : Option audits.Op) (d : audits.Op) → option_map seen.op_of_trace o ≡ m → (m ≡ None → ⊥) → option_map finding_of (option_map Circle o) ≡ Some (circle_found (unwrap_or m d))
 circle_at None m d e there = absurd (there (sym e))
 circle_at (Some p) m d e there = ap (λ (x : Option audits.Op). Some (circle_found (unwrap_or x d))) e
 
-module _ (W : World) (world : IsWorld W) (js : List Journal) (of : AreOf W.nodes js) where
+module _ (W : World) (world : IsWorld W) (js : List TracedJournal) (of : AreOf W.nodes js) where
   abbrev us : List Update
   us = writes_once W
 
@@ -168,7 +168,7 @@ module _ (W : World) (world : IsWorld W) (js : List Journal) (of : AreOf W.nodes
   wrong_map n None = refl
   wrong_map n (Some place) = refl
 
-  all_wrong : (cs : List Correct) (ks : List Journal) → ((c : Correct) → IsIn c cs → IsIn c W.nodes) → AreOf cs ks → first (map (wrong_at W) (flat_map reads_of cs)) ≡ option_map finding_of (wrong_among js us (table_of before us) ks)
+  all_wrong : (cs : List Correct) (ks : List TracedJournal) → ((c : Correct) → IsIn c cs → IsIn c W.nodes) → AreOf cs ks → first (map (wrong_at W) (flat_map reads_of cs)) ≡ option_map finding_of (wrong_among js us (table_of before us) ks)
   all_wrong [] [] on a = refl
   all_wrong [] (k ∷ ks) on a = absurd a
   all_wrong (c ∷ cs) [] on a = absurd a
@@ -179,7 +179,7 @@ module _ (W : World) (world : IsWorld W) (js : List Journal) (of : AreOf W.nodes
       ∙ reads_wrong c (on c (inl refl)) 0 c.reads k.reads.now refl a.0.reads rest
       ∙ ap (λ (J : List Record). first (option_map (λ n. wrong_found c.node n) (first_inexact js us rows J 0 k.reads.now) ∷ rest)) a.0.journal
       ∙ ap (λ (m : ℕ). first (option_map (λ n. wrong_found m n) (first_inexact js us rows k.entries 0 k.reads.now) ∷ rest)) a.0.node
-      ∙ sym (map_first finding_of (option_map (λ place. Wrong k.node place) (first_inexact js us rows k.entries 0 k.reads.now)) (map (λ (j : Journal). option_map (λ place. Wrong j.node place) (first_inexact js us rows j.entries 0 j.reads.now)) ks) rest (sym (all_wrong cs ks (λ d d_on. on d (inr d_on)) a.1))
+      ∙ sym (map_first finding_of (option_map (λ place. Wrong k.node place) (first_inexact js us rows k.entries 0 k.reads.now)) (map (λ (j : TracedJournal). option_map (λ place. Wrong j.node place) (first_inexact js us rows j.entries 0 j.reads.now)) ks) rest (sym (all_wrong cs ks (λ d d_on. on d (inr d_on)) a.1))
       ∙ ap (λ (o : Option audits.Finding). first (o ∷ rest)) (wrong_map k.node (first_inexact js us rows k.entries 0 k.reads.now)))
 
   wrong_law : option_map finding_of (wrong_among js us (table_of before us) js) ≡ wrong W
@@ -204,7 +204,7 @@ module _ (W : World) (world : IsWorld W) (js : List Journal) (of : AreOf W.nodes
       ∙ wrong_law
 
 -- the table of the writes is closed
-pub is_made : {Y : Type 0} (f : Y → List Bool) (js : List Journal) (vs : List Update) (table : List Y) (rows : List (List Bool)) → vs ≡ with_journals [] js → map f table ≡ table_of is_parent vs → rows ≡ over_each (map f table) (length table) → IsMade js vs rows
+pub is_made : {Y : Type 0} (f : Y → List Bool) (js : List TracedJournal) (vs : List Update) (table : List Y) (rows : List (List Bool)) → vs ≡ with_journals [] js → map f table ≡ table_of is_parent vs → rows ≡ over_each (map f table) (length table) → IsMade js vs rows
 is_made f js vs table rows writes first_rows closed_rows = record {
   writes = writes;
   table =
@@ -222,5 +222,5 @@ first_mapped f a b c d e g =
     ∙ ap (λ (o : Option _). first (c ∷ o ∷ [])) g
 
 -- in the world of the traces from which the journals were read it is what the definitions find
-pub found_is : (W : World) → IsWorld W → (js : List Journal) → AreOf W.nodes js → (vs : List Update) (rows : List (List Bool)) → IsMade js vs rows → option_map finding_of (found_among js vs rows) ≡ first (circle W ∷ wrong W ∷ [])
+pub found_is : (W : World) → IsWorld W → (js : List TracedJournal) → AreOf W.nodes js → (vs : List Update) (rows : List (List Bool)) → IsMade js vs rows → option_map finding_of (found_among js vs rows) ≡ first (circle W ∷ wrong W ∷ [])
 found_is W world js of vs rows made = first_mapped finding_of (circle_among js vs rows) (wrong_among js vs rows js) (circle W) (wrong W) (circle_is W world js of vs rows made) (wrong_is W world js of vs rows made)

@@ -17,7 +17,7 @@ use Rattle.depot_laws.proofs.JournalLimits.{within_from_room}
 use Rattle.depot_laws.proofs.Splits.{lawful_texts, lawful_from_end}
 use Rattle.depot_search.specs.Search.{HasFewRecords, HasFewReads}
 use Rattle.depot_search.specs.Writes.{IsRecordText}
-use Rattle.depot_search.specs.declared.journal.Journal.{Journal}
+use Rattle.depot_search.specs.declared.journal.TracedJournal.{TracedJournal}
 use Rattle.depot_traces.specs.SeenTraces.{answered_of, read_of, trace_of}
 use Rattle.depot_traces.specs.declared.trace.ReadTrace.{ReadTrace}
 use Rattle.depot_traces.specs.declared.trace.Trace.{Trace}
@@ -60,12 +60,12 @@ AreReadsAs (r ∷ rs) [] = ⊥
 AreReadsAs (r ∷ rs) (t ∷ ts) = IsReadAs r t × AreReadsAs rs ts
 
 -- a journal is that of a node
-pub record IsOf (c : Correct) (j : Journal) : Type 0 where
+pub record IsOf (c : Correct) (j : TracedJournal) : Type 0 where
   pub node : c.node ≡ j.node
   pub journal : c.journal ≡ j.entries
   pub reads : AreReadsAs c.reads j.reads.now
 
-abbrev pub AreOf : List Correct → List Journal → Type 0
+abbrev pub AreOf : List Correct → List TracedJournal → Type 0
 AreOf [] [] = Unit {0}
 AreOf [] (j ∷ js) = ⊥
 AreOf (c ∷ cs) [] = ⊥
@@ -83,11 +83,11 @@ module _ {X : Type 0} (now : X → Trace) (verifies : Verifies) (listed : List R
   all_told (x ∷ xs) (c ∷ cs) ((J, (texts, (told, is))), a) = (texts_told J (λ r on. lawful_texts (at_node verifies listed (trace_of (now x))) J r texts.lawful on) (now x).texts texts.are, all_told xs cs a)
 
   -- what is read from them are the journals of the nodes
-  pub all_of : (xs : List X) (cs : List Correct) (js : List Journal) → AreNodesOf verifies listed (map (λ x. trace_of (now x)) xs) cs
+  pub all_of : (xs : List X) (cs : List Correct) (js : List TracedJournal) → AreNodesOf verifies listed (map (λ x. trace_of (now x)) xs) cs
       → AllByRecursion (λ j. AllByRecursion IsRecord j.entries) js
-      → map (λ (j : Journal). j.node) js ≡ map (λ x. (now x).node) xs
-      → map (λ (j : Journal). map text_of_record j.entries) js ≡ map (λ x. (now x).texts) xs
-      → map (λ (j : Journal). j.reads.now) js ≡ map (λ x. (now x).reads) xs → AreOf cs js
+      → map (λ (j : TracedJournal). j.node) js ≡ map (λ x. (now x).node) xs
+      → map (λ (j : TracedJournal). map text_of_record j.entries) js ≡ map (λ x. (now x).texts) xs
+      → map (λ (j : TracedJournal). j.reads.now) js ≡ map (λ x. (now x).reads) xs → AreOf cs js
   all_of [] [] [] a fit nodes texts reads = tt
   all_of [] [] (j ∷ js) a fit nodes texts reads = absurd cc
   all_of [] (c ∷ cs) js a fit nodes texts reads = absurd a
@@ -97,9 +97,9 @@ module _ {X : Type 0} (now : X → Trace) (verifies : Verifies) (listed : List R
       let node : j.node ≡ (now x).node = cc in
       let text : map text_of_record j.entries ≡ (now x).texts = cc in
       let read : j.reads.now ≡ (now x).reads = cc in
-      let nodes_left : map (λ (k : Journal). k.node) js ≡ map (λ y. (now y).node) xs = cc in
-      let texts_left : map (λ (k : Journal). map text_of_record k.entries) js ≡ map (λ y. (now y).texts) xs = cc in
-      let reads_left : map (λ (k : Journal). k.reads.now) js ≡ map (λ y. (now y).reads) xs = cc in (
+      let nodes_left : map (λ (k : TracedJournal). k.node) js ≡ map (λ y. (now y).node) xs = cc in
+      let texts_left : map (λ (k : TracedJournal). map text_of_record k.entries) js ≡ map (λ y. (now y).texts) xs = cc in
+      let reads_left : map (λ (k : TracedJournal). k.reads.now) js ≡ map (λ y. (now y).reads) xs = cc in (
         record {
           node = ap (λ (d : Correct). d.node) is ∙ sym node;
           journal = ap (λ (d : Correct). d.journal) is ∙ sym (one_journal j.entries J fit.0 (λ r on. lawful_texts (at_node verifies listed (trace_of (now x))) J r are.lawful on) (text ∙ are.are));
@@ -109,7 +109,7 @@ module _ {X : Type 0} (now : X → Trace) (verifies : Verifies) (listed : List R
       )
 
   -- of which none has too many records to count
-  pub all_few : (xs : List X) (cs : List Correct) (js : List Journal) → AreNodesOf verifies listed (map (λ x. trace_of (now x)) xs) cs → AreOf cs js → AllByRecursion HasFewRecords js
+  pub all_few : (xs : List X) (cs : List Correct) (js : List TracedJournal) → AreNodesOf verifies listed (map (λ x. trace_of (now x)) xs) cs → AreOf cs js → AllByRecursion HasFewRecords js
   all_few xs [] [] a of = tt
   all_few xs [] (j ∷ js) a of = absurd of
   all_few xs (c ∷ cs) [] a of = absurd of
@@ -120,11 +120,11 @@ module _ {X : Type 0} (now : X → Trace) (verifies : Verifies) (listed : List R
       (omega (arith, counted), all_few xs cs js a of.1)
 
 -- nor too many reads
-pub few_reads : {X : Type 0} (now : X → Trace) (most : ℕ) (xs : List X) (js : List Journal) → most < 2 ^ 32 → AllByRecursion (λ x. length (now x).reads ≤ most) xs → map (λ (j : Journal). j.reads.now) js ≡ map (λ x. (now x).reads) xs → AllByRecursion HasFewReads js
+pub few_reads : {X : Type 0} (now : X → Trace) (most : ℕ) (xs : List X) (js : List TracedJournal) → most < 2 ^ 32 → AllByRecursion (λ x. length (now x).reads ≤ most) xs → map (λ (j : TracedJournal). j.reads.now) js ≡ map (λ x. (now x).reads) xs → AllByRecursion HasFewReads js
 few_reads now most xs [] low all e = tt
 few_reads now most [] (j ∷ js) low all e = absurd cc
 few_reads now most (x ∷ xs) (j ∷ js) low all e =
     let one : j.reads.now ≡ (now x).reads = cc in
-    let rest : map (λ (k : Journal). k.reads.now) js ≡ map (λ y. (now y).reads) xs = cc in
+    let rest : map (λ (k : TracedJournal). k.reads.now) js ≡ map (λ y. (now y).reads) xs = cc in
     let counted : length j.reads.now ≤ most = subst (λ (ts : List ReadTrace). length ts ≤ most) (sym one) all.0 in
     (omega (arith, counted, low), few_reads now most xs js low all.1 rest)

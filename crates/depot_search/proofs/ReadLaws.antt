@@ -31,7 +31,7 @@ use Rattle.depot_search.proofs.Tables.{zip_map, zip_any, zip_all, table_of}
 use Rattle.depot_search.specs.Read.{is_answered, is_put_in_each, is_unput, key_row, observed_row, last_row, listed_row, is_alike, are_alike, is_exact_by}
 use Rattle.depot_search.specs.Rows.{either_of, both_of, without_of, is_met, reached_by}
 use Rattle.depot_search.specs.Writes.{is_accepted_in}
-use Rattle.depot_search.specs.declared.journal.Journal.{Journal}
+use Rattle.depot_search.specs.declared.journal.TracedJournal.{TracedJournal}
 use Rattle.depot_traces.specs.SeenTraces.{answered_of, sighting_of}
 use Rattle.depot_traces.specs.declared.trace.Answered.{Answered}
 use Rattle.depot_traces.specs.declared.trace.ReadTrace.{ReadTrace}
@@ -143,7 +143,7 @@ pub record IsReadOf (W : World) (c : Correct) (place : ℕ) (r : Read) (t : Read
   pub key : r.key ≡ t.key
   pub answer : map answered r.answer ≡ map answered_of t.answer
 
-module _ (W : World) (world : IsWorld W) (js : List Journal) (puts : (key : List ℕ) (s : Shown) → is_put_by_writer W key s ≡ is_put_in_each js key s.update s.seen) (c : Correct) (place : ℕ) (r : Read) (t : ReadTrace) (is : IsReadOf W c place r t) where
+module _ (W : World) (world : IsWorld W) (js : List TracedJournal) (puts : (key : List ℕ) (s : Shown) → is_put_by_writer W key s ≡ is_put_in_each js key s.update s.seen) (c : Correct) (place : ℕ) (r : Read) (t : ReadTrace) (is : IsReadOf W c place r t) where
   abbrev K : List Record
   K = take r.at c.journal
 

@@ -10,7 +10,7 @@ use Rattle.depot_model.specs.ReadTests.{is_put_of}
 use Rattle.depot_model.specs.Texts.{id_of_update}
 use Rattle.depot_search.specs.Rows.{either_of, both_of, without_of, is_met, reached_by}
 use Rattle.depot_search.specs.Writes.{is_accepted_in}
-use Rattle.depot_search.specs.declared.journal.Journal.{Journal}
+use Rattle.depot_search.specs.declared.journal.TracedJournal.{TracedJournal}
 use Rattle.depot_traces.specs.SeenTraces.{sighting_of}
 use Rattle.depot_traces.specs.declared.finding.Finding.{Finding}
 use Rattle.depot_traces.specs.declared.finding.Finding.TheVariants.{Wrong}
@@ -24,11 +24,11 @@ abbrev pub is_answered : List Answered → Update → Bool
 is_answered answer u = list_any (λ a. bytes_eq a.id (id_of_update u)) answer
 
 -- each journal of its writer puts the update as it is shown
-abbrev pub is_put_in_each : List Journal → List ℕ → Update → Sighting → Bool
+abbrev pub is_put_in_each : List TracedJournal → List ℕ → Update → Sighting → Bool
 is_put_in_each js key u seen = list_all (λ j. not (u.writer == j.node) || list_any (is_put_of key u seen) j.entries) js
 
 -- one of these answers is of the update, and its writer didn't put it as it is shown
-abbrev pub is_unput : List Journal → List ℕ → List Answered → Update → Bool
+abbrev pub is_unput : List TracedJournal → List ℕ → List Answered → Update → Bool
 is_unput js key answer u = list_any (λ a. bytes_eq a.id (id_of_update u) && not (is_put_in_each js key u (sighting_of a.shown))) answer
 
 -- ---- rows
@@ -64,16 +64,16 @@ are_alike a b = list_all (λ p. is_alike p.0 p.1) (zip a b)
 -- ---- reads
 
 -- A read that saw these records lists just the last of the writes that are observed before it, and each as its writer put it.
-unfoldable pub is_exact_by : List Journal → List Update → List (List Bool) → List Record → ReadTrace → Bool
+unfoldable pub is_exact_by : List TracedJournal → List Update → List (List Bool) → List Record → ReadTrace → Bool
 is_exact_by js us rows J r =
     are_alike (last_row rows (observed_row us rows r.key (held_row us J))) (listed_row us r.answer (held_row us J))
     && not (is_met (listed_row us r.answer (held_row us J)) (map (is_unput js r.key r.answer) us))
 
 -- the place of the first of these reads that isn't so; the first of them has this place
-abbrev pub first_inexact : List Journal → List Update → List (List Bool) → List Record → ℕ → List ReadTrace → Option ℕ
+abbrev pub first_inexact : List TracedJournal → List Update → List (List Bool) → List Record → ℕ → List ReadTrace → Option ℕ
 first_inexact js us rows J place [] = None
 first_inexact js us rows J place (r ∷ rs) = if is_exact_by js us rows (take r.length J) r then first_inexact js us rows J (place + 1) rs else Some place
 
 -- the same over the reads of these journals
-abbrev pub wrong_among : List Journal → List Update → List (List Bool) → List Journal → Option Finding
+abbrev pub wrong_among : List TracedJournal → List Update → List (List Bool) → List TracedJournal → Option Finding
 wrong_among js us rows ks = first (map (λ j. option_map (λ place. Wrong j.node place) (first_inexact js us rows j.entries 0 j.reads.now)) ks)

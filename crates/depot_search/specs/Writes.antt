@@ -6,7 +6,7 @@ use Rattle.depot_base.specs.declared.update.Update.{Update}
 use Rattle.depot_model.specs.Audit.{is_body_in}
 use Rattle.depot_model.specs.Journal.{accepted, accepted_by}
 use Rattle.depot_model.specs.Records.{IsRecord, text_of_record}
-use Rattle.depot_search.specs.declared.journal.Journal.{Journal}
+use Rattle.depot_search.specs.declared.journal.TracedJournal.{TracedJournal}
 
 -- a record has this text
 pub record IsRecordText (text : List ℕ) : Type 0 where
@@ -20,7 +20,7 @@ with_bodies known [] = known
 with_bodies known (u ∷ us) = with_bodies (if is_body_in u known then known else known ++ u ∷ []) us
 
 -- what the records of journals accept put behind others so
-abbrev pub with_journals : List Update → List Journal → List Update
+abbrev pub with_journals : List Update → List TracedJournal → List Update
 with_journals known [] = known
 with_journals known (j ∷ js) = with_journals (with_bodies known (accepted j.entries)) js
 

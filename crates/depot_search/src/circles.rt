@@ -5,12 +5,12 @@ ghost use Rattle.depot_search.specs.Rows.{first_own};
 ghost use Rattle.depot_search.specs.Search.{HasFewRecords, op_among, circle_among};
 
 use crate::accepted::Accepted;
-use crate::journal::{Journal, place_of};
-use crate::rows::{Row, has};
+use crate::journal::{TracedJournal, place_of};
+use crate::rows::{MemberRow, has};
 use depot_traces::{Finding, Op};
 
 /// The first place whose member is in its own row.
-fn first_own(table: &[Row]) -> Option<usize>
+fn first_own(table: &[MemberRow]) -> Option<usize>
     ensures { result ≡ first_own 0 (map (λ r. r.items) table.now) }
 {
     for (at, row) in table.iter().enumerate() {
@@ -22,7 +22,7 @@ fn first_own(table: &[Row]) -> Option<usize>
 }
 
 /// The first journal that has a write, and its record's place there.
-fn op_of(journals: &[Journal<'_>], write: &Accepted) -> Option<Op>
+fn op_of(journals: &[TracedJournal<'_>], write: &Accepted) -> Option<Op>
     requires { AllByRecursion HasFewRecords journals.now }
     ensures { result ≡ op_among journals.now write.now }
 {
@@ -38,7 +38,11 @@ fn op_of(journals: &[Journal<'_>], write: &Accepted) -> Option<Op>
 }
 
 /// The first write that is observed before itself, by the first journal that has it.
-pub fn circle(journals: &[Journal<'_>], writes: &[Accepted], table: &[Row]) -> Option<Finding>
+pub fn circle(
+    journals: &[TracedJournal<'_>],
+    writes: &[Accepted],
+    table: &[MemberRow],
+) -> Option<Finding>
     requires { AllByRecursion HasFewRecords journals.now }
     ensures { result ≡ circle_among journals.now writes.now (map (λ r. r.items) table.now) }
 {

@@ -19,9 +19,9 @@ use std::marker::Model;
 
 /// A record that has a text.
 #[derive(Debug, Drop)]
-pub struct Entry(Record);
+pub struct JournalEntry(Record);
 
-impl Model for Entry {
+impl Model for JournalEntry {
     ghost use Rattle.depot_base.specs.declared.record.Record.{Record};
     ghost use Rattle.depot_model.specs.Records.{IsRecord};
 
@@ -32,14 +32,14 @@ impl Model for Entry {
     ghost invariant = { λ e. IsRecord e.0 };
 }
 
-impl Entry {
+impl JournalEntry {
     /// The record of a text.
-    pub fn of_text(alloc: Global, text: &[u8]) -> Result<Entry, Memory>
+    pub fn of_text(alloc: Global, text: &[u8]) -> Result<JournalEntry, Memory>
         requires { IsRecordText text.now }
         ensures { IfOk result (λ e. IsRecord e × (text_of_record e ≡ text.now)) }
     {
         match decode_record(alloc, text) {
-            Ok(record) => Ok(Entry(record)),
+            Ok(record) => Ok(JournalEntry(record)),
             Err(DecodeError::Memory) => Err(Memory),
             Err(DecodeError::IllFormed(_)) => unreachable!(),
         }

@@ -8,9 +8,9 @@ ghost use Rattle.depot_traces.specs.SeenTraces.{sighting_of};
 ghost use Rattle.depot_search.specs.Read.{is_answered, is_put_in_each, is_unput, held_row, key_row, observed_row, last_row, listed_row, is_alike, are_alike, is_exact_by};
 
 use crate::accepted::Accepted;
-use crate::entry::Entry;
-use crate::journal::{Journal, is_accepted};
-use crate::rows::{Row, both, either, meets, reached, without};
+use crate::entry::JournalEntry;
+use crate::journal::{TracedJournal, is_accepted};
+use crate::rows::{MemberRow, both, either, meets, reached, without};
 use depot_base::{Hash32, Memory, Update, Write};
 use depot_traces::{Answered, ReadTrace, Shown};
 use std::alloc::{AllocError, Global};
@@ -30,7 +30,11 @@ fn writes_key(update: &Update, key: &[u8]) -> bool
 }
 
 /// The writes that records accepted.
-fn held(alloc: Global, writes: &[Accepted], entries: &[Entry]) -> Result<Row, AllocError>
+fn held(
+    alloc: Global,
+    writes: &[Accepted],
+    entries: &[JournalEntry],
+) -> Result<MemberRow, AllocError>
     ensures { IfOk result (λ row. row.items ≡ held_row writes.now entries.now) }
 {
     writes
@@ -40,7 +44,7 @@ fn held(alloc: Global, writes: &[Accepted], entries: &[Entry]) -> Result<Row, Al
 }
 
 /// The writes of a key.
-fn of_key(alloc: Global, writes: &[Accepted], key: &[u8]) -> Result<Row, AllocError>
+fn of_key(alloc: Global, writes: &[Accepted], key: &[u8]) -> Result<MemberRow, AllocError>
     ensures { IfOk result (λ row. row.items ≡ key_row writes.now key.now) }
 {
     writes
@@ -53,10 +57,10 @@ fn of_key(alloc: Global, writes: &[Accepted], key: &[u8]) -> Result<Row, AllocEr
 fn observed(
     alloc: Global,
     writes: &[Accepted],
-    table: &[Row],
+    table: &[MemberRow],
     key: &[u8],
     held: &[bool],
-) -> Result<Row, AllocError>
+) -> Result<MemberRow, AllocError>
     ensures { IfOk result (λ row. row.items ≡ observed_row writes.now (map (λ r. r.items) table.now) key.now held.now) }
 {
     let before = reached(alloc, table, held)?;
@@ -66,7 +70,7 @@ fn observed(
 }
 
 /// Of some writes those that are observed before none of them.
-fn last(alloc: Global, table: &[Row], among: &[bool]) -> Result<Row, AllocError>
+fn last(alloc: Global, table: &[MemberRow], among: &[bool]) -> Result<MemberRow, AllocError>
     ensures { IfOk result (λ row. row.items ≡ last_row (map (λ r. r.items) table.now) among.now) }
 {
     let before = reached(alloc, table, among)?;
@@ -86,7 +90,7 @@ fn listed(
     writes: &[Accepted],
     answer: &[Answered],
     held: &[bool],
-) -> Result<Row, Memory>
+) -> Result<MemberRow, Memory>
     ensures { IfOk result (λ row. row.items ≡ listed_row writes.now answer.now held.now) }
 {
     let answered = answered(alloc, writes, answer)?;
@@ -94,7 +98,7 @@ fn listed(
 }
 
 /// The writes that a read lists.
-fn answered(alloc: Global, writes: &[Accepted], answer: &[Answered]) -> Result<Row, Memory>
+fn answered(alloc: Global, writes: &[Accepted], answer: &[Answered]) -> Result<MemberRow, Memory>
     ensures { IfOk result (λ row. row.items ≡ map (is_answered answer.now) writes.now) }
 {
     let mut row = Vec::new(alloc);
@@ -106,14 +110,14 @@ fn answered(alloc: Global, writes: &[Accepted], answer: &[Answered]) -> Result<R
 }
 
 /// Whether one of these records puts a write as it is shown.
-fn has_put(entries: &[Entry], key: &[u8], write: &Accepted, shown: &Shown) -> bool
+fn has_put(entries: &[JournalEntry], key: &[u8], write: &Accepted, shown: &Shown) -> bool
     ensures { result ≡ list_any (is_put_of key.now write.now (sighting_of shown.now)) entries.now }
 {
     entries.iter().any(|entry| entry.puts(key, write, shown))
 }
 
 /// Whether a journal is of another node than the write's, or has it as it is shown.
-fn is_put_there(journal: &Journal<'_>, key: &[u8], write: &Accepted, shown: &Shown) -> bool
+fn is_put_there(journal: &TracedJournal<'_>, key: &[u8], write: &Accepted, shown: &Shown) -> bool
     ensures { result ≡ not (write.now.writer == journal.now.node) || list_any (is_put_of key.now write.now (sighting_of shown.now)) journal.now.entries }
 {
     if write.update().writer != journal.node {
@@ -123,7 +127,7 @@ fn is_put_there(journal: &Journal<'_>, key: &[u8], write: &Accepted, shown: &Sho
 }
 
 /// Whether each journal of its writer puts a write as it is shown.
-fn is_put(journals: &[Journal<'_>], key: &[u8], write: &Accepted, shown: &Shown) -> bool
+fn is_put(journals: &[TracedJournal<'_>], key: &[u8], write: &Accepted, shown: &Shown) -> bool
     ensures { result ≡ is_put_in_each journals.now key.now write.now (sighting_of shown.now) }
 {
     journals
@@ -133,7 +137,7 @@ fn is_put(journals: &[Journal<'_>], key: &[u8], write: &Accepted, shown: &Shown)
 
 /// Whether an answer is of a write of this id that its writer didn't put as it is shown.
 fn lacks_put(
-    journals: &[Journal<'_>],
+    journals: &[TracedJournal<'_>],
     key: &[u8],
     write: &Accepted,
     id: &Hash32,
@@ -147,11 +151,11 @@ fn lacks_put(
 /// The writes that a read lists and that their writers didn't put as they are shown.
 fn unput(
     alloc: Global,
-    journals: &[Journal<'_>],
+    journals: &[TracedJournal<'_>],
     writes: &[Accepted],
     key: &[u8],
     answer: &[Answered],
-) -> Result<Row, Memory>
+) -> Result<MemberRow, Memory>
     ensures { IfOk result (λ row. row.items ≡ map (is_unput journals.now key.now answer.now) writes.now) }
 {
     let mut row = Vec::new(alloc);
@@ -164,7 +168,7 @@ fn unput(
 
 /// Whether one of these answers is so.
 fn is_lacking(
-    journals: &[Journal<'_>],
+    journals: &[TracedJournal<'_>],
     key: &[u8],
     write: &Accepted,
     id: &Hash32,
@@ -195,10 +199,10 @@ fn are_alike(a: &[bool], b: &[bool]) -> bool
 #[tactic(auto, unfolding(crate::specs::Read::is_exact_by))]
 pub fn is_exact(
     alloc: Global,
-    journals: &[Journal<'_>],
+    journals: &[TracedJournal<'_>],
     writes: &[Accepted],
-    table: &[Row],
-    entries: &[Entry],
+    table: &[MemberRow],
+    entries: &[JournalEntry],
     read: &ReadTrace,
 ) -> Result<bool, Memory>
     ensures { IfOk result (λ told. told ≡ is_exact_by journals.now writes.now (map (λ r. r.items) table.now) entries.now read.now) }

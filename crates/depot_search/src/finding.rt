@@ -4,14 +4,15 @@ ghost use Rattle.std.specs.List.{AllByRecursion};
 ghost use Rattle.depot_model.specs.Audit.{circle, wrong};
 ghost use Rattle.depot_model.specs.Lists.{first};
 ghost use Rattle.depot_model.specs.World.{World};
-ghost use Rattle.depot_search.specs.Search.{IsWorldOf, HasFewRecords, HasFewReads, found_among};
+ghost use Rattle.depot_model.specs.Traces.{IsWorldOf};
+ghost use Rattle.depot_search.specs.Search.{HasFewRecords, HasFewReads, found_among};
 ghost use Rattle.depot_traces.specs.SeenTraces.{trace_of, finding_of};
 ghost use Rattle.depot_traces.specs.declared.trace.TheConstants.{MOST_READS};
 
 use crate::accepted::Accepted;
 use crate::circles::circle;
-use crate::journal::{Journal, journals_of};
-use crate::rows::Row;
+use crate::journal::{TracedJournal, journals_of};
+use crate::rows::MemberRow;
 use crate::table::{close, parent_table};
 use crate::writes::writes_of;
 use crate::wrong::wrong;
@@ -22,9 +23,9 @@ use std::alloc::Global;
 /// The first write that is observed before itself, else the first read that isn't exact, by a table of all writes.
 fn first_found(
     alloc: Global,
-    journals: &[Journal<'_>],
+    journals: &[TracedJournal<'_>],
     writes: &[Accepted],
-    table: &[Row],
+    table: &[MemberRow],
 ) -> Result<Option<Finding>, Memory>
     requires records { AllByRecursion HasFewRecords journals.now }
     requires reads { AllByRecursion HasFewReads journals.now }

@@ -6,17 +6,17 @@ ghost use Rattle.depot_model.specs.Records.{IsRecord, text_of_record};
 ghost use Rattle.depot_search.specs.Writes.{IsRecordText, is_accepted_in};
 
 use crate::accepted::Accepted;
-use crate::entry::Entry;
+use crate::entry::JournalEntry;
 use depot_base::{Bytes, Memory, NodeId, Sequence};
 use depot_traces::{ReadTrace, Trace};
 use std::alloc::Global;
 
 /// Records, in their order.
-pub type Entries = Sequence<Entry>;
+pub type Entries = Sequence<JournalEntry>;
 
 /// A node with its records and its reads.
 #[derive(Drop)]
-pub struct Journal<'a> {
+pub struct TracedJournal<'a> {
     /// The node.
     pub node: NodeId,
     /// Its records.
@@ -33,13 +33,16 @@ fn entries_of(alloc: Global, texts: &[Bytes]) -> Result<Entries, Memory>
 {
     let mut entries = Entries::new(alloc);
     for text in texts {
-        entries.push(Entry::of_text(alloc, text.as_slice())?)?;
+        entries.push(JournalEntry::of_text(alloc, text.as_slice())?)?;
     }
     Ok(entries)
 }
 
 /// The journals of traces, in their order.
-pub fn journals_of<'a>(alloc: Global, traces: &[&'a Trace]) -> Result<Vec<Journal<'a>>, Memory>
+pub fn journals_of<'a>(
+    alloc: Global,
+    traces: &[&'a Trace],
+) -> Result<Vec<TracedJournal<'a>>, Memory>
     requires { AllByRecursion (λ t. AllByRecursion IsRecordText t.now.texts) traces.now }
     ensures fit { IfOk result (λ made. AllByRecursion (λ j. AllByRecursion IsRecord j.entries) made.items) }
     ensures nodes { IfOk result (λ made. map (λ j. j.node) made.items ≡ map (λ t. t.now.node) traces.now) }
@@ -48,7 +51,7 @@ pub fn journals_of<'a>(alloc: Global, traces: &[&'a Trace]) -> Result<Vec<Journa
 {
     let mut journals = Vec::new(alloc);
     for trace in traces {
-        journals.push(Journal {
+        journals.push(TracedJournal {
             node: trace.node,
             entries: entries_of(alloc, trace.texts.as_slice())?,
             reads: trace.reads.as_slice(),
@@ -58,14 +61,14 @@ pub fn journals_of<'a>(alloc: Global, traces: &[&'a Trace]) -> Result<Vec<Journa
 }
 
 /// The first record that accepted an update with a write's body.
-pub fn place_of(entries: &[Entry], write: &Accepted) -> Option<usize>
+pub fn place_of(entries: &[JournalEntry], write: &Accepted) -> Option<usize>
     ensures { result ≡ place_in entries.now write.now }
 {
     entries.iter().position(|entry| entry.accepts(write))
 }
 
 /// Whether records accepted an update with a write's body.
-pub fn is_accepted(entries: &[Entry], write: &Accepted) -> bool
+pub fn is_accepted(entries: &[JournalEntry], write: &Accepted) -> bool
     ensures { result ≡ is_accepted_in entries.now write.now }
 {
     entries.iter().any(|entry| entry.accepts(write))
@@ -73,7 +76,7 @@ pub fn is_accepted(entries: &[Entry], write: &Accepted) -> bool
 
 /// The first records.
 #[tactic(auto, using(crate::proofs::Fronts::take_min))]
-pub fn front(entries: &[Entry], count: usize) -> &[Entry]
+pub fn front(entries: &[JournalEntry], count: usize) -> &[JournalEntry]
     ensures { result.now ≡ take count entries.now }
 {
     &entries[..count.min(entries.len())]

@@ -5,7 +5,7 @@ ghost use Rattle.depot_search.specs.Rows.{either_of, both_of, without_of, is_met
 use std::alloc::{AllocError, Global};
 
 /// Whether each member of a list, in their order, is in a set.
-pub type Row = Vec<bool>;
+pub type MemberRow = Vec<bool>;
 
 /// Whether one of two tests passes.
 pub fn or(a: bool, b: bool) -> bool
@@ -27,21 +27,21 @@ fn and_not(a: bool, b: bool) -> bool
 }
 
 /// What is in either set.
-pub fn either(alloc: Global, a: &[bool], b: &[bool]) -> Result<Row, AllocError>
+pub fn either(alloc: Global, a: &[bool], b: &[bool]) -> Result<MemberRow, AllocError>
     ensures { IfOk result (λ row. row.items ≡ either_of a.now b.now) }
 {
     a.iter().zip(b).map(|(x, y)| or(*x, *y)).collect(alloc)
 }
 
 /// What is in both.
-pub fn both(alloc: Global, a: &[bool], b: &[bool]) -> Result<Row, AllocError>
+pub fn both(alloc: Global, a: &[bool], b: &[bool]) -> Result<MemberRow, AllocError>
     ensures { IfOk result (λ row. row.items ≡ both_of a.now b.now) }
 {
     a.iter().zip(b).map(|(x, y)| and(*x, *y)).collect(alloc)
 }
 
 /// What is in the first alone.
-pub fn without(alloc: Global, a: &[bool], b: &[bool]) -> Result<Row, AllocError>
+pub fn without(alloc: Global, a: &[bool], b: &[bool]) -> Result<MemberRow, AllocError>
     ensures { IfOk result (λ row. row.items ≡ without_of a.now b.now) }
 {
     a.iter().zip(b).map(|(x, y)| and_not(*x, *y)).collect(alloc)
@@ -62,7 +62,7 @@ pub fn has(row: &[bool], at: usize) -> bool
 }
 
 /// The members whose rows have one in a set.
-pub fn reached(alloc: Global, table: &[Row], set: &[bool]) -> Result<Row, AllocError>
+pub fn reached(alloc: Global, table: &[MemberRow], set: &[bool]) -> Result<MemberRow, AllocError>
     ensures { IfOk result (λ row. row.items ≡ reached_by (map (λ r. r.items) table.now) set.now) }
 {
     let mut row = Vec::new(alloc);

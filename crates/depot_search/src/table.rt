@@ -8,7 +8,7 @@ ghost use Rattle.depot_model.specs.Order.{parents, prevs};
 ghost use Rattle.depot_search.specs.Rows.{over, over_all, over_each};
 
 use crate::accepted::Accepted;
-use crate::rows::{Row, either, has, or};
+use crate::rows::{MemberRow, either, has, or};
 use depot_base::{Dep, Hash32, Memory, Update};
 use std::alloc::{AllocError, Global};
 
@@ -39,7 +39,7 @@ fn names(update: &Update, id: &Hash32) -> bool
 }
 
 /// The writes that name an id as that of a parent.
-fn children(alloc: Global, id: &Hash32, writes: &[Accepted]) -> Result<Row, AllocError>
+fn children(alloc: Global, id: &Hash32, writes: &[Accepted]) -> Result<MemberRow, AllocError>
     ensures { IfOk result (λ row. row.items ≡ map (λ u. is_among id.now (parents u)) writes.now) }
 {
     writes
@@ -49,7 +49,7 @@ fn children(alloc: Global, id: &Hash32, writes: &[Accepted]) -> Result<Row, Allo
 }
 
 /// Of each write, the writes of which it is a parent.
-pub fn parent_table(alloc: Global, writes: &[Accepted]) -> Result<Vec<Row>, Memory>
+pub fn parent_table(alloc: Global, writes: &[Accepted]) -> Result<Vec<MemberRow>, Memory>
     ensures { IfOk result (λ table. map (λ r. r.items) table.items ≡ map (λ t. map (λ u. is_parent t u) writes.now) writes.now) }
 {
     let mut table = Vec::new(alloc);
@@ -61,7 +61,7 @@ pub fn parent_table(alloc: Global, writes: &[Accepted]) -> Result<Vec<Row>, Memo
 }
 
 /// A row, and where the write of this place is in it, what is in that write's row.
-fn over_one(alloc: Global, row: &[bool], by: &[bool], at: usize) -> Result<Row, AllocError>
+fn over_one(alloc: Global, row: &[bool], by: &[bool], at: usize) -> Result<MemberRow, AllocError>
     ensures { IfOk result (λ made. made.items ≡ over row.now by.now at) }
 {
     if has(row, at) {
@@ -72,7 +72,7 @@ fn over_one(alloc: Global, row: &[bool], by: &[bool], at: usize) -> Result<Row, 
 }
 
 /// Each row so, in a new table.
-fn over_write(alloc: Global, table: &[Row], at: usize) -> Result<Vec<Row>, Memory>
+fn over_write(alloc: Global, table: &[MemberRow], at: usize) -> Result<Vec<MemberRow>, Memory>
     requires { at < length table.now }
     ensures { IfOk result (λ made. map (λ r. r.items) made.items ≡ over_all (map (λ r. r.items) table.now) at) }
 {
@@ -85,7 +85,7 @@ fn over_write(alloc: Global, table: &[Row], at: usize) -> Result<Vec<Row>, Memor
 }
 
 /// Takes in one write after the other as a stop, from the last to the first.
-pub fn close(alloc: Global, mut table: Vec<Row>) -> Result<Vec<Row>, Memory>
+pub fn close(alloc: Global, mut table: Vec<MemberRow>) -> Result<Vec<MemberRow>, Memory>
     ensures { IfOk result (λ made. map (λ r. r.items) made.items ≡ over_each (map (λ r. r.items) table.items) (length table.items)) }
 {
     let mut at = table.len();

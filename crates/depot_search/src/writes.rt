@@ -6,8 +6,8 @@ ghost use Rattle.depot_model.specs.Texts.{IsUpdate};
 ghost use Rattle.depot_search.specs.Writes.{with_bodies, with_journals};
 
 use crate::accepted::{Accepted, is_one_body};
-use crate::entry::Entry;
-use crate::journal::Journal;
+use crate::entry::JournalEntry;
+use crate::journal::TracedJournal;
 use depot_base::{Memory, Update};
 use std::alloc::Global;
 
@@ -22,7 +22,7 @@ fn is_known(writes: &[Accepted], update: &Update) -> bool
 }
 
 /// Puts what a record accepted behind others, unless one of them has its body.
-fn put_accepted(writes: &mut Vec<Accepted>, entry: &Entry) -> Result<(), Memory>
+fn put_accepted(writes: &mut Vec<Accepted>, entry: &JournalEntry) -> Result<(), Memory>
     ensures { OnOk result (writes.new.items ≡ with_bodies writes.old.items (accepted_by entry.now)) }
 {
     let Some(update) = entry.accepted() else {
@@ -36,7 +36,7 @@ fn put_accepted(writes: &mut Vec<Accepted>, entry: &Entry) -> Result<(), Memory>
 }
 
 /// The same of records, one after the other.
-fn put_all(writes: &mut Vec<Accepted>, entries: &[Entry]) -> Result<(), Memory>
+fn put_all(writes: &mut Vec<Accepted>, entries: &[JournalEntry]) -> Result<(), Memory>
     ensures { OnOk result (writes.new.items ≡ with_bodies writes.old.items (accepted entries.now)) }
 {
     for entry in entries {
@@ -46,7 +46,7 @@ fn put_all(writes: &mut Vec<Accepted>, entries: &[Entry]) -> Result<(), Memory>
 }
 
 /// What the records of journals accepted, each body once, where it stands first.
-pub fn writes_of(alloc: Global, journals: &[Journal<'_>]) -> Result<Vec<Accepted>, Memory>
+pub fn writes_of(alloc: Global, journals: &[TracedJournal<'_>]) -> Result<Vec<Accepted>, Memory>
     ensures { IfOk result (λ made. made.items ≡ with_journals [] journals.now) }
 {
     let mut writes = Vec::new(alloc);

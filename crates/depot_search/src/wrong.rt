@@ -6,8 +6,8 @@ ghost use Rattle.depot_search.specs.Search.{HasFewReads};
 
 use crate::accepted::Accepted;
 use crate::exact::is_exact;
-use crate::journal::{Journal, front};
-use crate::rows::Row;
+use crate::journal::{TracedJournal, front};
+use crate::rows::MemberRow;
 use depot_base::Memory;
 use depot_traces::Finding;
 use std::alloc::Global;
@@ -15,10 +15,10 @@ use std::alloc::Global;
 /// The place of the first read of a journal that isn't exact.
 fn first_inexact(
     alloc: Global,
-    journals: &[Journal<'_>],
+    journals: &[TracedJournal<'_>],
     writes: &[Accepted],
-    table: &[Row],
-    journal: &Journal<'_>,
+    table: &[MemberRow],
+    journal: &TracedJournal<'_>,
 ) -> Result<Option<usize>, Memory>
     ensures found { IfOk result (λ found. found ≡ first_inexact journals.now writes.now (map (λ r. r.items) table.now) journal.now.entries 0 journal.now.reads.now) }
     ensures within { IfOk result (λ found. IfSome found (λ place. place < length journal.now.reads.now)) }
@@ -38,9 +38,9 @@ fn first_inexact(
 /// The first read that isn't exact, by node and place.
 pub fn wrong(
     alloc: Global,
-    journals: &[Journal<'_>],
+    journals: &[TracedJournal<'_>],
     writes: &[Accepted],
-    table: &[Row],
+    table: &[MemberRow],
 ) -> Result<Option<Finding>, Memory>
     requires { AllByRecursion HasFewReads journals.now }
     ensures { IfOk result (λ found. found ≡ wrong_among journals.now writes.now (map (λ r. r.items) table.now) journals.now) }

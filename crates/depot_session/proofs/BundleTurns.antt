@@ -11,7 +11,7 @@ use Rattle.depot_model.specs.Stops.{HasFront}
 use Rattle.depot_model.specs.World.{Correct}
 use Rattle.depot_model.specs.declared.node_state.NodeState.{Ghosts}
 use Rattle.depot_model.specs.Replicas.{journal_of}
-use Rattle.depot_gossip.specs.Bundling.{Bundles, finds_disk, journaled_for}
+use Rattle.depot_gossip.specs.Bundling.{Bundles, journaled_for}
 use Rattle.depot_gossip.specs.declared.bundle_error.BundleError.{BundleError}
 use Rattle.depot_gossip.specs.declared.bundle_error.BundleError.TheVariants as error
 use Rattle.depot_gossip.specs.declared.bundle_stream.Bundled.{Bundled}
@@ -20,8 +20,8 @@ use Rattle.depot_script.specs.declared.command.Command.TheVariants as command
 use Rattle.depot_world.specs.Effects.{bundle_by, bundle_with}
 use Rattle.depot_world.specs.ScheduleStops.{Effect}
 use Rattle.depot_node_lines.specs.Printing.{SettlesBundle, lines_of_effect}
-use Rattle.depot_session.specs.declared.ending.Ending.{Ending}
-use Rattle.depot_session.specs.declared.ending.Ending.TheVariants as ending
+use Rattle.depot_session.specs.declared.ending.ScriptEnding.{ScriptEnding}
+use Rattle.depot_session.specs.declared.ending.ScriptEnding.TheVariants as ending
 use Rattle.depot_session.specs.SessionRuns.{disk_line}
 use Rattle.depot_session.specs.Sessions.{Session, Step, absent, bundle_step, bundle_to, command_text, ending_of_bundle, lines_of_command, step_of, stored}
 use Rattle.depot_session.specs.ScriptTelling.{IsFaultTold, IsUnchanged, Stores, Tells}
@@ -52,11 +52,6 @@ bundle_ends_calmly other = tt
 pub isnt_nothing : {X : Type 0} (o : Option X) → is_some o ≡ true → o ≡ None → ⊥
 isnt_nothing None some none = cc
 isnt_nothing (Some x) some none = cc
-
--- it is an answer for which the disk didn't fail
-pub finds_none : (made : Result Bundled BundleError) → (IsErrOf made error.Disk → ⊥) → finds_disk made ≡ false
-finds_none (Err error.Disk) not = absurd (not refl)
-finds_none other not = refl
 
 -- ---- the step
 
@@ -138,15 +133,15 @@ module _ {N : Type 0} (g : Ghosts N) (counts_now : (v : N) (t : ℕ) (image : Li
   leaves = leaves_front g counts_now old new (journaled_for answer) runs lasts
 
   -- no memory was found behind the call
-  pub made_without_memory : (sink : Sinks) → IsUnchanged shelf → (r : Result (Unit {0}) Ending) → IsErrAnd r (λ e. e ≡ ending.Memory) → sink.after ≡ sink.before → Turns g old new (command.Bundle hello file) made_step shelf sink r
+  pub made_without_memory : (sink : Sinks) → IsUnchanged shelf → (r : Result (Unit {0}) ScriptEnding) → IsErrAnd r (λ e. e ≡ ending.Memory) → sink.after ≡ sink.before → Turns g old new (command.Bundle hello file) made_step shelf sink r
   made_without_memory sink unchanged r none same = without_memory g old new (command.Bundle hello file) made_step shelf sink (journaled_for answer) journal leaves (λ name. inl (unchanged name)) r none (nothing_written sink same)
 
   -- the disk failed in the call
-  pub made_to_disk : (sink : Sinks) (e : Ending) → IsUnchanged shelf → g.faults old < g.faults new → IsFaultTold sink disk_line ending.Disk e → Turns g old new (command.Bundle hello file) made_step shelf sink (Err e)
+  pub made_to_disk : (sink : Sinks) (e : ScriptEnding) → IsUnchanged shelf → g.faults old < g.faults new → IsFaultTold sink disk_line ending.Disk e → Turns g old new (command.Bundle hello file) made_step shelf sink (Err e)
   made_to_disk sink e unchanged = disk_told g old new (command.Bundle hello file) made_step shelf sink (journaled_for answer) journal leaves (λ name. inl (unchanged name)) e
 
   -- no bundle was made, and it was told or not
-  pub refused_told : (sink : Sinks) (ends : Option Ending) (lines : List ℕ) (r : Result (Unit {0}) Ending) → IsUnchanged shelf → g.stopped new ≡ false → g.records new ≡ g.records old ++ journaled_for answer → ends ≡ ending_of_bundle answer → (ends ≡ None → ⊥) → lines ≡ lines_of_effect effect
+  pub refused_told : (sink : Sinks) (ends : Option ScriptEnding) (lines : List ℕ) (r : Result (Unit {0}) ScriptEnding) → IsUnchanged shelf → g.stopped new ≡ false → g.records new ≡ g.records old ++ journaled_for answer → ends ≡ ending_of_bundle answer → (ends ≡ None → ⊥) → lines ≡ lines_of_effect effect
       → Tells sink (command_text (command.Bundle hello file) lines) ends r → Turns g old new (command.Bundle hello file) made_step shelf sink r
   refused_told sink ends lines r unchanged goes grown ends_is not lines_is t =
       told g old new (command.Bundle hello file) made_step shelf sink (journaled_for answer) journal leaves (λ name. inl (unchanged name)) goes (grown ∙ sym journal)
@@ -155,7 +150,7 @@ module _ {N : Type 0} (g : Ghosts N) (counts_now : (v : N) (t : ℕ) (image : Li
       (subst (λ (x : List ℕ). Tells sink x ends r) (ap (command_text (command.Bundle hello file)) lines_is ∙ sym text_is) t)
 
   -- a bundle was made and stored, and it was told or not
-  pub bundle_told : (sink : Sinks) (lines bytes : List ℕ) (r : Result (Unit {0}) Ending) → g.stopped new ≡ false → g.records new ≡ g.records old ++ journaled_for answer → ending_of_bundle answer ≡ None → lines ≡ lines_of_effect effect → bytes ≡ effect.bytes → IsTrue shelf.tells
+  pub bundle_told : (sink : Sinks) (lines bytes : List ℕ) (r : Result (Unit {0}) ScriptEnding) → g.stopped new ≡ false → g.records new ≡ g.records old ++ journaled_for answer → ending_of_bundle answer ≡ None → lines ≡ lines_of_effect effect → bytes ≡ effect.bytes → IsTrue shelf.tells
       → Stores shelf sink (command_text (command.Bundle hello file) lines) file bytes r → Turns g old new (command.Bundle hello file) made_step shelf sink r
   bundle_told sink lines bytes r goes grown goes_on lines_is bytes_is tells st =
       stored_told g old new (command.Bundle hello file) made_step shelf sink (journaled_for answer) journal leaves file bytes (λ other same. same)

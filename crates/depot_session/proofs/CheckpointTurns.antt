@@ -26,8 +26,8 @@ use Rattle.depot_model.specs.declared.node_state.NodeState.{Ghosts}
 use Rattle.depot_outside.specs.Told.{Shelves, Sinks}
 use Rattle.depot_script.specs.declared.command.Command.{Command}
 use Rattle.depot_script.specs.declared.command.Command.TheVariants as command
-use Rattle.depot_session.specs.declared.ending.Ending.{Ending}
-use Rattle.depot_session.specs.declared.ending.Ending.TheVariants as ending
+use Rattle.depot_session.specs.declared.ending.ScriptEnding.{ScriptEnding}
+use Rattle.depot_session.specs.declared.ending.ScriptEnding.TheVariants as ending
 use Rattle.depot_session.specs.SessionRuns.{disk_line}
 use Rattle.depot_session.specs.Sessions.{Session, Step, carried_out, checkpoint_put, checkpoint_step, command_text, ending_of_put, lines_of_command, step_of, stored}
 use Rattle.depot_session.specs.ScriptTelling.{IsFaultTold, IsUnchanged, Stores, Tells}
@@ -70,7 +70,7 @@ pub unmade_stores : (here : Setting) (sign : Signs) (s : Session) (file : List �
 unmade_stores here sign s file J e same settled is = ap (λ (x : Step). x.stores) (unmade_step here sign s file J e same settled is)
 
 -- its line was told, or not
-pub unmade_told : {N : Type 0} (g : Ghosts N) (v : N) (s : Session) (file : List ℕ) (e : MakeError) (p : Printed) (shelf : Shelves) (sink : Sinks) (r : Result (Unit {0}) Ending) → IsRunning g v → IsAt (g.stands v) (g.records v) shelf.file s → IsUnchanged shelf → SettlesMake e
+pub unmade_told : {N : Type 0} (g : Ghosts N) (v : N) (s : Session) (file : List ℕ) (e : MakeError) (p : Printed) (shelf : Shelves) (sink : Sinks) (r : Result (Unit {0}) ScriptEnding) → IsRunning g v → IsAt (g.stands v) (g.records v) shelf.file s → IsUnchanged shelf → SettlesMake e
     → Makes (g.stands v) (g.records v) (Err e) → ((here : Setting) (c : Correct) → Makes here c.journal (Err e) → IsPrintOf (Some p) (checkpoint_by here c)) → Tells sink (command_text (command.Checkpoint file) p.lines) None r
     → Turns g v v (command.Checkpoint file) (step_of (g.stands v) (g.signature_of v) s (command.Checkpoint file)) shelf sink r
 unmade_told g v s file e p shelf sink r running at unchanged settled makes prints tells =
@@ -158,7 +158,7 @@ module _ {N : Type 0} (g : Ghosts N) (old new : N) (file text : List ℕ) (asked
 
   -- ---- the node, whatever came of it
 
-  pub checkpoint_keeps : IsLawful here J → is_empty J ≡ false → (sink : Sinks) (r : Result (Unit {0}) Ending)
+  pub checkpoint_keeps : IsLawful here J → is_empty J ≡ false → (sink : Sinks) (r : Result (Unit {0}) ScriptEnding)
       → (HasNoFault r → IsErrOf done refused.Disk → ⊥) → NamesFaults (g.faults old < g.faults new) sink r → Keeps g old new sink r
   checkpoint_keeps lawful some =
       put_keeps g old new changes done running puts call lawful some (checkpoint_is_change text (made_is_good here J text made).short) (put_stays_true here.me J changes (checkpoint_gives_none text))
@@ -209,16 +209,16 @@ module _ {N : Type 0} (g : Ghosts N) (old new : N) (file text : List ℕ) (asked
     leaves = leaves_front g counts_now old new more running.runs (lasts_more g old new changes done running puts call)
 
     -- no memory was found behind the put
-    pub checkpoint_without_memory : IsUnchanged shelf → (r : Result (Unit {0}) Ending) → IsErrAnd r (λ e. e ≡ ending.Memory) → sink.after ≡ sink.before → Turns g old new c step shelf sink r
+    pub checkpoint_without_memory : IsUnchanged shelf → (r : Result (Unit {0}) ScriptEnding) → IsErrAnd r (λ e. e ≡ ending.Memory) → sink.after ≡ sink.before → Turns g old new c step shelf sink r
     checkpoint_without_memory unchanged r none same = without_memory g old new c step shelf sink more brings leaves (λ name. inl (unchanged name)) r none (nothing_written sink same)
 
     -- the disk failed, and it was told, or not
-    pub checkpoint_to_disk : IsUnchanged shelf → (e : Ending) → g.faults old < g.faults new → IsFaultTold sink disk_line ending.Disk e → Turns g old new c step shelf sink (Err e)
+    pub checkpoint_to_disk : IsUnchanged shelf → (e : ScriptEnding) → g.faults old < g.faults new → IsFaultTold sink disk_line ending.Disk e → Turns g old new c step shelf sink (Err e)
     checkpoint_to_disk unchanged e = disk_told g old new c step shelf sink more brings leaves (λ name. inl (unchanged name)) e
 
     module _ (o : Option Printed) (p : Printed) (some : o ≡ Some p) (stopped : (o ≡ None) ↔ IsErrOf done refused.Disk) (settled : SettlesPut done)
         (prints : (there : Setting) (k : Correct) (then : List Record) → there.me ≡ k.node → make_of there k.journal ≡ made_text text → Puts there k.journal changes done then → IsPrintOf o (checkpoint_by there k))
-        (ends : Option Ending) (ends_so : ends ≡ ends_of_put done) where
+        (ends : Option ScriptEnding) (ends_so : ends ≡ ends_of_put done) where
       -- the disk didn't fail
       well : IsErrOf done refused.Disk → ⊥
       well = not_where_some o p (IsErrOf done refused.Disk) some stopped.1
@@ -245,14 +245,14 @@ module _ {N : Type 0} (g : Ghosts N) (old new : N) (file text : List ℕ) (asked
       same_journal = grown_by g old new changes done running puts call settled well ∙ sym brings
 
       -- the put met a limit, and it was told, or not
-      pub limit_told : IsUnchanged shelf → (ends ≡ None → ⊥) → (r : Result (Unit {0}) Ending) → Tells sink (command_text c p.lines) ends r → Turns g old new c step shelf sink r
+      pub limit_told : IsUnchanged shelf → (ends ≡ None → ⊥) → (r : Result (Unit {0}) ScriptEnding) → Tells sink (command_text c p.lines) ends r → Turns g old new c step shelf sink r
       limit_told unchanged not r t =
           told g old new c step shelf sink more brings leaves (λ name. inl (unchanged name)) goes same_journal
           (λ other. unchanged other ∙ at.same_files other ∙ sym (ap (λ (x : Step). x.session.files other) is ∙ put_step_no_files s file effect limit other (λ none. not (sym ends_alike ∙ none)))) (leaves_after g old new _ call.journal.lasts) ends r same_ending
           (subst (λ (x : List ℕ). Tells sink x ends r) same_text t)
 
       -- the text was stored, and it was told, or not
-      pub checkpoint_stored : ends ≡ None → IsTrue shelf.tells → (r : Result (Unit {0}) Ending) → Stores shelf sink (command_text c p.lines) file p.bytes r → Turns g old new c step shelf sink r
+      pub checkpoint_stored : ends ≡ None → IsTrue shelf.tells → (r : Result (Unit {0}) ScriptEnding) → Stores shelf sink (command_text c p.lines) file p.bytes r → Turns g old new c step shelf sink r
       checkpoint_stored none tells r st =
           stored_told g old new c step shelf sink more brings leaves file p.bytes (λ other same. same) (same_ending ∙ none) goes same_journal (leaves_after g old new _ call.journal.lasts) r
           (λ other. ap (λ (x : Step). x.session.files other) is ∙ put_step_files s file effect limit other (ends_alike ∙ none) ∙ stored_alike s.files shelf.file file effect.bytes p.bytes (λ name. sym (at.same_files name)) (sym printed.1) other) tells

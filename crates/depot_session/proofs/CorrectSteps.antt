@@ -19,7 +19,7 @@ use Rattle.depot_model.proofs.Members.{in_pushed}
 use Rattle.depot_answers.specs.AnswerTexts.{text_of_limit, text_of_put}
 use Rattle.depot_script.specs.declared.command.Command.{Command}
 use Rattle.depot_script.specs.declared.command.Command.TheVariants as command
-use Rattle.depot_world.specs.Effects.{idle, grown, put_by, read_of, get_by, receipt_with, receipt_by, settled_by, hello_by, bundle_with, bundle_by, checkpoint_by, give_by}
+use Rattle.depot_world.specs.Effects.{idle, grown, put_by, read_at_end, get_by, receipt_with, receipt_by, settled_by, hello_by, bundle_with, bundle_by, checkpoint_by, give_by}
 use Rattle.depot_world.specs.ScheduleStops.{Effect}
 use Rattle.depot_world.proofs.GoodEffects.{read_is, never_falls}
 use Rattle.depot_world.proofs.GoodNodes.{begun_grows, read_grows}
@@ -85,16 +85,16 @@ more_is_correct here c d is same at grown reads lawful = record {
 }
 
 -- a node that has read a key
-read_is_correct : (here : Setting) (c : Correct) (key : List ℕ) → IsCorrect (world_at here) c → IsCorrect (world_at here) (record { node = c.node; journal = c.journal; reads = c.reads ++ read_of c.journal key ∷ [] })
+read_is_correct : (here : Setting) (c : Correct) (key : List ℕ) → IsCorrect (world_at here) c → IsCorrect (world_at here) (record { node = c.node; journal = c.journal; reads = c.reads ++ read_at_end c.journal key ∷ [] })
 read_is_correct here c key is = record {
   member = is.member;
   lawful = is.lawful;
   begun = is.begun;
-  reads = λ r on. elim (in_pushed r c.reads (read_of c.journal key) on) [
+  reads = λ r on. elim (in_pushed r c.reads (read_at_end c.journal key) on) [
     | inl old ↦ is.reads r old
     | inr now ↦ subst (λ (x : Read). IsRead c.journal x) now (read_is (record { verifies = here.verifies; me = c.node; listed = here.listed }) c.journal key is.lawful is.begun)
   ];
-  in_order = never_falls c.reads (read_of c.journal key) is.in_order (λ s on. (is.reads s on).within);
+  in_order = never_falls c.reads (read_at_end c.journal key) is.in_order (λ s on. (is.reads s on).within);
 }
 
 -- ---- a step

@@ -15,7 +15,7 @@ use Rattle.depot_traces.specs.ToldTraces.{file_of_trace}
 use Rattle.depot_traces.specs.declared.trace.ReadTrace.{ReadTrace}
 use Rattle.depot_world.specs.Audits.{traced_read}
 use Rattle.depot_world.specs.Transcript.{ended}
-use Rattle.depot_session.specs.declared.ending.Ending.{Ending}
+use Rattle.depot_session.specs.declared.ending.ScriptEnding.{ScriptEnding}
 use Rattle.depot_session.specs.Sessions.{Session, command_text, export_by, reads_of_run, step_of, stored, trace_of_run}
 use Rattle.depot_session.specs.ScriptTelling.{Stores}
 use Rattle.depot_session.specs.Turns.{IsAt, IsRunning, Turns}
@@ -56,7 +56,7 @@ unfolding step_of export_by
 export_stays here sign s file = refl
 
 -- the trace was stored and its line told, or not
-pub export_turns : {N : Type 0} (g : Ghosts N) (v : N) (s : Session) (reads : List ReadTrace) (file text line : List ℕ) (shelf : Shelves) (sink : Sinks) (r : Result (Unit {0}) Ending) → IsRunning g v → IsAt (g.stands v) (g.records v) shelf.file s
+pub export_turns : {N : Type 0} (g : Ghosts N) (v : N) (s : Session) (reads : List ReadTrace) (file text line : List ℕ) (shelf : Shelves) (sink : Sinks) (r : Result (Unit {0}) ScriptEnding) → IsRunning g v → IsAt (g.stands v) (g.records v) shelf.file s
     → map read_of reads ≡ map traced_read (reads_of_run s) → text ≡ file_of_trace (trace_at (g.stands v).me (g.records v) reads) → line ≡ ended (spaced (text_of_traced (length (g.records v)) (length reads))) → IsTrue shelf.tells
     → Stores shelf sink (command_text (command.Export file) line) file text r → Turns g v v (command.Export file) (step_of (g.stands v) (g.signature_of v) s (command.Export file)) shelf sink r
 export_turns g v s reads file text line shelf sink r running at are text_is line_is tells stores =

@@ -8,7 +8,7 @@ use Rattle.depot_model.specs.Checks.{Setting}
 use Rattle.depot_model.specs.declared.node_state.NodeState.{Ghosts}
 use Rattle.depot_outside.specs.Told.{Shelves, Sinks}
 use Rattle.depot_script.specs.declared.command.Command.TheVariants as command
-use Rattle.depot_session.specs.declared.ending.Ending.{Ending}
+use Rattle.depot_session.specs.declared.ending.ScriptEnding.{ScriptEnding}
 use Rattle.depot_session.specs.Sessions.{Session, command_text, step_of}
 use Rattle.depot_session.specs.ScriptTelling.{IsUnchanged, Tells}
 use Rattle.depot_session.specs.Turns.{IsAt, IsRunning, Turns}
@@ -39,7 +39,7 @@ unfolding step_of
 get_files here sign s key name = refl
 
 -- its line was told, or not
-pub get_turns : {N : Type 0} (g : Ghosts N) (v : N) (s : Session) (key line : List ℕ) (shelf : Shelves) (sink : Sinks) (r : Result (Unit {0}) Ending) → IsRunning g v → IsAt (g.stands v) (g.records v) shelf.file s → IsUnchanged shelf
+pub get_turns : {N : Type 0} (g : Ghosts N) (v : N) (s : Session) (key line : List ℕ) (shelf : Shelves) (sink : Sinks) (r : Result (Unit {0}) ScriptEnding) → IsRunning g v → IsAt (g.stands v) (g.records v) shelf.file s → IsUnchanged shelf
     → line ≡ ended (shown_text (shown_of (g.records v) key)) → Tells sink (command_text (command.Get key) line) None r → Turns g v v (command.Get key) (step_of (g.stands v) (g.signature_of v) s (command.Get key)) shelf sink r
 get_turns g v s key line shelf sink r running at unchanged line_is tells =
     let here = g.stands v in

@@ -11,7 +11,7 @@ use Rattle.depot_outside.specs.Told.{Shelves, Sinks}
 use Rattle.depot_script.specs.declared.command.Command.TheVariants as command
 use Rattle.depot_world.specs.Effects.{hello_by}
 use Rattle.depot_world.specs.Transcript.{ended}
-use Rattle.depot_session.specs.declared.ending.Ending.{Ending}
+use Rattle.depot_session.specs.declared.ending.ScriptEnding.{ScriptEnding}
 use Rattle.depot_session.specs.Sessions.{Session, command_text, step_of, stored}
 use Rattle.depot_session.specs.ScriptTelling.{Stores}
 use Rattle.depot_session.specs.Turns.{IsAt, IsRunning, Turns}
@@ -41,7 +41,7 @@ unfolding step_of hello_by
 hello_stays here sign s file = refl
 
 -- the hello was stored and its line told, or not
-pub hello_turns : {N : Type 0} (g : Ghosts N) (v : N) (s : Session) (file text line : List ℕ) (shelf : Shelves) (sink : Sinks) (r : Result (Unit {0}) Ending) → IsRunning g v → IsAt (g.stands v) (g.records v) shelf.file s
+pub hello_turns : {N : Type 0} (g : Ghosts N) (v : N) (s : Session) (file text line : List ℕ) (shelf : Shelves) (sink : Sinks) (r : Result (Unit {0}) ScriptEnding) → IsRunning g v → IsAt (g.stands v) (g.records v) shelf.file s
     → text ≡ text_of_hello (hello_of (g.stands v) (g.records v)) → line ≡ ended (spaced (text_of_named (hello_of (g.stands v) (g.records v)))) → IsTrue shelf.tells → Stores shelf sink (command_text (command.Hello file) line) file text r
     → Turns g v v (command.Hello file) (step_of (g.stands v) (g.signature_of v) s (command.Hello file)) shelf sink r
 hello_turns g v s file text line shelf sink r running at text_is line_is tells stores =

@@ -16,7 +16,7 @@ use Rattle.depot_traces.specs.SeenTraces as seen
 use Rattle.depot_traces.specs.TraceTexts.{read_text}
 use Rattle.depot_traces.specs.declared.trace.ReadTrace.{ReadTrace}
 use Rattle.depot_world.specs.Audits.{traced_read}
-use Rattle.depot_world.specs.Effects.{get_by, read_of}
+use Rattle.depot_world.specs.Effects.{get_by, read_at_end}
 use Rattle.depot_session.specs.KeptReads.{AreOfRun, FitWithin, IsOneMore, KeepsReads, is_export}
 use Rattle.depot_session.specs.Sessions.{Session, answers_of, reads_of_run, step_of}
 use Rattle.depot_session.proofs.CorrectSteps.{IsNoGet, step_reads}
@@ -61,14 +61,14 @@ pub keeps_unread : (here : Setting) (sign : Signs) (J : List Record) (reads : Op
 keeps_unread here sign J reads c d is other = subst (λ (x : Command). KeepsReads here sign J x reads reads) (sym is) (keeps_same here sign J d reads other)
 
 -- one more stands behind those of the run
-more_of_run : (s : Session) (J : List Record) (key : List ℕ) (rs : List ReadTrace) (r : ReadTrace) (all : List Read) → all ≡ s.correct.reads ++ read_of s.correct.journal key ∷ [] → s.correct.journal ≡ J → seen.read_of r ≡ traced_read (read_of J key) → AreOfRun s (Some rs)
+more_of_run : (s : Session) (J : List Record) (key : List ℕ) (rs : List ReadTrace) (r : ReadTrace) (all : List Read) → all ≡ s.correct.reads ++ read_at_end s.correct.journal key ∷ [] → s.correct.journal ≡ J → seen.read_of r ≡ traced_read (read_at_end J key) → AreOfRun s (Some rs)
     → (s.earlier ≤ length all) × (map seen.read_of (rs ++ r ∷ []) ≡ map traced_read (drop s.earlier all))
 more_of_run s J key rs r all all_is at is are =
-    let one : Read = read_of s.correct.journal key in
+    let one : Read = read_at_end s.correct.journal key in
     let long = ap length all_is ∙ length-append s.correct.reads (one ∷ []) in
     let behind : drop s.earlier all ≡ drop s.earlier s.correct.reads ++ one ∷ [] = ap (drop s.earlier) all_is ∙ drop-append-le s.earlier s.correct.reads (one ∷ []) are.0 in (
       omega (arith, are.0, long),
-      map-append seen.read_of rs (r ∷ []) ∙ (λ i. are.1 i ++ (is ∙ ap (λ (K : List Record). traced_read (read_of K key)) (sym at)) i ∷ [])
+      map-append seen.read_of rs (r ∷ []) ∙ (λ i. are.1 i ++ (is ∙ ap (λ (K : List Record). traced_read (read_at_end K key)) (sym at)) i ∷ [])
           ∙ sym (ap (map traced_read) behind ∙ map-append traced_read (drop s.earlier s.correct.reads) (one ∷ [])),
     )
 
@@ -83,7 +83,7 @@ keeps_more here sign J key None new more = record {
 keeps_more here sign J key (Some rs) new (r, (new_is, (fits, is))) = record {
   kept = ap is_some new_is;
   fit = λ n fit. subst (FitWithin (n + 1)) (sym new_is) (all_push read_text.fits rs r fit.0 fits, omega (arith, fit.1, length-append rs (r ∷ [])));
-  of_run = λ s at are. subst (AreOfRun (step_of here sign s (command.Get key)).session) (sym new_is) (more_of_run s J key rs r (s.correct.reads ++ read_of s.correct.journal key ∷ []) refl at is are);
+  of_run = λ s at are. subst (AreOfRun (step_of here sign s (command.Get key)).session) (sym new_is) (more_of_run s J key rs r (s.correct.reads ++ read_at_end s.correct.journal key ∷ []) refl at is are);
 }
 
 -- whatever a command answers

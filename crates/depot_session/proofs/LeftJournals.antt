@@ -8,7 +8,6 @@ use Rattle.depot_model.specs.JournalCalls.{Lasts}
 use Rattle.depot_model.specs.Replicas.{journal_of}
 use Rattle.depot_model.specs.Stops.{HasAll, HasFront, HasRecords, LeavesAll}
 use Rattle.depot_model.specs.declared.node_state.NodeState.{Ghosts}
-use Rattle.depot_feeds.specs.Lasting.{LastsIn}
 
 -- all records of a node that runs
 pub all_there : (J : List Record) (file : List ℕ) → HasAll J false file → HasRecords J file
@@ -28,7 +27,3 @@ leaves_front g counts_now old new appends runs lasts t file left =
 -- it leaves all its records
 pub leaves_after : {N : Type 0} (g : Ghosts N) (old new : N) (appends : List Record) → Lasts (journal_of g) old new appends → IsTrue (g.tells old) → LeavesAll (g.records new) (g.stopped new) (g.may_leave new)
 leaves_after g old new appends lasts t = lasts.stable (subst (λ (b : Bool). IsTrue b) (sym lasts.told) t)
-
--- what a call was to append it was to append, where more failed than the call
-pub lasts_so : {N : Type 0} (g : Ghosts N) (was failed : Bool) (old new : N) → (failed ≡ false → was ≡ false) → LastsIn g was old new → LastsIn g failed old new
-lasts_so g was failed old new so l = record { appends = l.appends; is = record { lawful = l.is.lawful; receipts = l.is.receipts; count = l.is.count; front = l.is.front; all = λ well. l.is.all (so well) }; lasts = l.lasts }

@@ -1,11 +1,11 @@
 -- A script that is played, command by command.
-use Rattle.std.proofs.Common.{◌≡◌, ◌≤◌, ◌<◌, ◌⊎◌, ℕ, suc, ◌+◌, Bool, false, IsTrue, List, [], ◌∷◌, ◌++◌, append_assoc, length, get_or, take, drop, is_some, take-append-drop, drop-cons, Some, None, Result, Ok, Err, refl, sym, ap, subst, ◌∙◌, arith, inl, inr}
+use Rattle.std.proofs.Common.{◌≡◌, ◌≤◌, ◌<◌, ◌⊎◌, ℕ, suc, ◌+◌, Bool, IsTrue, List, [], ◌∷◌, ◌++◌, append_assoc, length, get_or, take, drop, is_some, take-append-drop, drop-cons, Some, None, Result, Ok, Err, refl, sym, ap, subst, ◌∙◌, arith, inl, inr}
 use Rattle.std.proofs.Math.Nat.{eq-or-lt_of_le}
-use Rattle.std.specs.Prelude.{IfSome, is_err}
+use Rattle.std.specs.Prelude.{IfSome, IsErr}
 use Rattle.std.proofs.lemmas.List.{append-nil, take_all}
 use Rattle.depot_base.specs.declared.record.Record.{Record}
 use Rattle.depot_feeds.specs.Lasting.{LastsIn}
-use Rattle.depot_feeds.proofs.LastingStreams.{joined_in, nothing_in}
+use Rattle.depot_feeds.proofs.LastingStreams.{joined_in, lasts_so, nothing_in}
 use Rattle.depot_model.proofs.StopLaws.{front_longer}
 use Rattle.depot_model.specs.Bundle.{Signs}
 use Rattle.depot_model.specs.Checks.{Setting}
@@ -18,12 +18,12 @@ use Rattle.depot_outside.specs.Told.{Shelves, Sinks, Wrote, shelves, sinks}
 use Rattle.depot_outside.specs.declared.shelf.Shelf as shelf_of
 use Rattle.depot_outside.specs.declared.sink.Sink as sink_of
 use Rattle.depot_script.specs.declared.command.Command.{Command}
-use Rattle.depot_session.specs.declared.ending.Ending.{Ending}
-use Rattle.depot_session.specs.declared.ending.Ending.TheVariants as ending
+use Rattle.depot_session.specs.declared.ending.ScriptEnding.{ScriptEnding}
+use Rattle.depot_session.specs.declared.ending.ScriptEnding.TheVariants as ending
 use Rattle.depot_session.specs.Sessions.{Answers, Session, answers_of, loads_of, loads_through, step_of, stores_through}
 use Rattle.depot_session.specs.SessionRuns.{AsksShort, FailsFor, IsCutBy, IsLast, IsToBeWritten, Pending, first_of, pending_for, world_at}
 use Rattle.depot_session.specs.ScriptTelling.{Asked, StoresUnder, TellsShelf, asked}
-use Rattle.depot_session.specs.Turns.{IsAt, IsBroken, IsPlayed, IsPlayedInPart, IsRunning, Keeps, LeftBy, Plays, Steps, Turns}
+use Rattle.depot_session.specs.Turns.{IsAt, IsBroken, IsScriptPlayed, IsPlayedInPart, IsRunning, Keeps, LeftBy, Plays, Steps, Turns}
 use Rattle.depot_session.proofs.AskedShelves.{asks_nothing, behind_first, ended_so, loads_more, more_or_none, one_more, stores_more}
 use Rattle.depot_session.proofs.CorrectSteps.{step_is_correct}
 use Rattle.depot_session.proofs.LeftJournals.{all_there, front_of_none}
@@ -40,7 +40,7 @@ pub record IsKeptOn {N F K : Type 0} (g : Ghosts N) (f : shelf_of.Ghosts F) (k :
   pub same : IsSameNode g first now
   pub handle : g.handle now ≡ g.handle first
   pub running : IsRunning g now
-  pub lasts : LastsIn g false first now
+  pub lasts : LastsIn g ⊥ first now
   pub disk_quiet : g.faults now ≡ g.faults first
   pub sink_quiet : k.faults out_now ≡ k.faults out_first
   pub same_sink : k.tells out_now ≡ k.tells out_first
@@ -64,7 +64,7 @@ command_between cs i c within is = sym (take-append-drop i cs) ∙ ap (λ (x : L
 -- ---- fronts and faults
 
 -- what cut a run short where less had failed cut it short
-pub cut_so : (late early : Type 0) (shelf_late shelf_early : Shelves) (sink_late sink_early : Sinks) (e : Ending) → (late → early) → (shelf_late.faults_before < shelf_late.faults_after → shelf_early.faults_before < shelf_early.faults_after)
+pub cut_so : (late early : Type 0) (shelf_late shelf_early : Shelves) (sink_late sink_early : Sinks) (e : ScriptEnding) → (late → early) → (shelf_late.faults_before < shelf_late.faults_after → shelf_early.faults_before < shelf_early.faults_after)
     → (sink_late.faults_before < sink_late.faults_after → sink_early.faults_before < sink_early.faults_after) → IsCutBy late shelf_late sink_late e → IsCutBy early shelf_early sink_early e
 cut_so late early shelf_late shelf_early sink_late sink_early ending.Memory disk shelf sink cut = tt
 cut_so late early shelf_late shelf_early sink_late sink_early ending.Disk disk shelf sink cut = disk cut
@@ -79,7 +79,7 @@ to_be_written_so a b names text stands disk shelf line (inr (inl failed)) = inr 
 to_be_written_so a b names text stands disk shelf line (inr (inr (failed, (name, (named, is))))) = inr (inr (shelf failed, (name, (names name named, is))))
 
 -- and what stands at last does then
-pub last_so : (a b : Pending) → ((name : List ℕ) → a.names name → b.names name) → a.text ≡ b.text → (a.stands → b.stands) → (a.disk_failed → b.disk_failed) → (a.shelf_failed → b.shelf_failed) → (e : Ending) (last : List ℕ) → IsLast a e last → IsLast b e last
+pub last_so : (a b : Pending) → ((name : List ℕ) → a.names name → b.names name) → a.text ≡ b.text → (a.stands → b.stands) → (a.disk_failed → b.disk_failed) → (a.shelf_failed → b.shelf_failed) → (e : ScriptEnding) (last : List ℕ) → IsLast a e last → IsLast b e last
 last_so a b names text stands disk shelf ending.Sink last (inl none) = inl none
 last_so a b names text stands disk shelf ending.Sink last (inr front) = inr (front.0, (to_be_written_so a b names text stands disk shelf front.0 front.1.0, front.1.1))
 last_so a b names text stands disk shelf ending.Shelf last is = (is.0, (names is.0 is.1.0, is.1.1))
@@ -93,11 +93,11 @@ text_behind told told_now old mid new a b same one two t = two (subst (λ (x : B
 
 module _ {N F K : Type 0} (g : Ghosts N) (f : shelf_of.Ghosts F) (k : sink_of.Ghosts K) (lawful : (v : N) → IsLawful (g.stands v) (g.records v)) (first mid new : N) (shelf_first shelf_mid shelf_new : F) (out_first out_mid out_new : K) where
   -- what a command keeps is kept of all of them
-  pub keeps_all : (r : Result (Unit {0}) Ending) → IsRunning g first → IsKeptOn g f k first mid shelf_first shelf_mid out_first out_mid → Keeps g mid new (sinks k out_mid out_new) r → Keeps g first new (sinks k out_first out_new) r
+  pub keeps_all : (r : Result (Unit {0}) ScriptEnding) → IsRunning g first → IsKeptOn g f k first mid shelf_first shelf_mid out_first out_mid → Keeps g mid new (sinks k out_mid out_new) r → Keeps g first new (sinks k out_first out_new) r
   keeps_all r ran kept keeps = record {
     same = record { stands = keeps.same.stands ∙ kept.same.stands; key = keeps.same.key ∙ kept.same.key; signs = keeps.same.signs ∙ kept.same.signs };
     handle = keeps.handle ∙ kept.handle;
-    lasts = joined_in g (is_err r) first mid new kept.same.stands ran.runs kept.running.runs kept.lasts keeps.lasts;
+    lasts = joined_in g ⊥ (IsErr r) first mid new (λ never. never) kept.same.stands ran.runs kept.running.runs kept.lasts keeps.lasts;
     runs_on = keeps.runs_on;
     disk_later = omega (arith, kept.disk_quiet, keeps.disk_later);
     disk_quiet = λ calm. keeps.disk_quiet calm ∙ kept.disk_quiet;
@@ -117,7 +117,7 @@ module _ {N F K : Type 0} (g : Ghosts N) (f : shelf_of.Ghosts F) (k : sink_of.Gh
         same = all.same;
         handle = all.handle;
         running = record { runs = all.runs_on tt; stable = λ t. subst (λ (x : Bool). LeavesAll (g.records new) x (g.may_leave new)) (all.runs_on tt) (all.lasts.lasts.stable t) };
-        lasts = all.lasts;
+        lasts = lasts_so g (IsErr {T = Unit {0}} {E = ScriptEnding} (Ok tt)) ⊥ first new (λ is. cc) all.lasts;
         disk_quiet = all.disk_quiet tt;
         sink_quiet = elim (eq-or-lt_of_le all.sink_later) [
           | inl same ↦ sym same
@@ -140,11 +140,11 @@ module _ {N F K : Type 0} (g : Ghosts N) (f : shelf_of.Ghosts F) (k : sink_of.Gh
   HoldsAt P here sign = (s : Session) → IsTrue (f.tells shelf_mid) → IsAt here (g.records mid) (f.file shelf_mid) s → P here sign s
 
   -- a command as it goes there, where this is kept of the run
-  abbrev pub TurnsAt : Command → (Session → Type 0) → Result (Unit {0}) Ending → Setting → Signs → Type 0
+  abbrev pub TurnsAt : Command → (Session → Type 0) → Result (Unit {0}) ScriptEnding → Setting → Signs → Type 0
   TurnsAt c Kept r = HoldsAt (λ here sign s. Kept s → Turns g mid new c (step_of here sign s c) (shelves f shelf_mid shelf_new) (sinks k out_mid out_new) r)
 
   -- what it stores
-  abbrev pub StoresAt : Command → Result (Unit {0}) Ending → Setting → Signs → Type 0
+  abbrev pub StoresAt : Command → Result (Unit {0}) ScriptEnding → Setting → Signs → Type 0
   StoresAt c r = HoldsAt (λ here sign s. StoresUnder (f.stores shelf_mid) (f.stores shelf_new) (step_of here sign s c).stores r)
 
   -- one that ends the run by what it comes to stores nothing
@@ -181,15 +181,15 @@ module _ {N F K : Type 0} (g : Ghosts N) (f : shelf_of.Ghosts F) (k : sink_of.Gh
         }
 
     -- the command ends the run
-    ended : (rest : List Command) (e : Ending) → g.stands new ≡ g.stands mid → (step_of (g.stands first) (g.signature_of first) (answers_of (g.stands first) (g.signature_of first) s done).session c).ending ≡ Some e
+    ended : (rest : List Command) (e : ScriptEnding) → g.stands new ≡ g.stands mid → (step_of (g.stands first) (g.signature_of first) (answers_of (g.stands first) (g.signature_of first) s done).session c).ending ≡ Some e
         → Steps g new (step_of (g.stands first) (g.signature_of first) (answers_of (g.stands first) (g.signature_of first) s done).session c) (shelves f shelf_mid shelf_new) (sinks k out_mid out_new)
-        → IsPlayed g new (g.stands first) s (answers_of (g.stands first) (g.signature_of first) s (done ++ c ∷ rest)) (shelves f shelf_first shelf_new) (sinks k out_first out_new) e
+        → IsScriptPlayed g new (g.stands first) s (answers_of (g.stands first) (g.signature_of first) s (done ++ c ∷ rest)) (shelves f shelf_first shelf_new) (sinks k out_first out_new) e
     ended rest e stays ends steps =
         let here = g.stands first in
         let sign = g.signature_of first in
         let was = answers_of here sign s done in
         let step = step_of here sign was.session c in
-        subst (λ (a : Answers). IsPlayed g new here s a (shelves f shelf_first shelf_new) (sinks k out_first out_new) e) (sym (ended_answers here sign s done c rest e are.go_on ends)) (record {
+        subst (λ (a : Answers). IsScriptPlayed g new here s a (shelves f shelf_first shelf_new) (sinks k out_first out_new) e) (sym (ended_answers here sign s done c rest e are.go_on ends)) (record {
           ending_is = refl;
           runs = steps.runs;
           journal = steps.journal;
@@ -203,7 +203,7 @@ module _ {N F K : Type 0} (g : Ghosts N) (f : shelf_of.Ghosts F) (k : sink_of.Gh
     calls = asked f shelf_first shelf_new
 
     -- the command was cut short
-    broken : (rest : List Command) (e : Ending) → AsksShort (g.stands first) (g.signature_of first) s done (c ∷ rest) [] calls → IsBroken g mid new c (step_of (g.stands first) (g.signature_of first) (answers_of (g.stands first) (g.signature_of first) s done).session c) (shelves f shelf_mid shelf_new) (sinks k out_mid out_new) e
+    broken : (rest : List Command) (e : ScriptEnding) → AsksShort (g.stands first) (g.signature_of first) s done (c ∷ rest) [] calls → IsBroken g mid new c (step_of (g.stands first) (g.signature_of first) (answers_of (g.stands first) (g.signature_of first) s done).session c) (shelves f shelf_mid shelf_new) (sinks k out_mid out_new) e
         → (part : IsPlayedInPart g first new (g.stands first) (g.signature_of first) s (done ++ c ∷ rest) (shelves f shelf_first shelf_new) (sinks k out_first out_new) e) × AsksShort (g.stands first) (g.signature_of first) s part.done part.rest [] calls
     broken rest e asks b =
         let here = g.stands first in
@@ -237,7 +237,7 @@ module _ {N F K : Type 0} (g : Ghosts N) (f : shelf_of.Ghosts F) (k : sink_of.Gh
         left_then : (image : List ℕ) → LeftBy g first new image → LeftBy g mid new image
         left_then image left = (subst (λ (x : Bool). IsTrue x) (sym kept.lasts.lasts.told) left.0, left.1)
 
-    stopped_at : (rest : List Command) (e : Ending) → g.stands new ≡ g.stands mid → calls.loads_after ≡ calls.loads_before ++ loads_through (g.stands first) (g.signature_of first) s (done ++ c ∷ [])
+    stopped_at : (rest : List Command) (e : ScriptEnding) → g.stands new ≡ g.stands mid → calls.loads_after ≡ calls.loads_before ++ loads_through (g.stands first) (g.signature_of first) s (done ++ c ∷ [])
         → (calls.stores_after ≡ calls.stores_before ++ stores_through (g.stands first) (g.signature_of first) s done) ⊎ (calls.stores_after ≡ calls.stores_before ++ stores_through (g.stands first) (g.signature_of first) s (done ++ c ∷ []))
         → IfSome (step_of (g.stands first) (g.signature_of first) (answers_of (g.stands first) (g.signature_of first) s done).session c).ending (λ x. calls.stores_after ≡ calls.stores_before ++ stores_through (g.stands first) (g.signature_of first) s done)
         → Turns g mid new c (step_of (g.stands first) (g.signature_of first) (answers_of (g.stands first) (g.signature_of first) s done).session c) (shelves f shelf_mid shelf_new) (sinks k out_mid out_new) (Err e)
@@ -267,7 +267,7 @@ module _ {N F K : Type 0} (g : Ghosts N) (f : shelf_of.Ghosts F) (k : sink_of.Gh
     at_next P holds = from_first P kept holds (answers_of (g.stands first) (g.signature_of first) s (take i cs)).session (subst (λ (x : Bool). IsTrue x) (sym kept.same_shelf) told) are.at
 
     -- what the next command comes to
-    next_turns : (r : Result (Unit {0}) Ending) → TurnsAt c Kept r (g.stands mid) (g.signature_of mid)
+    next_turns : (r : Result (Unit {0}) ScriptEnding) → TurnsAt c Kept r (g.stands mid) (g.signature_of mid)
         → Turns g mid new c (step_of (g.stands first) (g.signature_of first) (answers_of (g.stands first) (g.signature_of first) s (take i cs)).session c) (shelves f shelf_mid shelf_new) (sinks k out_mid out_new) r
     next_turns r turns = at_next (λ here sign t. Kept t → Turns g mid new c (step_of here sign t c) (shelves f shelf_mid shelf_new) (sinks k out_mid out_new) r) turns kept_now
 
@@ -316,7 +316,7 @@ module _ {N F K : Type 0} (g : Ghosts N) (f : shelf_of.Ghosts F) (k : sink_of.Gh
         ∙ ap (λ (done : List Command). f.stores shelf_first ++ stores_through here sign s done) (sym (take_next cs i c within is))
 
     -- the next command ends the run or is cut short
-    pub plays_to : (e : Ending) (made : Bool) → made ≡ is_some (answers_of (g.stands first) (g.signature_of first) s (take i cs)).session.reader → f.loads shelf_mid ≡ f.loads shelf_first ++ loads_through (g.stands first) (g.signature_of first) s (take i cs)
+    pub plays_to : (e : ScriptEnding) (made : Bool) → made ≡ is_some (answers_of (g.stands first) (g.signature_of first) s (take i cs)).session.reader → f.loads shelf_mid ≡ f.loads shelf_first ++ loads_through (g.stands first) (g.signature_of first) s (take i cs)
         → f.stores shelf_mid ≡ f.stores shelf_first ++ stores_through (g.stands first) (g.signature_of first) s (take i cs) → f.loads shelf_new ≡ f.loads shelf_mid ++ loads_of made c → StoresAt c (Err e) (g.stands mid) (g.signature_of mid)
         → UnstoredAt c (g.stands mid) (g.signature_of mid) → TurnsAt c Kept (Err e) (g.stands mid) (g.signature_of mid)
         → Plays g first new (g.stands first) (g.signature_of first) s cs (shelves f shelf_first shelf_new) (asked f shelf_first shelf_new) (sinks k out_first out_new) (Err e)
@@ -340,7 +340,7 @@ module _ {N F K : Type 0} (g : Ghosts N) (f : shelf_of.Ghosts F) (k : sink_of.Gh
     same = record { stands = refl; key = refl; signs = refl };
     handle = refl;
     running = running;
-    lasts = nothing_in g only_now false v lawful (leaves_all g v running);
+    lasts = nothing_in g only_now ⊥ v lawful (leaves_all g v running);
     disk_quiet = refl;
     sink_quiet = refl;
     same_sink = refl;
@@ -385,7 +385,7 @@ module _ {N F K : Type 0} (g : Ghosts N) (f : shelf_of.Ghosts F) (k : sink_of.Gh
   keeps_to_end first now shelf_first shelf_now out_first out_now kept = record {
     same = kept.same;
     handle = kept.handle;
-    lasts = kept.lasts;
+    lasts = lasts_so g ⊥ (IsErr {T = Unit {0}} {E = ScriptEnding} (Ok tt)) first now (λ never. absurd never) kept.lasts;
     runs_on = λ _. kept.running.runs;
     disk_later = omega (arith, kept.disk_quiet);
     disk_quiet = λ _. kept.disk_quiet;
@@ -420,7 +420,7 @@ module _ {N F K : Type 0} (g : Ghosts N) (f : shelf_of.Ghosts F) (k : sink_of.Gh
 -- ---- the shelf
 
 -- it was quiet before a command
-pub tells_of_stop : (first mid new : ℕ) (failed_first failed_mid failed_new : List (List ℕ)) (r : Result (Unit {0}) Ending) → mid ≡ first → failed_mid ≡ failed_first → TellsShelf mid new failed_mid failed_new r → TellsShelf first new failed_first failed_new r
+pub tells_of_stop : (first mid new : ℕ) (failed_first failed_mid failed_new : List (List ℕ)) (r : Result (Unit {0}) ScriptEnding) → mid ≡ first → failed_mid ≡ failed_first → TellsShelf mid new failed_mid failed_new r → TellsShelf first new failed_first failed_new r
 tells_of_stop first mid new failed_first failed_mid failed_new r quiet calm t = record {
   never_falls = subst (λ (n : ℕ). n ≤ new) quiet t.never_falls;
   quiet = λ goes. t.quiet goes ∙ quiet;

@@ -1,6 +1,6 @@
 -- What a put makes of a node, of the shelf and of the sink.
-use Rattle.std.proofs.Common.{◌≡◌, ◌<◌, ◌≤◌, ◌⊎◌, ℕ, Bool, true, false, IsTrue, List, [], ◌∷◌, ◌++◌, Option, Some, None, Result, Ok, Err, refl, sym, ap, subst, ◌∙◌, ◌↔◌, inl}
-use Rattle.std.specs.Prelude.{◌≢◌, IsErrOf, is_err}
+use Rattle.std.proofs.Common.{◌≡◌, ◌<◌, ◌≤◌, ◌⊎◌, ℕ, false, IsTrue, List, [], ◌∷◌, ◌++◌, Option, Some, None, Result, Ok, Err, refl, sym, ap, subst, ◌∙◌, ◌↔◌, inl}
+use Rattle.std.specs.Prelude.{◌≢◌, IsErrOf, IsErr}
 use Rattle.std.specs.Result.{IsErrAnd}
 use Rattle.std.proofs.lemmas.List.{append-nil}
 use Rattle.depot_base.specs.declared.write.Change.{Change}
@@ -32,8 +32,8 @@ use Rattle.depot_model.specs.declared.put_answers.PutError.TheVariants as refuse
 use Rattle.depot_outside.specs.Told.{Shelves, Sinks}
 use Rattle.depot_script.specs.declared.command.Command.{Command}
 use Rattle.depot_script.specs.declared.command.Command.TheVariants as command
-use Rattle.depot_session.specs.declared.ending.Ending.{Ending}
-use Rattle.depot_session.specs.declared.ending.Ending.TheVariants as ending
+use Rattle.depot_session.specs.declared.ending.ScriptEnding.{ScriptEnding}
+use Rattle.depot_session.specs.declared.ending.ScriptEnding.TheVariants as ending
 use Rattle.depot_session.specs.SessionRuns.{IsHandedOut, disk_line}
 use Rattle.depot_session.specs.Sessions.{Session, IsPut, Step, command_text, ending_of_put, put_step, step_of}
 use Rattle.depot_session.specs.ScriptTelling.{IsFaultTold, IsUnchanged, Tells}
@@ -59,7 +59,7 @@ put_ends_calmly (Ok d) = tt
 put_ends_calmly (Err e) = tt
 
 -- where a run without fault means that the disk didn't fail, one after which it failed ended
-pub ends_failed : (r : Result (Unit {0}) Ending) (failed : Type 0) → (HasNoFault r → failed → ⊥) → failed → is_err r ≡ true
+pub ends_failed : (r : Result (Unit {0}) ScriptEnding) (failed : Type 0) → (HasNoFault r → failed → ⊥) → failed → IsErr r
 ends_failed (Ok done) failed settles f = absurd (settles tt f)
 ends_failed (Err e) failed settles f = refl
 
@@ -113,7 +113,7 @@ module _ {N : Type 0} (g : Ghosts N) (old new : N) (changes : List Change) (done
   module _ (lawful : IsLawful (g.stands old) (g.records old)) (some : is_empty (g.records old) ≡ false) (are : AreChanges changes)
       (receipts : AreReceiptsTrue (g.records old) → AreReceiptsTrue (g.records old ++ put_records (g.stands old) (g.records old) changes)) where
     -- the put was to append its records, and did, or a front of them
-    put_appends : (failed : Bool) → limit_of_put here J changes ≡ None → IsPart J (put_records here J changes) (g.records new) failed → LastsIn g failed old new
+    put_appends : (failed : Type 0) → limit_of_put here J changes ≡ None → IsPart J (put_records here J changes) (g.records new) failed → LastsIn g failed old new
     put_appends failed none part = record {
       appends = put_records here J changes;
       is = to_append here J (put_records here J changes) (g.records new) failed (put_lawful here J changes lawful some are none) receipts part;
@@ -121,19 +121,19 @@ module _ {N : Type 0} (g : Ghosts N) (old new : N) (changes : List Change) (done
     }
 
     -- what a stop leaves, whatever the node answered
-    put_lasts : (failed : Bool) → (IsErrOf done refused.Disk → failed ≡ true) → LastsIn g failed old new
+    put_lasts : (failed : Type 0) → (IsErrOf done refused.Disk → failed) → LastsIn g failed old new
     put_lasts failed fails = by_answer done refl puts call.journal.idle where
       by_answer : (r : Result PutDone PutError) → done ≡ r → Puts here J changes r (g.records new) → (IsErrAnd r (λ e. e ≢ refused.Disk) → Lasts (journal_of g) old new [])
           → LastsIn g failed old new
       by_answer (Ok d) is p idle = put_appends failed p.0 (all_of J (put_records here J changes) (g.records new) failed p.1.1)
-      by_answer (Err refused.Disk) is p idle = put_appends failed p.0 (subst (λ (b : Bool). IsPart J (put_records here J changes) (g.records new) b) (sym (fails is)) (cut_of J (put_records here J changes) (g.records new) p.1))
+      by_answer (Err refused.Disk) is p idle = put_appends failed p.0 (cut_of J (put_records here J changes) (g.records new) failed (fails is) p.1)
       by_answer (Err refused.Memory) is p idle = none_in g failed old new lawful p (idle (λ e. cc))
       by_answer (Err refused.Stopped) is p idle = none_in g failed old new lawful p (idle (λ e. cc))
       by_answer (Err other) is p idle = none_in g failed old new lawful p.1 (idle (λ e. cc))
 
     -- what the put leaves of the node
-    pub put_keeps : (sink : Sinks) (r : Result (Unit {0}) Ending) → (HasNoFault r → IsErrOf done refused.Disk → ⊥) → NamesFaults (g.faults old < g.faults new) sink r → Keeps g old new sink r
-    put_keeps sink r settles = keeps_called g old new sink r (IsErrOf done refused.Disk) call.same call.journal.disk (put_lasts (is_err r) (ends_failed r (IsErrOf done refused.Disk) settles)) (λ calm. runs_on (g.stopped old) running.runs call.journal.stops (settles calm)) settles
+    pub put_keeps : (sink : Sinks) (r : Result (Unit {0}) ScriptEnding) → (HasNoFault r → IsErrOf done refused.Disk → ⊥) → NamesFaults (g.faults old < g.faults new) sink r → Keeps g old new sink r
+    put_keeps sink r settles = keeps_called g old new sink r (IsErrOf done refused.Disk) call.same call.journal.disk (put_lasts (IsErr r) (ends_failed r (IsErrOf done refused.Disk) settles)) (λ calm. runs_on (g.stopped old) running.runs call.journal.stops (settles calm)) settles
 
   -- ---- what it came to
 
@@ -206,19 +206,19 @@ module _ {N : Type 0} (g : Ghosts N) (old new : N) (changes : List Change) (done
     others name = inl (unchanged name)
 
     -- the command's step is that of the put
-    as_put : (r : Result (Unit {0}) Ending) → Turns g old new c step shelf sink r → Turns g old new c (step_of here sign s c) shelf sink r
+    as_put : (r : Result (Unit {0}) ScriptEnding) → Turns g old new c step shelf sink r → Turns g old new c (step_of here sign s c) shelf sink r
     as_put r turns = subst (λ (x : Step). Turns g old new c x shelf sink r) (sym is_put) turns
 
     -- no memory was found for what is printed of it
-    pub put_without_memory : (r : Result (Unit {0}) Ending) → IsErrAnd r (λ e. e ≡ ending.Memory) → sink.after ≡ sink.before → Turns g old new c (step_of here sign s c) shelf sink r
+    pub put_without_memory : (r : Result (Unit {0}) ScriptEnding) → IsErrAnd r (λ e. e ≡ ending.Memory) → sink.after ≡ sink.before → Turns g old new c (step_of here sign s c) shelf sink r
     put_without_memory r is same = as_put r (without_memory g old new c step shelf sink more brings leaves others r is (nothing_written sink same))
 
     -- the disk failed, and it was told, or not
-    pub put_to_disk : (e : Ending) → g.faults old < g.faults new → IsFaultTold sink disk_line ending.Disk e → Turns g old new c (step_of here sign s c) shelf sink (Err e)
+    pub put_to_disk : (e : ScriptEnding) → g.faults old < g.faults new → IsFaultTold sink disk_line ending.Disk e → Turns g old new c (step_of here sign s c) shelf sink (Err e)
     put_to_disk e rose fault = as_put (Err e) (disk_told g old new c step shelf sink more brings leaves others e rose fault)
 
     -- its lines were written, or not
-    pub put_told : (ends : Option Ending) (r : Result (Unit {0}) Ending) (o : Option Printed) (p : Printed) → o ≡ Some p → (o ≡ None) ↔ IsErrOf done refused.Disk → SettlesPut done → IsPrintOf o (put_by here s.correct changes) → ends ≡ ends_of_put done
+    pub put_told : (ends : Option ScriptEnding) (r : Result (Unit {0}) ScriptEnding) (o : Option Printed) (p : Printed) → o ≡ Some p → (o ≡ None) ↔ IsErrOf done refused.Disk → SettlesPut done → IsPrintOf o (put_by here s.correct changes) → ends ≡ ends_of_put done
         → Tells sink (command_text c p.lines) ends r → Turns g old new c (step_of here sign s c) shelf sink r
     put_told ends r o p is stopped settled printed ends_so tells = as_put r so where
       well : IsErrOf done refused.Disk → ⊥

@@ -18,8 +18,8 @@ use Rattle.depot_model.specs.World.{Correct}
 use Rattle.depot_model.specs.declared.node_state.NodeState.{Ghosts}
 use Rattle.depot_outside.specs.Told.{Shelves, Sinks}
 use Rattle.depot_script.specs.declared.command.Command.TheVariants as command
-use Rattle.depot_session.specs.declared.ending.Ending.{Ending}
-use Rattle.depot_session.specs.declared.ending.Ending.TheVariants as ending
+use Rattle.depot_session.specs.declared.ending.ScriptEnding.{ScriptEnding}
+use Rattle.depot_session.specs.declared.ending.ScriptEnding.TheVariants as ending
 use Rattle.depot_session.specs.Sessions.{Session, Step, absent, carried_out, command_text, ending_of_tgive, ending_of_trim, reader_after, shown_by_last, silent, step_of, tgive_from, tgive_to, trim_from, trim_step}
 use Rattle.depot_session.specs.ScriptTelling.{IsUnchanged, Tells}
 use Rattle.depot_session.specs.Turns.{IsAt, IsRunning, IsSomebodys, KeepsReader, Turns, ends_of_trim}
@@ -35,7 +35,7 @@ use Rattle.depot_world.specs.Transcript.{answer_of_reader, ended}
 -- ---- results
 
 -- what holds of the answer that the run goes on doesn't of want of memory
-pub not_without_memory : (r : Result (Unit {0}) Ending) (P : Type 0) → IsErrAnd r (λ e. e ≡ ending.Memory) → OnOk r P
+pub not_without_memory : (r : Result (Unit {0}) ScriptEnding) (P : Type 0) → IsErrAnd r (λ e. e ≡ ending.Memory) → OnOk r P
 not_without_memory (Ok done) P is = absurd is
 not_without_memory (Err e) P is = tt
 
@@ -126,7 +126,7 @@ module _ {N : Type 0} (g : Ghosts N) (v : N) (running : IsRunning g v) (s : Sess
     trim_reader = ap (λ (x : Step). x.session.reader) trim_is
 
     -- its line was told, or not
-    pub trim_told : (line : List ℕ) (ends : Option Ending) (r : Result (Unit {0}) Ending) → line ≡ ended (spaced (text_of_trim answer)) → ends ≡ ending_of_trim answer → Tells sink (command_text (command.Trim file) line) ends r
+    pub trim_told : (line : List ℕ) (ends : Option ScriptEnding) (r : Result (Unit {0}) ScriptEnding) → line ≡ ended (spaced (text_of_trim answer)) → ends ≡ ending_of_trim answer → Tells sink (command_text (command.Trim file) line) ends r
         → Turns g v v (command.Trim file) (step_of (g.stands v) (g.signature_of v) s (command.Trim file)) shelf sink r
     trim_told line ends r line_is ends_is tells =
         uncalled_told g v running s (command.Trim file) shelf sink at unchanged (ap (λ (x : Step). x.session.correct.journal) trim_is ∙ at.journal) (λ name. ap (λ (x : Step). x.session.files name) trim_is) ends r (ap (λ (x : Step). x.ending) trim_is ∙ sym ends_is)
@@ -144,7 +144,7 @@ module _ {N : Type 0} (g : Ghosts N) (v : N) (running : IsRunning g v) (s : Sess
     pub idle_reader : (step_of (g.stands v) (g.signature_of v) s (command.Tgive file)).session.reader ≡ s.reader
     idle_reader = ap (λ (x : Step). x.session.reader) (idle_is (g.stands v) (g.signature_of v))
 
-    pub idle_told : (line : List ℕ) (r : Result (Unit {0}) Ending) → line ≡ ended [] → Tells sink (command_text (command.Tgive file) line) None r
+    pub idle_told : (line : List ℕ) (r : Result (Unit {0}) ScriptEnding) → line ≡ ended [] → Tells sink (command_text (command.Tgive file) line) None r
         → Turns g v v (command.Tgive file) (step_of (g.stands v) (g.signature_of v) s (command.Tgive file)) shelf sink r
     idle_told line r line_is tells =
         let is = idle_is (g.stands v) (g.signature_of v) in
@@ -174,7 +174,7 @@ module _ {N : Type 0} (g : Ghosts N) (v : N) (running : IsRunning g v) (s : Sess
       fed_reader = ap (λ (x : Step). x.session.reader) fed_is
 
       -- its line was told, or not
-      pub fed_told : (line : List ℕ) (ends : Option Ending) (r : Result (Unit {0}) Ending) → line ≡ ended (spaced (text_of_reader_feed fed)) → ends ≡ ending_of_tgive fed.full → Tells sink (command_text (command.Tgive file) line) ends r
+      pub fed_told : (line : List ℕ) (ends : Option ScriptEnding) (r : Result (Unit {0}) ScriptEnding) → line ≡ ended (spaced (text_of_reader_feed fed)) → ends ≡ ending_of_tgive fed.full → Tells sink (command_text (command.Tgive file) line) ends r
           → Turns g v v (command.Tgive file) (step_of (g.stands v) (g.signature_of v) s (command.Tgive file)) shelf sink r
       fed_told line ends r line_is ends_is tells =
           uncalled_told g v running s (command.Tgive file) shelf sink at unchanged (ap (λ (x : Step). x.session.correct.journal) fed_is ∙ at.journal) (λ name. ap (λ (x : Step). x.session.files name) fed_is) ends r (ap (λ (x : Step). x.ending) fed_is ∙ sym ends_is)
@@ -204,7 +204,7 @@ unfolding step_of
 shown_is here sign s key = refl
 
 -- its line was told, or not
-pub tget_turns : {N : Type 0} (g : Ghosts N) (v : N) (s : Session) (key line : List ℕ) (shelf : Shelves) (sink : Sinks) (r : Result (Unit {0}) Ending) → IsRunning g v → IsAt (g.stands v) (g.records v) shelf.file s → IsUnchanged shelf → line ≡ lines_of_effect (shown_by_last s.correct key s.reader)
+pub tget_turns : {N : Type 0} (g : Ghosts N) (v : N) (s : Session) (key line : List ℕ) (shelf : Shelves) (sink : Sinks) (r : Result (Unit {0}) ScriptEnding) → IsRunning g v → IsAt (g.stands v) (g.records v) shelf.file s → IsUnchanged shelf → line ≡ lines_of_effect (shown_by_last s.correct key s.reader)
     → Tells sink (command_text (command.Tget key) line) None r → Turns g v v (command.Tget key) (step_of (g.stands v) (g.signature_of v) s (command.Tget key)) shelf sink r
 tget_turns g v s key line shelf sink r running at unchanged line_is tells =
     let is = shown_is (g.stands v) (g.signature_of v) s key in

@@ -1,6 +1,6 @@
 -- What receipts make of a node, of the shelf and of the sink: what their put makes, or nothing.
 use Rattle.std.proofs.Common.{◌≡◌, ◌<◌, ◌≤◌, ◌⊎◌, ◌+◌, ℕ, false, IsTrue, List, [], ◌∷◌, codes, length, Option, Some, None, Result, Ok, Err, refl, sym, ap, subst, ◌∙◌, ◌↔◌, arith, inl, inr, length-append}
-use Rattle.std.specs.Prelude.{◌≢◌, IsErrOf, is_err}
+use Rattle.std.specs.Prelude.{◌≢◌, IsErrOf, IsErr}
 use Rattle.std.specs.Result.{IsErrAnd}
 use Rattle.depot_answers.specs.AnswerTexts.{text_of_no_receipt}
 use Rattle.depot_base.specs.declared.record.Record.{Record}
@@ -28,13 +28,13 @@ use Rattle.depot_model.specs.Stops.{HasFront}
 use Rattle.depot_model.specs.declared.node_state.NodeState.{Ghosts}
 use Rattle.depot_model.proofs.FeedGrowth.{IsGrown}
 use Rattle.depot_outside.specs.Told.{Shelves, Sinks}
-use Rattle.depot_receipts.specs.Giving.{Gives, IsReceiptCall}
+use Rattle.depot_receipts.specs.Giving.{GivesReceipts, IsReceiptCall}
 use Rattle.depot_receipts.specs.declared.give_error.GiveError.{GiveError}
 use Rattle.depot_receipts.specs.declared.give_error.GiveError.TheVariants as give
 use Rattle.depot_script.specs.declared.command.Command.{Command}
 use Rattle.depot_script.specs.declared.command.Command.TheVariants as command
-use Rattle.depot_session.specs.declared.ending.Ending.{Ending}
-use Rattle.depot_session.specs.declared.ending.Ending.TheVariants as ending
+use Rattle.depot_session.specs.declared.ending.ScriptEnding.{ScriptEnding}
+use Rattle.depot_session.specs.declared.ending.ScriptEnding.TheVariants as ending
 use Rattle.depot_session.specs.Sessions.{Session, Step, carried_out, command_text, ending_of_receipt, put_step, step_of}
 use Rattle.depot_session.specs.SessionRuns.{IsHandedOut, disk_line}
 use Rattle.depot_session.specs.ScriptTelling.{IsFaultTold, IsUnchanged, Tells}
@@ -91,7 +91,7 @@ pub record PutsNothing (J : List Record) (ids : List (List ℕ)) (done : Result 
   pub idle : IsErrAnd done (λ e. e ≢ give.Disk)
 
 -- one of the two
-pub put_or_nothing : (here : Setting) (J : List Record) (ids : List (List ℕ)) (done : Result PutDone GiveError) (then : List Record) → Gives here J ids done then → IsPutOf here J ids done then ⊎ PutsNothing J ids done then
+pub put_or_nothing : (here : Setting) (J : List Record) (ids : List (List ℕ)) (done : Result PutDone GiveError) (then : List Record) → GivesReceipts here J ids done then → IsPutOf here J ids done then ⊎ PutsNothing J ids done then
 put_or_nothing here J ids (Ok d) then p = inl (record { due = p.0; answer = Ok d; puts = p.1; disk = (λ e. absurd cc, λ e. absurd cc); stopped = (λ e. absurd cc, λ e. absurd cc); settles = λ s. s; ends = refl; idle = λ never. never })
 put_or_nothing here J ids (Err give.Disk) then p = inl (record { due = p.0; answer = Err put.Disk; puts = p.1; disk = (λ e. refl, λ e. refl); stopped = (λ e. absurd cc, λ e. absurd cc); settles = λ s. s; ends = refl; idle = λ differs. absurd (differs refl) })
 put_or_nothing here J ids (Err (give.Spent n)) then p = inl (record { due = p.0; answer = Err (put.Spent n); puts = p.1; disk = (λ e. absurd cc, λ e. absurd cc); stopped = (λ e. absurd cc, λ e. absurd cc); settles = λ s. s; ends = refl; idle = λ _ is. absurd cc })
@@ -125,10 +125,10 @@ receipt_text here sign s id = refl
 -- ---- the call on the node
 
 -- what a node answered over one of two journals that are the same
-gives_at : (here : Setting) (J K : List Record) (ids : List (List ℕ)) (done : Result PutDone GiveError) (then : List Record) → K ≡ J → Gives here J ids done then → Gives here K ids done then
-gives_at here J K ids done then same = subst (λ (L : List Record). Gives here L ids done then) (sym same)
+gives_at : (here : Setting) (J K : List Record) (ids : List (List ℕ)) (done : Result PutDone GiveError) (then : List Record) → K ≡ J → GivesReceipts here J ids done then → GivesReceipts here K ids done then
+gives_at here J K ids done then same = subst (λ (L : List Record). GivesReceipts here L ids done then) (sym same)
 
-module _ {N : Type 0} (g : Ghosts N) (old new : N) (id : List ℕ) (asked : List (List ℕ)) (one : asked ≡ id ∷ []) (done : Result PutDone GiveError) (running : IsRunning g old) (answers : Gives (g.stands old) (g.records old) asked done (g.records new))
+module _ {N : Type 0} (g : Ghosts N) (old new : N) (id : List ℕ) (asked : List (List ℕ)) (one : asked ≡ id ∷ []) (done : Result PutDone GiveError) (running : IsRunning g old) (answers : GivesReceipts (g.stands old) (g.records old) asked done (g.records new))
     (called : IsReceiptCall g old new asked done) where
   -- where the node stands
   abbrev here : Setting
@@ -146,8 +146,8 @@ module _ {N : Type 0} (g : Ghosts N) (old new : N) (id : List ℕ) (asked : List
   changes = receipt_changes ids
 
   -- what it answered for this one
-  gives : Gives here J ids done (g.records new)
-  gives = subst (λ (hs : List (List ℕ)). Gives here J hs done (g.records new)) one answers
+  gives : GivesReceipts here J ids done (g.records new)
+  gives = subst (λ (hs : List (List ℕ)). GivesReceipts here J hs done (g.records new)) one answers
 
   call : IsReceiptCall g old new ids done
   call = subst (λ (hs : List (List ℕ)). IsReceiptCall g old new hs done) one called
@@ -162,11 +162,11 @@ module _ {N : Type 0} (g : Ghosts N) (old new : N) (id : List ℕ) (asked : List
 
   -- ---- the node, whatever came of it
 
-  pub receipt_keeps : IsLawful here J → is_empty J ≡ false → AreChanges changes → (sink : Sinks) (r : Result (Unit {0}) Ending)
+  pub receipt_keeps : IsLawful here J → is_empty J ≡ false → AreChanges changes → (sink : Sinks) (r : Result (Unit {0}) ScriptEnding)
       → (HasNoFault r → IsErrOf done give.Disk → ⊥) → NamesFaults (g.faults old < g.faults new) sink r → Keeps g old new sink r
   receipt_keeps lawful some are sink r settles names = elim came [
     | inl p ↦ put_keeps g old new changes p.answer running p.puts (as_put p) lawful some are (receipts_put_stays_true here.me J ids p.due) sink r (λ calm failed. settles calm (p.disk.1 failed)) names
-    | inr n ↦ keeps_called g old new sink r (IsErrOf done give.Disk) call.same call.journal.disk (none_in g (is_err r) old new lawful n.same (call.journal.idle n.idle)) (λ calm. runs_on (g.stopped old) running.runs call.journal.stops (settles calm)) settles names
+    | inr n ↦ keeps_called g old new sink r (IsErrOf done give.Disk) call.same call.journal.disk (none_in g (IsErr r) old new lawful n.same (call.journal.idle n.idle)) (λ calm. runs_on (g.stopped old) running.runs call.journal.stops (settles calm)) settles names
   ]
 
   -- ---- what it came to
@@ -203,20 +203,20 @@ module _ {N : Type 0} (g : Ghosts N) (old new : N) (id : List ℕ) (asked : List
     others name = inl (unchanged name)
 
     -- no memory was found for what is printed of it
-    pub receipt_without_memory : (r : Result (Unit {0}) Ending) → IsErrAnd r (λ e. e ≡ ending.Memory) → sink.after ≡ sink.before → Turns g old new c step shelf sink r
+    pub receipt_without_memory : (r : Result (Unit {0}) ScriptEnding) → IsErrAnd r (λ e. e ≡ ending.Memory) → sink.after ≡ sink.before → Turns g old new c step shelf sink r
     receipt_without_memory r is same = elim came [
       | inl p ↦ put_without_memory g old new changes p.answer running p.puts (as_put p) counts_now c shelf sink s unchanged at (is_put p.due) r is same
       | inr n ↦ without_memory g old new c step shelf sink brings.more brings.is (leaves n) others r is (nothing_written sink same)
     ]
 
     -- the disk failed, and it was told, or not
-    pub receipt_to_disk : (e : Ending) → IsErrOf done give.Disk → g.faults old < g.faults new → IsFaultTold sink disk_line ending.Disk e → Turns g old new c step shelf sink (Err e)
+    pub receipt_to_disk : (e : ScriptEnding) → IsErrOf done give.Disk → g.faults old < g.faults new → IsFaultTold sink disk_line ending.Disk e → Turns g old new c step shelf sink (Err e)
     receipt_to_disk e failed rose fault = elim came [
       | inl p ↦ put_to_disk g old new changes p.answer running p.puts (as_put p) counts_now c shelf sink s unchanged at (is_put p.due) e rose fault
       | inr n ↦ absurd (n.well failed)
     ]
 
-    module _ (ends : Option Ending) (r : Result (Unit {0}) Ending) (o : Option Printed) (p : Printed) (is : o ≡ Some p) (stopped : (o ≡ None) ↔ IsErrOf done give.Disk) (settled : SettlesGive done)
+    module _ (ends : Option ScriptEnding) (r : Result (Unit {0}) ScriptEnding) (o : Option Printed) (p : Printed) (is : o ≡ Some p) (stopped : (o ≡ None) ↔ IsErrOf done give.Disk) (settled : SettlesGive done)
         (prints : PrintsReceipts done o) (ends_so : ends ≡ ends_of_receipt done) (tells : Tells sink (command_text c p.lines) ends r) where
       -- what is printed are the lines of the receipt
       printed : IsPrintOf o (receipt_by here s.correct ids)

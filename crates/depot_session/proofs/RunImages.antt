@@ -20,7 +20,7 @@ use Rattle.depot_node.specs.Starting.{IsKeyFault, IsNotStarted, IsStartedFrom, S
 use Rattle.depot_node.specs.declared.start_error.StartError.{StartError}
 use Rattle.depot_node.specs.declared.start_error.StartError.TheVariants as refused
 use Rattle.depot_outside.specs.Told.{Disks}
-use Rattle.depot_session.specs.SessionRuns.{GoesOn, Settles}
+use Rattle.depot_session.specs.SessionRuns.{ContinuesFile, Settles}
 
 -- ---- a start
 
@@ -44,7 +44,7 @@ birth_is_true : (here : Setting) (J : List Record) → AreReceiptsTrue J → Are
 birth_is_true here J = silent_is_true J (birth_after here J) (birth_puts_none here J)
 
 -- a front of a birth goes on from a file without records
-birth_goes_on : (here : Setting) (file image : List ℕ) → IsRoster here.listed → has_node here.listed here.me ≡ true → IsFileOf file [] → HasFront [] (birth_after here []) image → GoesOn here file image
+birth_goes_on : (here : Setting) (file image : List ℕ) → IsRoster here.listed → has_node here.listed here.me ≡ true → IsFileOf file [] → HasFront [] (birth_after here []) image → ContinuesFile here file image
 birth_goes_on here file image formed member none front =
     let birth = birth_after here [] in
     let lawful : IsLawful here (take front.count birth ++ drop front.count birth) = subst (IsLawful here) (sym (take-append-drop front.count birth)) (born here formed member) in
@@ -59,7 +59,7 @@ birth_goes_on here file image formed member none front =
     }
 
 -- what a start leaves
-pub start_goes_on : (here : Setting) (file : List ℕ) (before : List ℕ → Type 0) (image : List ℕ) → IsRoster here.listed → has_node here.listed here.me ≡ true → StartLeaves here (IsFileOf file []) before image → before image ⊎ GoesOn here file image
+pub start_goes_on : (here : Setting) (file : List ℕ) (before : List ℕ → Type 0) (image : List ℕ) → IsRoster here.listed → has_node here.listed here.me ≡ true → StartLeaves here (IsFileOf file []) before image → before image ⊎ ContinuesFile here file image
 start_goes_on here file before image formed member (inl was) = inl was
 start_goes_on here file before image formed member (inr p) = inr (birth_goes_on here file image formed member p.0 p.1)
 
@@ -93,7 +93,7 @@ true_to here file records appends count s receipts true_before =
     (front_is_true (records ++ take count appends) (drop count appends) (subst AreReceiptsTrue (parted records appends count) (receipts started_true)))
 
 -- a front of what is appended behind the journal of a started node goes on from its file
-pub front_goes_on : (here : Setting) (file image : List ℕ) (records appends : List Record) → IsStartedFrom here file records → IsLawful here (records ++ appends) → (AreReceiptsTrue records → AreReceiptsTrue (records ++ appends)) → HasFront records appends image → GoesOn here file image
+pub front_goes_on : (here : Setting) (file image : List ℕ) (records appends : List Record) → IsStartedFrom here file records → IsLawful here (records ++ appends) → (AreReceiptsTrue records → AreReceiptsTrue (records ++ appends)) → HasFront records appends image → ContinuesFile here file image
 front_goes_on here file image records appends s lawful receipts front =
     let some = take front.count appends in
     let behind = started_behind here file records s some in
@@ -108,13 +108,13 @@ front_goes_on here file image records appends s lawful receipts front =
 
 -- what a run leaves from its start on
 pub run_goes_on : (here : Setting) (file image : List ℕ) (records appends : List Record) (before : List ℕ → Type 0) → IsRoster here.listed → has_node here.listed here.me ≡ true → IsStartedFrom here file records → IsLawful here (records ++ appends)
-    → (AreReceiptsTrue records → AreReceiptsTrue (records ++ appends)) → StartLeaves here (IsFileOf file []) before image ⊎ HasFront records appends image → before image ⊎ GoesOn here file image
+    → (AreReceiptsTrue records → AreReceiptsTrue (records ++ appends)) → StartLeaves here (IsFileOf file []) before image ⊎ HasFront records appends image → before image ⊎ ContinuesFile here file image
 run_goes_on here file image records appends before formed member s lawful receipts (inl start) = start_goes_on here file before image formed member start
 run_goes_on here file image records appends before formed member s lawful receipts (inr front) = inr (front_goes_on here file image records appends s lawful receipts front)
 
 -- what a start that is refused leaves
 pub refused_goes_on : (here : Setting) (key : PublicKey) (told : Type 0) (file : List ℕ) (e : StartError) (before : List ℕ → Type 0) (image : List ℕ) → IsRoster here.listed → IsNotStarted here key told file e → (IsKeyFault here.listed here.me key e → before image)
-    → StartLeaves here (IsFileOf file []) before image → before image ⊎ GoesOn here file image
+    → StartLeaves here (IsFileOf file []) before image → before image ⊎ ContinuesFile here file image
 refused_goes_on here key told file e before image formed is untouched start = elim (key_or_disk here key told file e is) [
   | inl fault ↦ inl (untouched fault)
   | inr keyed ↦ start_goes_on here file before image formed (has_from_key here key keyed) start

@@ -10,7 +10,7 @@ use Rattle.depot_model.specs.Receipts.{receipts}
 use Rattle.depot_model.specs.declared.node_state.NodeState.{Ghosts}
 use Rattle.depot_outside.specs.Told.{Shelves, Sinks}
 use Rattle.depot_script.specs.declared.command.Command.TheVariants as command
-use Rattle.depot_session.specs.declared.ending.Ending.{Ending}
+use Rattle.depot_session.specs.declared.ending.ScriptEnding.{ScriptEnding}
 use Rattle.depot_session.specs.Sessions.{Session, command_text, step_of}
 use Rattle.depot_session.specs.ScriptTelling.{IsUnchanged, Tells}
 use Rattle.depot_session.specs.Turns.{IsAt, IsRunning, Turns}
@@ -42,7 +42,7 @@ unfolding step_of settled_by
 settled_files here sign s id k name = refl
 
 -- its line was told, or not
-pub settled_turns : {N : Type 0} (g : Ghosts N) (v : N) (s : Session) (id : List ℕ) (k : ℕ) (enough : Bool) (line : List ℕ) (shelf : Shelves) (sink : Sinks) (r : Result (Unit {0}) Ending) → IsRunning g v → IsAt (g.stands v) (g.records v) shelf.file s → IsUnchanged shelf
+pub settled_turns : {N : Type 0} (g : Ghosts N) (v : N) (s : Session) (id : List ℕ) (k : ℕ) (enough : Bool) (line : List ℕ) (shelf : Shelves) (sink : Sinks) (r : Result (Unit {0}) ScriptEnding) → IsRunning g v → IsAt (g.stands v) (g.records v) shelf.file s → IsUnchanged shelf
     → enough ≡ nat_le k (length (receipts (g.records v) id)) → line ≡ ended (spaced (name_of_settled enough)) → Tells sink (command_text (command.Settled id k) line) None r
     → Turns g v v (command.Settled id k) (step_of (g.stands v) (g.signature_of v) s (command.Settled id k)) shelf sink r
 settled_turns g v s id k enough line shelf sink r running at unchanged are line_is tells =

@@ -1,6 +1,6 @@
 -- How the command that signs a checkpoint turns out: as the put of its text, or nothing is put.
 use Rattle.std.proofs.Common.{◌≡◌, ◌↔◌, ◌⊎◌, ◌≤◌, ◌<◌, ℕ, false, IsTrue, List, [], Option, Some, None, Result, Ok, Err, refl, sym, ap, subst, ◌∙◌, inl, inr}
-use Rattle.std.specs.Prelude.{◌≢◌, IsErrOf, is_err}
+use Rattle.std.specs.Prelude.{◌≢◌, IsErrOf, IsErr}
 use Rattle.std.specs.Result.{IsErrAnd}
 use Rattle.depot_base.specs.declared.record.Record.{Record}
 use Rattle.depot_base.specs.declared.write.Change.{Change}
@@ -29,8 +29,8 @@ use Rattle.depot_model.proofs.FeedGrowth.{IsGrown}
 use Rattle.depot_outside.specs.Told.{Shelves, Sinks}
 use Rattle.depot_script.specs.declared.command.Command.{Command}
 use Rattle.depot_script.specs.declared.command.Command.TheVariants as command
-use Rattle.depot_session.specs.declared.ending.Ending.{Ending}
-use Rattle.depot_session.specs.declared.ending.Ending.TheVariants as ending
+use Rattle.depot_session.specs.declared.ending.ScriptEnding.{ScriptEnding}
+use Rattle.depot_session.specs.declared.ending.ScriptEnding.TheVariants as ending
 use Rattle.depot_session.specs.SessionRuns.{IsHandedOut, disk_line}
 use Rattle.depot_session.specs.Sessions.{Session, Step, absent, carried_out, command_text, ending_of_sign, put_step, sign_from, step_of}
 use Rattle.depot_session.specs.ScriptTelling.{IsFaultTold, IsUnchanged, Tells}
@@ -42,7 +42,7 @@ use Rattle.depot_session.proofs.StepGrowth.{step_grows}
 use Rattle.depot_session.proofs.ToldFaults.{EndsCalmly, NamesFaults}
 use Rattle.depot_session.proofs.Turning.{told, without_memory}
 use Rattle.depot_session.proofs.UnwrittenTexts.{nothing_written}
-use Rattle.depot_trim.specs.Signing.{IsSigningCall, Signs}
+use Rattle.depot_trim.specs.Signing.{IsSigningCall, SignsCheckpoint}
 use Rattle.depot_trim.specs.declared.sign_error.CheckpointError.{CheckpointError}
 use Rattle.depot_trim.specs.declared.sign_error.CheckpointError.TheVariants as unsigned
 use Rattle.depot_world.specs.Effects.{checkpoint_changes, sign_by, sign_with}
@@ -89,7 +89,7 @@ pub record PutsNothing (here : Setting) (J : List Record) (text : List ℕ) (don
   pub idle : IsErrAnd done (λ e. e ≢ unsigned.Disk)
 
 -- one of the two
-pub put_or_nothing : (here : Setting) (J : List Record) (text : List ℕ) (done : Result PutDone CheckpointError) (then : List Record) → Signs here J text done then → IsPutOf here J text done then ⊎ PutsNothing here J text done then
+pub put_or_nothing : (here : Setting) (J : List Record) (text : List ℕ) (done : Result PutDone CheckpointError) (then : List Record) → SignsCheckpoint here J text done then → IsPutOf here J text done then ⊎ PutsNothing here J text done then
 put_or_nothing here J text (Ok d) then p = inl (record { ids = p.0.0; due = p.0.1; answer = Ok d; puts = p.1; disk = (λ e. absurd cc, λ e. absurd cc); stopped = (λ e. absurd cc, λ e. absurd cc); settles = λ s. s; ends = refl; idle = λ never. never })
 put_or_nothing here J text (Err unsigned.Disk) then p = inl (record { ids = p.0.0; due = p.0.1; answer = Err refused.Disk; puts = p.1; disk = (λ e. refl, λ e. refl); stopped = (λ e. absurd cc, λ e. absurd cc); settles = λ s. s; ends = refl; idle = λ differs. absurd (differs refl) })
 put_or_nothing here J text (Err (unsigned.Spent n)) then p = inl (record { ids = p.0.0; due = p.0.1; answer = Err (refused.Spent n); puts = p.1; disk = (λ e. absurd cc, λ e. absurd cc); stopped = (λ e. absurd cc, λ e. absurd cc); settles = λ s. s; ends = refl; idle = λ _ is. absurd cc })
@@ -122,10 +122,10 @@ sign_is_put here s file text ids due =
 -- ---- the call on the node
 
 -- what a node answered over one of two journals that are the same
-signs_at : (here : Setting) (J K : List Record) (text : List ℕ) (done : Result PutDone CheckpointError) (then : List Record) → K ≡ J → Signs here J text done then → Signs here K text done then
-signs_at here J K text done then same = subst (λ (L : List Record). Signs here L text done then) (sym same)
+signs_at : (here : Setting) (J K : List Record) (text : List ℕ) (done : Result PutDone CheckpointError) (then : List Record) → K ≡ J → SignsCheckpoint here J text done then → SignsCheckpoint here K text done then
+signs_at here J K text done then same = subst (λ (L : List Record). SignsCheckpoint here L text done then) (sym same)
 
-module _ {N : Type 0} (g : Ghosts N) (old new : N) (file text : List ℕ) (done : Result PutDone CheckpointError) (running : IsRunning g old) (signs : Signs (g.stands old) (g.records old) text done (g.records new))
+module _ {N : Type 0} (g : Ghosts N) (old new : N) (file text : List ℕ) (done : Result PutDone CheckpointError) (running : IsRunning g old) (signs : SignsCheckpoint (g.stands old) (g.records old) text done (g.records new))
     (call : IsSigningCall g old new text done) where
   -- where the node stands
   abbrev here : Setting
@@ -149,11 +149,11 @@ module _ {N : Type 0} (g : Ghosts N) (old new : N) (file text : List ℕ) (done 
 
   -- ---- the node, whatever came of it
 
-  pub sign_keeps : IsLawful here J → is_empty J ≡ false → OnlyBytes text → (sink : Sinks) (r : Result (Unit {0}) Ending)
+  pub sign_keeps : IsLawful here J → is_empty J ≡ false → OnlyBytes text → (sink : Sinks) (r : Result (Unit {0}) ScriptEnding)
       → (HasNoFault r → IsErrOf done unsigned.Disk → ⊥) → NamesFaults (g.faults old < g.faults new) sink r → Keeps g old new sink r
   sign_keeps lawful some bytes sink r settles names = elim came [
     | inl p ↦ put_keeps g old new changes p.answer running p.puts (as_put p) lawful some (checkpoint_is_change text (opened_is_good here J text p.ids bytes p.due).short) (put_stays_true here.me J changes (checkpoint_gives_none text)) sink r (λ calm failed. settles calm (p.disk.1 failed)) names
-    | inr n ↦ keeps_called g old new sink r (IsErrOf done unsigned.Disk) call.same call.journal.disk (none_in g (is_err r) old new lawful n.same (call.journal.idle n.idle)) (λ calm. runs_on (g.stopped old) running.runs call.journal.stops (settles calm)) settles names
+    | inr n ↦ keeps_called g old new sink r (IsErrOf done unsigned.Disk) call.same call.journal.disk (none_in g (IsErr r) old new lawful n.same (call.journal.idle n.idle)) (λ calm. runs_on (g.stopped old) running.runs call.journal.stops (settles calm)) settles names
   ]
 
   -- ---- what it came to
@@ -192,20 +192,20 @@ module _ {N : Type 0} (g : Ghosts N) (old new : N) (file text : List ℕ) (done 
     others name = inl (unchanged name)
 
     -- no memory was found for what is printed of it
-    pub sign_without_memory : (r : Result (Unit {0}) Ending) → IsErrAnd r (λ e. e ≡ ending.Memory) → sink.after ≡ sink.before → Turns g old new c step shelf sink r
+    pub sign_without_memory : (r : Result (Unit {0}) ScriptEnding) → IsErrAnd r (λ e. e ≡ ending.Memory) → sink.after ≡ sink.before → Turns g old new c step shelf sink r
     sign_without_memory r none same = elim came [
       | inl p ↦ put_without_memory g old new changes p.answer running p.puts (as_put p) counts_now c shelf sink s unchanged at (is_put p.ids p.due) r none same
       | inr n ↦ without_memory g old new c step shelf sink brings.more brings.is (leaves n) others r none (nothing_written sink same)
     ]
 
     -- the disk failed, and it was told, or not
-    pub sign_to_disk : (e : Ending) → IsErrOf done unsigned.Disk → g.faults old < g.faults new → IsFaultTold sink disk_line ending.Disk e → Turns g old new c step shelf sink (Err e)
+    pub sign_to_disk : (e : ScriptEnding) → IsErrOf done unsigned.Disk → g.faults old < g.faults new → IsFaultTold sink disk_line ending.Disk e → Turns g old new c step shelf sink (Err e)
     sign_to_disk e failed rose fault = elim came [
       | inl p ↦ put_to_disk g old new changes p.answer running p.puts (as_put p) counts_now c shelf sink s unchanged at (is_put p.ids p.due) e rose fault
       | inr n ↦ absurd (n.well failed)
     ]
 
-    module _ (ends : Option Ending) (r : Result (Unit {0}) Ending) (o : Option Printed) (p : Printed) (some : o ≡ Some p) (stopped : (o ≡ None) ↔ IsErrOf done unsigned.Disk) (settled : SettlesSign done)
+    module _ (ends : Option ScriptEnding) (r : Result (Unit {0}) ScriptEnding) (o : Option Printed) (p : Printed) (some : o ≡ Some p) (stopped : (o ≡ None) ↔ IsErrOf done unsigned.Disk) (settled : SettlesSign done)
         (prints : PrintsSigning done o) (ends_so : ends ≡ ends_of_sign done) (tells : Tells sink (command_text c p.lines) ends r) where
       -- what is printed are the lines of signing it
       printed : IsPrintOf o (sign_by here s.correct text)

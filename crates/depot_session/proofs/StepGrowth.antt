@@ -11,7 +11,7 @@ use Rattle.depot_script.specs.declared.command.Command.TheVariants as command
 use Rattle.depot_world.specs.Effects.{bundle_by, checkpoint_by}
 use Rattle.depot_world.specs.ScheduleStops.{Effect}
 use Rattle.depot_world.proofs.EffectGrowth.{put_grows, get_grows, hello_grows, bundle_grows, give_grows, receipt_grows, settled_grows, checkpoint_grows, sign_grows}
-use Rattle.depot_session.specs.declared.ending.Ending.{Ending}
+use Rattle.depot_session.specs.declared.ending.ScriptEnding.{ScriptEnding}
 use Rattle.depot_session.specs.Sessions.{Answers, Session, Step, answers_of, bundle_step, bundle_to, export_by, followed_by, shown_by_last, step_of, take_from}
 use Rattle.depot_session.proofs.StepSessions.{checkpoint_session, sign_session, tgive_session, trim_session}
 
@@ -140,7 +140,7 @@ step_reader here sign s (command.Tget key) other = refl
 
 -- ---- a script
 
-followed_grows : (s : Session) (step : Step) (rest : Answers) (o : Option Ending) → IsGrown s.correct.journal step.session.correct.journal → IsGrown step.session.correct.journal rest.session.correct.journal → IsGrown s.correct.journal (followed_by o step rest).session.correct.journal
+followed_grows : (s : Session) (step : Step) (rest : Answers) (o : Option ScriptEnding) → IsGrown s.correct.journal step.session.correct.journal → IsGrown step.session.correct.journal rest.session.correct.journal → IsGrown s.correct.journal (followed_by o step rest).session.correct.journal
 followed_grows s step rest (Some e) one more = one
 followed_grows s step rest None one more = grown_twice s.correct.journal step.session.correct.journal rest.session.correct.journal one more
 

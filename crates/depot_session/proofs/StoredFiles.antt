@@ -9,7 +9,7 @@ use Rattle.depot_model.specs.declared.node_state.NodeState.{Ghosts}
 use Rattle.depot_outside.specs.Told.{Shelves, Sinks, shelves}
 use Rattle.depot_outside.specs.declared.shelf.Shelf as shelf_of
 use Rattle.depot_script.specs.declared.command.Command.{Command}
-use Rattle.depot_session.specs.declared.ending.Ending.{Ending}
+use Rattle.depot_session.specs.declared.ending.ScriptEnding.{ScriptEnding}
 use Rattle.depot_script.specs.declared.command.Command.TheVariants as command
 use Rattle.depot_session.specs.SessionRuns.{IsHandedOut}
 use Rattle.depot_session.specs.Sessions.{Files, Names, Step, StoresAs, stored}
@@ -45,7 +45,7 @@ module _ {N : Type 0} (g : Ghosts N) (old new : N) (c : Command) (step : Step) (
     by_name (inr not) = inl (others other not)
 
   -- bytes were stored and then the lines of the command written, or not
-  pub stored_told : (r : Result (Unit {0}) Ending) → ((other : List ℕ) → step.session.files other ≡ stored shelf.file name bytes other) → IsTrue shelf.tells → Stores shelf sink step.text name bytes r → Turns g old new c step shelf sink r
+  pub stored_told : (r : Result (Unit {0}) ScriptEnding) → ((other : List ℕ) → step.session.files other ≡ stored shelf.file name bytes other) → IsTrue shelf.tells → Stores shelf sink step.text name bytes r → Turns g old new c step shelf sink r
   stored_told (Ok done) files tells st = (goes, record { runs = runs; journal = journal; files = λ other. st.0 tells other ∙ sym (files other); wrote = st.1 })
   stored_told (Err e) files tells (others, inl st) = untold g old new c step shelf sink more brings leaves (others_same others) runs journal (λ other. st.0 tells other ∙ sym (files other)) stable e st.1
   stored_told (Err e) files tells (others, inr (inl idle)) = without_memory g old new c step shelf sink more brings leaves (λ other. inl (idle.0 other)) (Err e) idle.1.0 idle.1.1
@@ -59,7 +59,7 @@ stored_alike files others name bytes more same is other = by_name (bytes_eq othe
   by_name false = same other
 
 -- what was stored after a load was stored on the shelf from before
-pub stored_from : {F : Type 0} (g : shelf_of.Ghosts F) (old mid new : F) (sink : Sinks) (text name bytes : List ℕ) (r : Result (Unit {0}) Ending) → g.tells mid ≡ g.tells old → g.file mid ≡ g.file old → g.failed mid ≡ g.failed old → g.faults mid ≡ g.faults old
+pub stored_from : {F : Type 0} (g : shelf_of.Ghosts F) (old mid new : F) (sink : Sinks) (text name bytes : List ℕ) (r : Result (Unit {0}) ScriptEnding) → g.tells mid ≡ g.tells old → g.file mid ≡ g.file old → g.failed mid ≡ g.failed old → g.faults mid ≡ g.faults old
     → Stores (shelves g mid new) sink text name bytes r → Stores (shelves g old new) sink text name bytes r
 stored_from g old mid new sink text name bytes r told same calm quiet st =
     let alike : shelves g mid new ≡ shelves g old new = λ i. record {

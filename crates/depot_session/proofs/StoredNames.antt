@@ -11,8 +11,8 @@ use Rattle.depot_script.specs.declared.command.Command.{Command}
 use Rattle.depot_script.specs.declared.command.Command.TheVariants as command
 use Rattle.depot_world.specs.Effects.{bundle_by, checkpoint_by, checkpoint_changes}
 use Rattle.depot_world.specs.ScheduleStops.{Effect}
-use Rattle.depot_session.specs.declared.ending.Ending.{Ending}
-use Rattle.depot_session.specs.declared.ending.Ending.TheVariants as ending
+use Rattle.depot_session.specs.declared.ending.ScriptEnding.{ScriptEnding}
+use Rattle.depot_session.specs.declared.ending.ScriptEnding.TheVariants as ending
 use Rattle.depot_session.specs.ScriptTelling.{StoresUnder}
 use Rattle.depot_session.specs.Sessions.{Session, Step, bundle_step, bundle_to, checkpoint_put, checkpoint_step, sign_from, step_of, take_from, tgive_from, tgive_to, trim_from}
 use Rattle.depot_session.proofs.AskedShelves.{ended_so, goes_on_anyhow, stored_none, unstored}
@@ -74,7 +74,7 @@ stores_trace here sign s file = refl
 
 -- A bundle is stored and the run goes on, or nothing is and it ends.
 abbrev pub StoresOrEnds : Step → List ℕ → Type 0
-StoresOrEnds step file = ((step.ending ≡ None) × (step.stores ≡ file ∷ [])) ⊎ ((e : Ending) × ((step.ending ≡ Some e) × (step.stores ≡ [])))
+StoresOrEnds step file = ((step.ending ≡ None) × (step.stores ≡ file ∷ [])) ⊎ ((e : ScriptEnding) × ((step.ending ≡ Some e) × (step.stores ≡ [])))
 
 step_or_ends : (s : Session) (hello file : List ℕ) (d : Effect) (a : BundleAnswer) → StoresOrEnds (bundle_step s hello file d a) file
 step_or_ends s hello file d (bundled b) = inl (refl, refl)
@@ -108,16 +108,16 @@ checkpoint_unless here sign s file = by_made (make_of here s.correct.journal) wh
 
 module _ (old new : List (List ℕ)) where
   -- where it was asked to store under these names
-  stored_as : (some names : List (List ℕ)) (r : Result (Unit {0}) Ending) → some ≡ names → StoresUnder old new names r → StoresUnder old new some r
+  stored_as : (some names : List (List ℕ)) (r : Result (Unit {0}) ScriptEnding) → some ≡ names → StoresUnder old new names r → StoresUnder old new some r
   stored_as some names r is = subst (λ (x : List (List ℕ)). StoresUnder old new x r) (sym is)
 
   -- under none
-  none_new : (r : Result (Unit {0}) Ending) → StoresUnder old new [] r → new ≡ old
+  none_new : (r : Result (Unit {0}) ScriptEnding) → StoresUnder old new [] r → new ≡ old
   none_new (Ok done) is = is ∙ append-nil old
   none_new (Err e) (inl is) = is
   none_new (Err e) (inr is) = is ∙ append-nil old
 
-  module _ (here : Setting) (sign : Signs) (s : Session) (c : Command) (r : Result (Unit {0}) Ending) where
+  module _ (here : Setting) (sign : Signs) (s : Session) (c : Command) (r : Result (Unit {0}) ScriptEnding) where
     -- what the command's step stores, where it is this one
     stored_for : (d : Command) (names : List (List ℕ)) → c ≡ d → (step_of here sign s d).stores ≡ names → StoresUnder old new names r → StoresUnder old new (step_of here sign s c).stores r
     stored_for d names is stores = stored_as (step_of here sign s c).stores names r (ap (λ (x : Command). (step_of here sign s x).stores) is ∙ stores)

@@ -16,8 +16,8 @@ use Rattle.depot_script.specs.declared.command.Command.TheVariants as command
 use Rattle.depot_world.specs.Effects.{fed_by, give_by}
 use Rattle.depot_node_lines.specs.Printing.{IsToldOf, SettlesFeed, lines_of_effect}
 use Rattle.depot_node_lines.specs.declared.feeds.FeedResult.{FeedResult}
-use Rattle.depot_session.specs.declared.ending.Ending.{Ending}
-use Rattle.depot_session.specs.declared.ending.Ending.TheVariants as ending
+use Rattle.depot_session.specs.declared.ending.ScriptEnding.{ScriptEnding}
+use Rattle.depot_session.specs.declared.ending.ScriptEnding.TheVariants as ending
 use Rattle.depot_session.specs.SessionRuns.{disk_line}
 use Rattle.depot_session.specs.Sessions.{Session, Step, absent, command_text, ending_of_take, lines_of_command, step_of, take_from}
 use Rattle.depot_session.specs.ScriptTelling.{IsFaultTold, IsUnchanged, Tells}
@@ -40,7 +40,7 @@ pub of_fed : (fed : Result FeedResult FeedError) (P : Type 0) → SettlesFeed fe
 of_fed fed P settled not p = let whole = is_fed fed settled not in subst (λ (r : Result FeedResult FeedError). IfOk r (λ _. P)) whole.1 p
 
 -- how it ends the run
-pub ends_fed : (fed : Result FeedResult FeedError) (x : Feeding) (ends : Option Ending) → SettlesFeed fed → (IsErrOf fed error.Disk → ⊥) → IfOk fed (λ f. IsToldOf x f) → IfOk fed (λ f. (y : Feeding) → IsToldOf y f → ends ≡ ending_of_take y.closed) → ends ≡ ending_of_take x.closed
+pub ends_fed : (fed : Result FeedResult FeedError) (x : Feeding) (ends : Option ScriptEnding) → SettlesFeed fed → (IsErrOf fed error.Disk → ⊥) → IfOk fed (λ f. IsToldOf x f) → IfOk fed (λ f. (y : Feeding) → IsToldOf y f → ends ≡ ending_of_take y.closed) → ends ≡ ending_of_take x.closed
 ends_fed (Ok f) x ends settled not t e = e x t
 ends_fed (Err e) x ends settled not t h = let whole = is_fed (Err e) settled not in absurd (no_error e whole.0 whole.1) where
   no_error : (e : FeedError) (f : FeedResult) → Err e ≡ Ok f → ⊥
@@ -92,15 +92,15 @@ module _ {N : Type 0} (g : Ghosts N) (counts_now : (v : N) (t : ℕ) (image : Li
   leaves = leaves_front g counts_now old new fed.appends runs fed.left.node.journal.lasts
 
   -- no memory was found behind the call
-  pub taken_without_memory : (sink : Sinks) (r : Result (Unit {0}) Ending) → IsErrAnd r (λ e. e ≡ ending.Memory) → sink.after ≡ sink.before → Turns g old new (command.Take file) taken_step shelf sink r
+  pub taken_without_memory : (sink : Sinks) (r : Result (Unit {0}) ScriptEnding) → IsErrAnd r (λ e. e ≡ ending.Memory) → sink.after ≡ sink.before → Turns g old new (command.Take file) taken_step shelf sink r
   taken_without_memory sink r none same = without_memory g old new (command.Take file) taken_step shelf sink fed.appends (journal ∙ fed.brings) leaves (λ name. inl (unchanged name)) r none (nothing_written sink same)
 
   -- the disk failed in the call
-  pub taken_to_disk : (sink : Sinks) (e : Ending) → g.faults old < g.faults new → IsFaultTold sink disk_line ending.Disk e → Turns g old new (command.Take file) taken_step shelf sink (Err e)
+  pub taken_to_disk : (sink : Sinks) (e : ScriptEnding) → g.faults old < g.faults new → IsFaultTold sink disk_line ending.Disk e → Turns g old new (command.Take file) taken_step shelf sink (Err e)
   taken_to_disk sink = disk_told g old new (command.Take file) taken_step shelf sink fed.appends (journal ∙ fed.brings) leaves (λ name. inl (unchanged name))
 
   -- the stream was taken, and its lines told or not
-  pub taken_told : (sink : Sinks) (ends : Option Ending) (lines : List ℕ) (r : Result (Unit {0}) Ending) → g.stopped new ≡ false → g.records new ≡ (feed_of (g.stands old) (g.records old) stream).journal → ends ≡ ending_of_take (feed_of (g.stands old) (g.records old) stream).closed
+  pub taken_told : (sink : Sinks) (ends : Option ScriptEnding) (lines : List ℕ) (r : Result (Unit {0}) ScriptEnding) → g.stopped new ≡ false → g.records new ≡ (feed_of (g.stands old) (g.records old) stream).journal → ends ≡ ending_of_take (feed_of (g.stands old) (g.records old) stream).closed
       → lines ≡ lines_of_effect (fed_by s.correct (feed_of (g.stands old) (g.records old) stream)) → Tells sink (command_text (command.Take file) lines) ends r → Turns g old new (command.Take file) taken_step shelf sink r
   taken_told sink ends lines r goes grown ends_is lines_is t =
       let here = g.stands old in

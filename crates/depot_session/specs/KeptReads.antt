@@ -10,7 +10,7 @@ use Rattle.depot_traces.specs.SeenTraces as seen
 use Rattle.depot_traces.specs.TraceTexts.{read_text}
 use Rattle.depot_traces.specs.declared.trace.ReadTrace.{ReadTrace}
 use Rattle.depot_world.specs.Audits.{traced_read}
-use Rattle.depot_world.specs.Effects.{read_of}
+use Rattle.depot_world.specs.Effects.{read_at_end}
 use Rattle.depot_session.specs.Sessions.{Session, reads_of_run, step_of}
 
 -- the command hands in a trace
@@ -31,7 +31,7 @@ FitWithin n (Some reads) = AllByRecursion read_text.fits reads × (length reads 
 -- One read more is kept, of a key at the end of a journal, if reads are kept.
 abbrev pub IsOneMore : List Record → List ℕ → Option (List ReadTrace) → Option (List ReadTrace) → Type 0
 IsOneMore J key None new = new ≡ None
-IsOneMore J key (Some old) new = (r : ReadTrace) × ((new ≡ Some (old ++ r ∷ [])) × (read_text.fits r × (seen.read_of r ≡ traced_read (read_of J key))))
+IsOneMore J key (Some old) new = (r : ReadTrace) × ((new ≡ Some (old ++ r ∷ [])) × (read_text.fits r × (seen.read_of r ≡ traced_read (read_at_end J key))))
 
 -- What becomes of the reads that are kept where a command goes on: they are kept or not as before, at most one more is, and they are those of the
 -- run that goes on.

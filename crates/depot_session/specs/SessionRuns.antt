@@ -20,8 +20,8 @@ use Rattle.depot_node.specs.declared.start_error.StartError.TheVariants as refus
 use Rattle.depot_outside.specs.Told.{Disks, HasFailedOn, HasLoaded, Loads, Shelves, Sinks, Wrote, shelves}
 use Rattle.depot_outside.specs.declared.shelf.Shelf as shelf_of
 use Rattle.depot_script.specs.declared.command.Command.{Command}
-use Rattle.depot_session.specs.declared.ending.Ending.{Ending}
-use Rattle.depot_session.specs.declared.ending.Ending.TheVariants as ending
+use Rattle.depot_session.specs.declared.ending.ScriptEnding.{ScriptEnding}
+use Rattle.depot_session.specs.declared.ending.ScriptEnding.TheVariants as ending
 use Rattle.depot_session.specs.Sessions.{Answers, Names, Session, Step, StoresAs, answers_of, loads_given, loads_through, session_from, shelf_line, step_of, stores_through}
 use Rattle.depot_session.specs.ScriptTelling.{Asked, IsFaultTold, IsUnchanged, asked}
 
@@ -29,7 +29,7 @@ use Rattle.depot_session.specs.ScriptTelling.{Asked, IsFaultTold, IsUnchanged, a
 
 -- The records of the image are those of a lawful journal that begins with the records of the file. Its receipts are true where those of
 -- the file are.
-pub record GoesOn (here : Setting) (file image : List ℕ) : Type 0 where
+pub record ContinuesFile (here : Setting) (file image : List ℕ) : Type 0 where
   pub journal : List Record
   pub read : HasRecords journal file
   pub more : List Record
@@ -39,20 +39,20 @@ pub record GoesOn (here : Setting) (file image : List ℕ) : Type 0 where
 
 -- Where the receipts of the file are true, whatever a receipt of the node in the image speaks of stands in it: the update is accepted, and all its
 -- values are held.
-abbrev pub HoldsReceipted : {here : Setting} {file image : List ℕ} → GoesOn here file image → Type 0
+abbrev pub HoldsReceipted : {here : Setting} {file image : List ℕ} → ContinuesFile here file image → Type 0
 HoldsReceipted run = (u : Update) (h : List ℕ) → AreReceiptsTrue run.journal → IsIn u (puts_of (run.journal ++ run.more)) → length h ≡ 32
     → gives_receipt h u ≡ true → HoldsAllOf (run.journal ++ run.more) h
 
 -- What a stop might have left at some moment of the run it might have left before, or it goes on from the file. As it reads afterwards,
 -- the file is such an image.
 pub record KeepsFile (here : Setting) (disk : Disks) : Type 0 where
-  pub images : (image : List ℕ) → disk.left_in_run image → disk.may_leave image ⊎ GoesOn here disk.file image
+  pub images : (image : List ℕ) → disk.left_in_run image → disk.may_leave image ⊎ ContinuesFile here disk.file image
   pub reads : disk.left_in_run disk.file_after
 
 -- ---- the faults by which a run is cut short
 
 -- no memory was found, or the disk failed, or the count of faults of the shelf or the sink rose
-abbrev pub IsCutBy : Type 0 → Shelves → Sinks → Ending → Type 0
+abbrev pub IsCutBy : Type 0 → Shelves → Sinks → ScriptEnding → Type 0
 IsCutBy disk_failed shelf sink ending.Memory = Unit {0}
 IsCutBy disk_failed shelf sink ending.Disk = disk_failed
 IsCutBy disk_failed shelf sink ending.Shelf = shelf.faults_before < shelf.faults_after
@@ -129,7 +129,7 @@ IsToBeWritten next line = (next.stands × (line ≡ next.text)) ⊎ ((next.disk_
 
 -- What stands at last where a run is cut short: the line of a fault of the disk or the shelf, where the sink failed a front of what was to be
 -- written, and without memory nothing.
-abbrev pub IsLast : Pending → Ending → List ℕ → Type 0
+abbrev pub IsLast : Pending → ScriptEnding → List ℕ → Type 0
 IsLast next ending.Disk last = last ≡ disk_line
 IsLast next ending.Shelf last = IsShelfLine next last
 IsLast next ending.Sink last = (last ≡ []) ⊎ ((line : List ℕ) × (IsToBeWritten next line × ((n : ℕ) × (last ≡ take n line))))
@@ -148,7 +148,7 @@ world_at here = record { verifies = here.verifies; listed = here.listed; nodes =
 
 -- The run went as the definition says: the lines, the files, the journal and the ending are those, and a stop leaves that journal. The
 -- node is a correct one with its reads.
-pub record GoesWhole (here : Setting) (a : Answers) (disk : Disks) (shelf : Shelves) (sink : Sinks) (ends : Ending) : Type 0 where
+pub record GoesWhole (here : Setting) (a : Answers) (disk : Disks) (shelf : Shelves) (sink : Sinks) (ends : ScriptEnding) : Type 0 where
   pub ending_is : ends ≡ a.ending
   pub wrote : Wrote sink a.text
   pub files : (name : List ℕ) → shelf.file_after name ≡ a.session.files name
@@ -170,7 +170,7 @@ first_of (c ∷ cs) = c ∷ []
 -- them what stands at last. A stop leaves all records of these commands, and a front of those that the next one brings. The files are those after
 -- these commands, but that what the next one hands out may stand under its name. The node is a correct one with the reads that were told whole.
 pub record GoesShort (here : Setting) (sign : Signs) (J : List Record) (s : Session) (commands : List Command)
-    (disk : Disks) (shelf : Shelves) (sink : Sinks) (ends : Ending) : Type 0 where
+    (disk : Disks) (shelf : Shelves) (sink : Sinks) (ends : ScriptEnding) : Type 0 where
   pub cut : IsCutBy (HasFailed disk) shelf sink ends
   pub done : List Command
   pub rest : List Command
@@ -199,7 +199,7 @@ pub record AsksFirst (first : List (List ℕ)) (calls : Asked) : Type 0 where
 -- the first of these commands ends the run by what it comes to
 abbrev pub IsEndedBy : Setting → Signs → Session → List Command → Type 0
 IsEndedBy here sign s [] = ⊥
-IsEndedBy here sign s (c ∷ cs) = (e : Ending) × ((step_of here sign s c).ending ≡ Some e)
+IsEndedBy here sign s (c ∷ cs) = (e : ScriptEnding) × ((step_of here sign s c).ending ≡ Some e)
 
 -- A script was carried out as its answers say. Some commands went on, and the next one, if there is one, ended the run. Behind the files that were
 -- loaded first the shelf was asked for those that all of these load, and to store what those that went on store: each once and in their order.
@@ -223,23 +223,23 @@ pub record AsksShort (here : Setting) (sign : Signs) (s : Session) (done rest : 
 -- ---- what a run answers
 
 -- the run went as the script's answers from this session say, or it was cut short
-abbrev pub Answered : Setting → Signs → List Record → Session → List Command → (first : List (List ℕ)) → Disks → Shelves → Asked → Sinks → Ending → Type 0
-Answered here sign J s commands first disk shelf calls sink ends =
+abbrev pub RunsAsAnswered : Setting → Signs → List Record → Session → List Command → (first : List (List ℕ)) → Disks → Shelves → Asked → Sinks → ScriptEnding → Type 0
+RunsAsAnswered here sign J s commands first disk shelf calls sink ends =
     (GoesWhole here (answers_of here sign s commands) disk shelf sink ends × AsksWhole here sign s commands first calls) ⊎
     ((short : GoesShort here sign J s commands disk shelf sink ends) × AsksShort here sign s short.done short.rest first calls)
 
 -- Over a lawful journal of this node, or none, under its key: lines, files, journal and ending are those of the definition, and so is what the
 -- shelf was asked for behind the files that were loaded first, or the run is cut short. The reads of earlier sessions go on.
 pub record AnswersScript (here : Setting) (key : PublicKey) (sign : Signs) (commands : List Command) (first : List (List ℕ))
-    (disk : Disks) (shelf : Shelves) (calls : Asked) (sink : Sinks) (ends : Ending) : Type 0 where
+    (disk : Disks) (shelf : Shelves) (calls : Asked) (sink : Sinks) (ends : ScriptEnding) : Type 0 where
   pub over : IsTrue disk.tells → IsTrue shelf.tells → key_of here.listed here.me ≡ Some key → (J : List Record) (reads : List Read)
       → IsLawful here J → HasRecords J disk.file → AreReadsOf J reads
-      → Answered here sign J (session_from here J reads shelf.file) commands first disk shelf calls sink ends
+      → RunsAsAnswered here sign J (session_from here J reads shelf.file) commands first disk shelf calls sink ends
 
 -- ---- a run of a node that doesn't start
 
 -- how the run ends that a start refuses
-abbrev pub ending_of_refusal : StartError → Ending
+abbrev pub ending_of_refusal : StartError → ScriptEnding
 ending_of_refusal refused.Memory = ending.Memory
 ending_of_refusal refused.Disk = ending.Disk
 ending_of_refusal (refused.Damaged at) = ending.NotLawful
@@ -259,7 +259,7 @@ line_of_refusal (refused.NotLawful place fault) = text_of_number (codes "not law
 
 -- A start was refused: the run tells why and ends by it, and no file has changed. Where it is for what the key, the roster or the journal is, the
 -- disk's file reads as before, too.
-pub record IsRefused (here : Setting) (key : PublicKey) (disk : Disks) (shelf : Shelves) (sink : Sinks) (ends : Ending) : Type 0 where
+pub record IsStartRefused (here : Setting) (key : PublicKey) (disk : Disks) (shelf : Shelves) (sink : Sinks) (ends : ScriptEnding) : Type 0 where
   pub error : StartError
   pub is : IsNotStarted here key (IsTrue disk.tells) disk.file error
   pub told : IsFaultTold sink (line_of_refusal error) (ending_of_refusal error) ends
@@ -268,21 +268,21 @@ pub record IsRefused (here : Setting) (key : PublicKey) (disk : Disks) (shelf : 
   pub files : IsUnchanged shelf
 
 -- The node started: the roster has its key for it, and the file has a lawful journal.
-pub record IsStarted (here : Setting) (key : PublicKey) (disk : Disks) (ends : Ending) : Type 0 where
+pub record IsNodeStarted (here : Setting) (key : PublicKey) (disk : Disks) (ends : ScriptEnding) : Type 0 where
   pub keyed : key_of here.listed here.me ≡ Some key
   pub journal : IsTrue disk.tells → (J : List Record) × (IsLawful here J × HasRecords J disk.file)
   pub is_no_refusal : ends ≢ ending.NotLawful
 
 -- A run begins: the node is refused, and the shelf is asked for no file but those that were loaded first, or it starts.
-abbrev pub Begins : Setting → PublicKey → (first : List (List ℕ)) → Disks → Shelves → Asked → Sinks → Ending → Type 0
-Begins here key first disk shelf calls sink ends = (IsRefused here key disk shelf sink ends × AsksFirst first calls) ⊎ IsStarted here key disk ends
+abbrev pub RunBegins : Setting → PublicKey → (first : List (List ℕ)) → Disks → Shelves → Asked → Sinks → ScriptEnding → Type 0
+RunBegins here key first disk shelf calls sink ends = (IsStartRefused here key disk shelf sink ends × AsksFirst first calls) ⊎ IsNodeStarted here key disk ends
 
 -- ---- a run by a signer, over a shelf as it is before it and after it, of which no file was loaded first
 
-abbrev pub BeginsBy : {G S F : Type 0} → signer_of.Ghosts G S → G → Setting → Disks → shelf_of.Ghosts F → F → F → Sinks → Ending → Type 0
-BeginsBy g signer here disk f before after sink ends = Begins here (g.key_of signer) [] disk (shelves f before after) (asked f before after) sink ends
+abbrev pub BeginsBy : {G S F : Type 0} → signer_of.Ghosts G S → G → Setting → Disks → shelf_of.Ghosts F → F → F → Sinks → ScriptEnding → Type 0
+BeginsBy g signer here disk f before after sink ends = RunBegins here (g.key_of signer) [] disk (shelves f before after) (asked f before after) sink ends
 
-abbrev pub AnswersBy : {G S F : Type 0} → signer_of.Ghosts G S → G → Setting → List Command → Disks → shelf_of.Ghosts F → F → F → Sinks → Ending → Type 0
+abbrev pub AnswersBy : {G S F : Type 0} → signer_of.Ghosts G S → G → Setting → List Command → Disks → shelf_of.Ghosts F → F → F → Sinks → ScriptEnding → Type 0
 AnswersBy g signer here commands disk f before after sink ends =
     AnswersScript here (g.key_of signer) (g.signature_of signer) commands [] disk (shelves f before after) (asked f before after) sink ends
 

@@ -27,8 +27,8 @@ use Rattle.depot_world.specs.ScheduleStops.{Effect}
 use Rattle.depot_world.specs.Transcript.{answer_of_reader}
 use Rattle.depot_node_lines.specs.Printing.{lines_of_effect}
 use Rattle.depot_node.specs.Starting.{started}
-use Rattle.depot_session.specs.declared.ending.Ending.{Ending}
-use Rattle.depot_session.specs.declared.ending.Ending.TheVariants as ending
+use Rattle.depot_session.specs.declared.ending.ScriptEnding.{ScriptEnding}
+use Rattle.depot_session.specs.declared.ending.ScriptEnding.TheVariants as ending
 
 -- ---- the session
 
@@ -71,7 +71,7 @@ pub record Step : Type 0 where
   pub text : List ℕ
   pub stores : List (List ℕ)
   pub session : Session
-  pub ending : Option Ending
+  pub ending : Option ScriptEnding
 
 -- how many of a command's words are printed: all but a value
 abbrev pub printed_count : Command → ℕ
@@ -89,7 +89,7 @@ abbrev pub lines_of_command : Command → Effect → List ℕ
 lines_of_command c d = command_text c (lines_of_effect d)
 
 -- a command that a node carries out
-abbrev pub carried_out : Session → Command → Effect → Option Ending → Step
+abbrev pub carried_out : Session → Command → Effect → Option ScriptEnding → Step
 carried_out s c d ends = record {
   text = lines_of_command c d;
   stores = [];
@@ -150,34 +150,34 @@ absent s name = record { text = shelf_line name; stores = []; session = s; endin
 
 -- ---- how a command ends the run
 
-abbrev pub ending_of_put : Option Limit → Option Ending
+abbrev pub ending_of_put : Option Limit → Option ScriptEnding
 ending_of_put None = None
 ending_of_put (Some limit) = Some ending.Limit
 
 -- a receipt that isn't given ends nothing
-abbrev pub ending_of_receipt : Option NoReceipt → Option Limit → Option Ending
+abbrev pub ending_of_receipt : Option NoReceipt → Option Limit → Option ScriptEnding
 ending_of_receipt (Some why) limit = None
 ending_of_receipt None limit = ending_of_put limit
 
-abbrev pub ending_of_bundle : BundleAnswer → Option Ending
+abbrev pub ending_of_bundle : BundleAnswer → Option ScriptEnding
 ending_of_bundle (bundled b) = None
 ending_of_bundle (bad_hello at) = Some ending.Input
 ending_of_bundle (other_roster given) = Some ending.Identity
 ending_of_bundle (limited limit) = Some ending.Limit
 
-abbrev pub ending_of_take : Option Closing → Option Ending
+abbrev pub ending_of_take : Option Closing → Option ScriptEnding
 ending_of_take None = None
 ending_of_take (Some (ill_formed at)) = Some ending.Input
 ending_of_take (Some (out_of_room what)) = Some ending.Limit
 
 -- a checkpoint that isn't made ends nothing; the put of one that is made ends the run where it meets a limit
-abbrev pub ending_of_sign : Option Limit → Opened → Option Ending
+abbrev pub ending_of_sign : Option Limit → Opened → Option ScriptEnding
 ending_of_sign limit (ill_at at) = Some ending.Input
 ending_of_sign limit (of_roster given) = Some ending.Identity
 ending_of_sign limit (with_unknown id) = None
 ending_of_sign limit (opened ids) = ending_of_put limit
 
-abbrev pub ending_of_trim : TrimAnswer → Option Ending
+abbrev pub ending_of_trim : TrimAnswer → Option ScriptEnding
 ending_of_trim (unopened (ill_at at)) = Some ending.Input
 ending_of_trim (unopened (of_roster given)) = Some ending.Identity
 ending_of_trim (unopened (with_unknown id)) = None
@@ -186,7 +186,7 @@ ending_of_trim (unsigned node) = None
 ending_of_trim (reading R) = None
 
 -- a stream for which a reader has no room ends the run; nothing else of it does
-abbrev pub ending_of_tgive : Option Full → Option Ending
+abbrev pub ending_of_tgive : Option Full → Option ScriptEnding
 ending_of_tgive None = None
 ending_of_tgive (Some what) = Some ending.Limit
 
@@ -246,12 +246,12 @@ reader_after before (reading R) = Some R
 reader_after before other = before
 
 -- another reader is the last one made
-abbrev pub with_reader : Option Reader → Step → Step
-with_reader reader step = record step { session = record step.session { reader = reader } }
+abbrev pub step_with_reader : Option Reader → Step → Step
+step_with_reader reader step = record step { session = record step.session { reader = reader } }
 
 abbrev pub trim_step : Session → List ℕ → TrimAnswer → Step
 trim_step s file answer =
-    with_reader (reader_after s.reader answer) (carried_out s (command.Trim file) (idle s.correct (text_of_trim answer)) (ending_of_trim answer))
+    step_with_reader (reader_after s.reader answer) (carried_out s (command.Trim file) (idle s.correct (text_of_trim answer)) (ending_of_trim answer))
 
 -- a reader is made by the text in a file, which may be absent
 abbrev pub trim_from : Setting → Session → List ℕ → Option (List ℕ) → Step
@@ -263,7 +263,7 @@ abbrev pub silent : Correct → Effect
 silent c = record { journal = c.journal; reads = c.reads; calls = 0; answer = []; behind = []; bytes = [] }
 
 abbrev pub tgive_step : Session → List ℕ → ReaderFeed → Step
-tgive_step s file fed = with_reader (Some fed.reader) (carried_out s (command.Tgive file) (idle s.correct (text_of_reader_feed fed)) (ending_of_tgive fed.full))
+tgive_step s file fed = step_with_reader (Some fed.reader) (carried_out s (command.Tgive file) (idle s.correct (text_of_reader_feed fed)) (ending_of_tgive fed.full))
 
 -- a reader takes the stream in a file, which may be absent
 abbrev pub tgive_from : Session → List ℕ → Reader → Option (List ℕ) → Step
@@ -313,10 +313,10 @@ step_of here sign s (command.Tget key) = carried_out s (command.Tget key) (shown
 pub record Answers : Type 0 where
   pub text : List ℕ
   pub session : Session
-  pub ending : Ending
+  pub ending : ScriptEnding
 
 -- a step that ends the run or not, and what comes behind it
-abbrev pub followed_by : Option Ending → Step → Answers → Answers
+abbrev pub followed_by : Option ScriptEnding → Step → Answers → Answers
 followed_by (Some ends) step rest = record { text = step.text; session = step.session; ending = ends }
 followed_by None step rest = record { text = step.text ++ rest.text; session = rest.session; ending = rest.ending }
 

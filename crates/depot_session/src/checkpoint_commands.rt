@@ -14,7 +14,7 @@ ghost use Rattle.depot_session.specs.Sessions as sessions;
 ghost use Rattle.depot_session.specs.ScriptTelling.{TellsShelf};
 ghost use Rattle.depot_session.specs.Turns.{IsRunning, IsSomebodys, Keeps, KeepsLast, KeepsReader, StoresAt, TurnsOn, TurnsReading, TurnsReadingAnywhere, ends_of_put, ends_of_sign, ends_of_trim};
 
-use crate::ending::Ending;
+use crate::ending::ScriptEnding;
 use crate::last_reader::LastReader;
 use crate::telling::{disk_failed, load, no_file, store_and_tell, tell};
 use depot_base::{Bytes, Changes, Key, Memory, Value};
@@ -45,12 +45,12 @@ fn checkpoint_changes(alloc: Global, text: &Bytes) -> Result<Changes, Memory>
 }
 
 /// How a put ends the run, where the node answers neither for want of memory nor for its disk.
-fn ending_of_put(done: &Result<PutDone, PutError>) -> Option<Ending>
+fn ending_of_put(done: &Result<PutDone, PutError>) -> Option<ScriptEnding>
     ensures { result ≡ ends_of_put done.now }
 {
     match done {
         Ok(_) => None,
-        Err(_) => Some(Ending::Limit),
+        Err(_) => Some(ScriptEnding::Limit),
     }
 }
 
@@ -62,7 +62,7 @@ pub fn checkpoint<R: LocalNode, F: Shelf, K: Sink>(
     file: &FileName,
     shelf: &mut F,
     out: &mut K,
-) -> Result<(), Ending>
+) -> Result<(), ScriptEnding>
     requires command { command.now ≡ Command.Checkpoint file.now }
     requires running { IsRunning R.NodeState node.old }
     ensures keeps { Keeps R.NodeState node.old node.new (sinks K.Sink out.old out.new) result }
@@ -91,7 +91,7 @@ fn put_checkpoint<R: LocalNode, F: Shelf, K: Sink>(
     file: &FileName,
     shelf: &mut F,
     out: &mut K,
-) -> Result<(), Ending>
+) -> Result<(), ScriptEnding>
     requires made { make_of (R.stands node.old) (R.records node.old) ≡ made_text text }
     requires command { command.now ≡ Command.Checkpoint file.now }
     requires running { IsRunning R.NodeState node.old }
@@ -124,14 +124,14 @@ fn put_checkpoint<R: LocalNode, F: Shelf, K: Sink>(
 }
 
 /// How signing ends the run, where the node answers neither for want of memory nor for its disk.
-fn ending_of_sign(done: &Result<PutDone, CheckpointError>) -> Option<Ending>
+fn ending_of_sign(done: &Result<PutDone, CheckpointError>) -> Option<ScriptEnding>
     ensures { result ≡ ends_of_sign done.now }
 {
     match done {
         Ok(_) | Err(CheckpointError::Unknown(_)) => None,
-        Err(CheckpointError::IllFormed(_)) => Some(Ending::Input),
-        Err(CheckpointError::OtherRoster { .. }) => Some(Ending::Identity),
-        Err(_) => Some(Ending::Limit),
+        Err(CheckpointError::IllFormed(_)) => Some(ScriptEnding::Input),
+        Err(CheckpointError::OtherRoster { .. }) => Some(ScriptEnding::Identity),
+        Err(_) => Some(ScriptEnding::Limit),
     }
 }
 
@@ -150,7 +150,7 @@ pub fn sign<R: LocalNode, F: Shelf, K: Sink>(
     file: &FileName,
     shelf: &mut F,
     out: &mut K,
-) -> Result<(), Ending>
+) -> Result<(), ScriptEnding>
     requires command { command.now ≡ Command.Sign file.now }
     requires running { IsRunning R.NodeState node.old }
     ensures keeps { Keeps R.NodeState node.old node.new (sinks K.Sink out.old out.new) result }
@@ -177,12 +177,12 @@ pub fn sign<R: LocalNode, F: Shelf, K: Sink>(
 // ---- readers
 
 /// How a trim ends the run, where memory was found.
-fn ending_of_trim<S: Scheme>(made: &Result<Trimmed<S>, TrimError>) -> Option<Ending>
+fn ending_of_trim<S: Scheme>(made: &Result<Trimmed<S>, TrimError>) -> Option<ScriptEnding>
     ensures { result ≡ ends_of_trim made.now }
 {
     match made {
-        Err(TrimError::IllFormed(_)) => Some(Ending::Input),
-        Err(TrimError::OtherRoster { .. }) => Some(Ending::Identity),
+        Err(TrimError::IllFormed(_)) => Some(ScriptEnding::Input),
+        Err(TrimError::OtherRoster { .. }) => Some(ScriptEnding::Identity),
         _ => None,
     }
 }
@@ -196,7 +196,7 @@ pub fn trim<S: Scheme + Copy, R: LocalNode<Of = S>, F: Shelf, K: Sink>(
     last: &mut LastReader<'_, S>,
     shelf: &mut F,
     out: &mut K,
-) -> Result<(), Ending>
+) -> Result<(), ScriptEnding>
     requires command { command.now ≡ Command.Trim file.now }
     requires running { IsRunning R.NodeState node.now }
     requires reader { IsSomebodys S.verifies last.old.made }
@@ -236,12 +236,12 @@ fn empty_line(alloc: Global) -> Result<Bytes, Memory>
 }
 
 /// How a stream that a reader takes ends the run.
-fn ending_of_tgive(told: &ReaderFeedResult) -> Option<Ending>
+fn ending_of_tgive(told: &ReaderFeedResult) -> Option<ScriptEnding>
     ensures { result ≡ sessions.ending_of_tgive told.now.full }
 {
     match told.full {
         None => None,
-        Some(_) => Some(Ending::Limit),
+        Some(_) => Some(ScriptEnding::Limit),
     }
 }
 
@@ -254,7 +254,7 @@ pub fn tgive<S: Scheme + Copy, R: LocalNode<Of = S>, F: Shelf, K: Sink>(
     last: &mut LastReader<'_, S>,
     shelf: &mut F,
     out: &mut K,
-) -> Result<(), Ending>
+) -> Result<(), ScriptEnding>
     requires command { command.now ≡ Command.Tgive file.now }
     requires running { IsRunning R.NodeState node.now }
     requires reader { IsSomebodys S.verifies last.old.made }
@@ -304,7 +304,7 @@ pub fn tget<S: Scheme + Copy, R: LocalNode<Of = S>, K: Sink>(
     key: &Key,
     last: &LastReader<'_, S>,
     out: &mut K,
-) -> Result<(), Ending>
+) -> Result<(), ScriptEnding>
     requires command { command.now ≡ Command.Tget key.now }
     requires running { IsRunning R.NodeState node.now }
     requires reader { IsSomebodys S.verifies last.now.made }

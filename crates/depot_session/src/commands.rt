@@ -21,7 +21,7 @@ ghost use Rattle.depot_session.specs.ScriptTelling.{StoresUnder, TellsShelf};
 ghost use Rattle.depot_session.specs.Turns.{EndsByBundle, EndsUnstored, IsRunning, IsSomebodys, Keeps, KeepsLast, StoresAt, TurnsAnywhere, TurnsInRun, TurnsOn, TurnsTracing, ends_of_receipt};
 
 use crate::checkpoint_commands::{checkpoint, sign, tget, tgive, trim};
-use crate::ending::Ending;
+use crate::ending::ScriptEnding;
 use crate::kept_reads::{keep, kept};
 use crate::last_reader::LastReader;
 use crate::telling::{disk_failed, load, no_file, store_and_tell, tell};
@@ -48,7 +48,7 @@ fn put<R: LocalNode, K: Sink>(
     command: &Command,
     changes: Changes,
     out: &mut K,
-) -> Result<(), Ending>
+) -> Result<(), ScriptEnding>
     requires command { IsPut command.now changes }
     requires changes { AreChanges changes }
     requires plain { WriteNoReceipts changes }
@@ -60,7 +60,7 @@ fn put<R: LocalNode, K: Sink>(
     let done = node.put_all(changes);
     let ends = match &done {
         Ok(_) => None,
-        Err(_) => Some(Ending::Limit),
+        Err(_) => Some(ScriptEnding::Limit),
     };
     match put_printed(alloc, done)? {
         Some(printed) => tell(alloc, command, &printed.lines, ends, out),
@@ -83,7 +83,7 @@ fn put_value<R: LocalNode, K: Sink>(
     key: &Key,
     value: &Value,
     out: &mut K,
-) -> Result<(), Ending>
+) -> Result<(), ScriptEnding>
     requires command { command.now ≡ Command.Put key.now value.now }
     requires fits { FitsCommand command.now }
     requires running { IsRunning R.NodeState node.old }
@@ -102,7 +102,7 @@ fn put_changes<R: LocalNode, K: Sink>(
     command: &Command,
     changes: &Changes,
     out: &mut K,
-) -> Result<(), Ending>
+) -> Result<(), ScriptEnding>
     requires command { command.now ≡ Command.Puts changes.now }
     requires fits { FitsCommand command.now }
     requires running { IsRunning R.NodeState node.old }
@@ -122,7 +122,7 @@ fn get<R: LocalNode, K: Sink>(
     key: &Key,
     reads: &mut Option<Reads>,
     out: &mut K,
-) -> Result<(), Ending>
+) -> Result<(), ScriptEnding>
     requires command { command.now ≡ Command.Get key.now }
     requires running { IsRunning R.NodeState node.now }
     ensures keeps { Keeps R.NodeState node.now node.now (sinks K.Sink out.old out.new) result }
@@ -145,12 +145,12 @@ fn one_id(alloc: Global, id: &Hash32) -> Result<Ids, Memory>
 }
 
 /// How receipts end the run, where the node answers neither for want of memory nor for its disk: only by a limit.
-fn ending_of_receipt(done: &Result<PutDone, GiveError>) -> Option<Ending>
+fn ending_of_receipt(done: &Result<PutDone, GiveError>) -> Option<ScriptEnding>
     ensures { result ≡ ends_of_receipt done.now }
 {
     match done {
         Ok(_) | Err(GiveError::Unknown(_)) | Err(GiveError::NoValue(_)) => None,
-        Err(_) => Some(Ending::Limit),
+        Err(_) => Some(ScriptEnding::Limit),
     }
 }
 
@@ -161,7 +161,7 @@ fn give_receipt<R: LocalNode, K: Sink>(
     command: &Command,
     id: &Hash32,
     out: &mut K,
-) -> Result<(), Ending>
+) -> Result<(), ScriptEnding>
     requires command { command.now ≡ Command.Receipt id.now }
     requires fits { FitsCommand command.now }
     requires running { IsRunning R.NodeState node.old }
@@ -186,7 +186,7 @@ fn tell_settled<R: LocalNode, K: Sink>(
     id: &Hash32,
     k: u32,
     out: &mut K,
-) -> Result<(), Ending>
+) -> Result<(), ScriptEnding>
     requires command { command.now ≡ Command.Settled id.now k }
     requires running { IsRunning R.NodeState node.now }
     ensures keeps { Keeps R.NodeState node.now node.now (sinks K.Sink out.old out.new) result }
@@ -206,7 +206,7 @@ fn say_hello<R: LocalNode, F: Shelf, K: Sink>(
     file: &FileName,
     shelf: &mut F,
     out: &mut K,
-) -> Result<(), Ending>
+) -> Result<(), ScriptEnding>
     requires command { command.now ≡ Command.Hello file.now }
     requires running { IsRunning R.NodeState node.now }
     ensures keeps { Keeps R.NodeState node.now node.now (sinks K.Sink out.old out.new) result }
@@ -224,15 +224,15 @@ fn say_hello<R: LocalNode, F: Shelf, K: Sink>(
 }
 
 /// How a bundle ends the run, where the node answers neither for want of memory nor for its disk.
-fn ending_of_bundle(made: &Result<Bundled, BundleError>) -> Option<Ending>
+fn ending_of_bundle(made: &Result<Bundled, BundleError>) -> Option<ScriptEnding>
     ensures goes_on { (result ≡ None) ↔ IsTrue (is_ok made.now) }
     ensures ends { EndsByBundle made.now result }
 {
     match made {
         Ok(_) => None,
-        Err(BundleError::IllFormed(_)) => Some(Ending::Input),
-        Err(BundleError::OtherRoster { .. }) => Some(Ending::Identity),
-        Err(_) => Some(Ending::Limit),
+        Err(BundleError::IllFormed(_)) => Some(ScriptEnding::Input),
+        Err(BundleError::OtherRoster { .. }) => Some(ScriptEnding::Identity),
+        Err(_) => Some(ScriptEnding::Limit),
     }
 }
 
@@ -245,7 +245,7 @@ fn make_bundle<R: LocalNode, F: Shelf, K: Sink>(
     file: &FileName,
     shelf: &mut F,
     out: &mut K,
-) -> Result<(), Ending>
+) -> Result<(), ScriptEnding>
     requires command { command.now ≡ Command.Bundle hello.now file.now }
     requires running { IsRunning R.NodeState node.old }
     ensures keeps { Keeps R.NodeState node.old node.new (sinks K.Sink out.old out.new) result }
@@ -280,7 +280,7 @@ fn make_bundle<R: LocalNode, F: Shelf, K: Sink>(
 }
 
 /// How a stream ends the run, where the node answers neither for want of memory nor for its disk.
-fn ending_of_take(fed: &Result<FeedResult, FeedError>) -> Option<Ending>
+fn ending_of_take(fed: &Result<FeedResult, FeedError>) -> Option<ScriptEnding>
     ensures ends { IfOk fed.now (λ told. (s : Feeding) → IsToldOf s told → result ≡ sessions.ending_of_take s.closed) }
     ensures failed { IfErr fed.now (λ _. result ≡ None) }
 {
@@ -290,13 +290,13 @@ fn ending_of_take(fed: &Result<FeedResult, FeedError>) -> Option<Ending>
                 closing: Some(Closing::IllFormed(_)),
                 ..
             },
-        ) => Some(Ending::Input),
+        ) => Some(ScriptEnding::Input),
         Ok(
             FeedResult {
                 closing: Some(Closing::Full(_)),
                 ..
             },
-        ) => Some(Ending::Limit),
+        ) => Some(ScriptEnding::Limit),
         _ => None,
     }
 }
@@ -309,7 +309,7 @@ fn take<R: LocalNode, F: Shelf, K: Sink>(
     file: &FileName,
     shelf: &mut F,
     out: &mut K,
-) -> Result<(), Ending>
+) -> Result<(), ScriptEnding>
     requires command { command.now ≡ Command.Take file.now }
     requires running { IsRunning R.NodeState node.old }
     ensures keeps { Keeps R.NodeState node.old node.new (sinks K.Sink out.old out.new) result }
@@ -350,7 +350,7 @@ fn export<R: LocalNode, F: Shelf, K: Sink>(
     reads: &[ReadTrace],
     shelf: &mut F,
     out: &mut K,
-) -> Result<(), Ending>
+) -> Result<(), ScriptEnding>
     requires command { command.now ≡ Command.Export file.now }
     requires running { IsRunning R.NodeState node.now }
     requires few { length reads.now ≤ MOST_READS }
@@ -378,7 +378,7 @@ pub fn carry_out<S: Scheme + Copy, R: LocalNode<Of = S>, F: Shelf, K: Sink>(
     last: &mut LastReader<'_, S>,
     shelf: &mut F,
     out: &mut K,
-) -> Result<(), Ending>
+) -> Result<(), ScriptEnding>
     requires fits { FitsCommand command.now }
     requires running { IsRunning R.NodeState node.old }
     requires reader { IsSomebodys S.verifies last.old.made }

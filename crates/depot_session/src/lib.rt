@@ -27,6 +27,6 @@ mod session_laws;
 mod telling;
 mod whole_script;
 
-pub use ending::Ending;
+pub use ending::ScriptEnding;
 pub use running::run;
 pub use session_laws::images_hold_what_receipts_speak_of;

@@ -8,9 +8,9 @@ ghost use Rattle.depot_outside.specs.Told.{disks, loads, sinks};
 ghost use Rattle.depot_script.specs.Scripts.{IsScript};
 ghost use Rattle.depot_session.specs.SessionRuns.{AnswersBy, BeginsBy, KeepsFile, LoadsFiles, Settles, ending_of_refusal, line_of_refusal};
 ghost use Rattle.depot_session.specs.ScriptTelling.{IsFaultTold, TellsShelf};
-ghost use Rattle.depot_session.specs.Turns.{ending_by};
+ghost use Rattle.depot_session.specs.Turns.{ending_of_result};
 
-use crate::ending::Ending;
+use crate::ending::ScriptEnding;
 use crate::telling::write;
 use crate::whole_script::play;
 use depot_answers::{numbered, record_fault};
@@ -63,29 +63,29 @@ fn refusal_line(alloc: Global, error: &StartError) -> Result<Bytes, Memory>
 }
 
 /// How the run ends that a start refuses.
-fn ending_of(error: &StartError) -> Ending
+fn ending_of(error: &StartError) -> ScriptEnding
     ensures { result ≡ ending_of_refusal error.now }
 {
     match error {
-        StartError::Memory => Ending::Memory,
-        StartError::Disk => Ending::Disk,
-        StartError::Damaged(_) | StartError::NotLawful { .. } => Ending::NotLawful,
+        StartError::Memory => ScriptEnding::Memory,
+        StartError::Disk => ScriptEnding::Disk,
+        StartError::Damaged(_) | StartError::NotLawful { .. } => ScriptEnding::NotLawful,
         StartError::UnknownMe
         | StartError::OtherKey { .. }
         | StartError::OtherNode(_)
-        | StartError::OtherRoster { .. } => Ending::Identity,
+        | StartError::OtherRoster { .. } => ScriptEnding::Identity,
     }
 }
 
 /// Tells why a node isn't started.
-fn refused<K: Sink>(alloc: Global, error: &StartError, out: &mut K) -> Ending
+fn refused<K: Sink>(alloc: Global, error: &StartError, out: &mut K) -> ScriptEnding
     ensures told { IsFaultTold (sinks K.Sink out.old out.new) (line_of_refusal error.now) (ending_of_refusal error.now) result }
     ensures same { K.tells out.new ≡ K.tells out.old }
     ensures later { K.faults out.old ≤ K.faults out.new }
-    ensures only { K.faults out.old < K.faults out.new → result ≡ Ending.Sink }
+    ensures only { K.faults out.old < K.faults out.new → result ≡ ScriptEnding.Sink }
 {
     let Ok(line) = refusal_line(alloc, error) else {
-        return Ending::Memory;
+        return ScriptEnding::Memory;
     };
     match write(out, line.as_slice()) {
         Ok(()) => ending_of(error),
@@ -104,15 +104,15 @@ fn is_formed(roster: &Roster)
 #[derive(Drop)]
 struct Ran<D> {
     disk: D,
-    ending: Ending,
+    ending: ScriptEnding,
 }
 
 /// How a script ended.
-fn ended(played: Result<(), Ending>) -> Ending
-    ensures { result ≡ ending_by played }
+fn ended(played: Result<(), ScriptEnding>) -> ScriptEnding
+    ensures { result ≡ ending_of_result played }
 {
     match played {
-        Ok(()) => Ending::Done,
+        Ok(()) => ScriptEnding::Done,
         Err(ending) => ending,
     }
 }
@@ -131,17 +131,17 @@ fn run_over<D: Disk, F: Shelf, K: Sink, S: Scheme + Copy, G: Signer<Of = S>>(
 ) -> Ran<D>
     requires script { IsScript script.now }
     ensures file { IsTrue (D.tells disk) → KeepsFile (placed S.verifies me roster) (disks D.Disk disk result.disk) }
-    ensures stable { IsTrue (D.tells disk) → (result.ending ≡ Ending.Done) ⊎ (result.ending ≡ Ending.Limit) → Settles (placed S.verifies me roster) (disks D.Disk disk result.disk) }
+    ensures stable { IsTrue (D.tells disk) → (result.ending ≡ ScriptEnding.Done) ⊎ (result.ending ≡ ScriptEnding.Limit) → Settles (placed S.verifies me roster) (disks D.Disk disk result.disk) }
     ensures untouched { (key_of roster me ≡ Some (G.key_of signer) → ⊥) → result.disk ≡ disk }
     ensures begins { BeginsBy G.Signer signer (placed S.verifies me roster) (disks D.Disk disk result.disk) F.Shelf shelf.old shelf.new (sinks K.Sink out.old out.new) result.ending }
     ensures answers { AnswersBy G.Signer signer (placed S.verifies me roster) script.now (disks D.Disk disk result.disk) F.Shelf shelf.old shelf.new (sinks K.Sink out.old out.new) result.ending }
-    ensures disk_failed { result.ending ≡ Ending.Disk → D.faults disk < D.faults result.disk }
+    ensures disk_failed { result.ending ≡ ScriptEnding.Disk → D.faults disk < D.faults result.disk }
     ensures disk_later { D.faults disk ≤ D.faults result.disk }
-    ensures disk_fault { D.faults disk < D.faults result.disk → (result.ending ≡ Ending.Disk) ⊎ ((result.ending ≡ Ending.Sink) ⊎ (result.ending ≡ Ending.Memory)) }
+    ensures disk_fault { D.faults disk < D.faults result.disk → (result.ending ≡ ScriptEnding.Disk) ⊎ ((result.ending ≡ ScriptEnding.Sink) ⊎ (result.ending ≡ ScriptEnding.Memory)) }
     ensures same_disk { D.tells result.disk ≡ D.tells disk }
     ensures handle { D.handle result.disk ≡ D.handle disk }
-    ensures sink_failed { result.ending ≡ Ending.Sink → K.faults out.old < K.faults out.new }
-    ensures sink_fault { K.faults out.old < K.faults out.new → result.ending ≡ Ending.Sink }
+    ensures sink_failed { result.ending ≡ ScriptEnding.Sink → K.faults out.old < K.faults out.new }
+    ensures sink_fault { K.faults out.old < K.faults out.new → result.ending ≡ ScriptEnding.Sink }
     ensures sink_later { K.faults out.old ≤ K.faults out.new }
     ensures same_sink { K.tells out.new ≡ K.tells out.old }
     ensures loads { LoadsFiles script.now (loads F.Shelf shelf.old shelf.new) }
@@ -187,13 +187,13 @@ pub fn run<D: Disk, F: Shelf, K: Sink, S: Scheme + Copy, G: Signer<Of = S>>(
     script: &Script,
     shelf: &mut F,
     out: &mut K,
-) -> Ending
+) -> ScriptEnding
     // The script has a text: `parse_script` gives no other.
     requires script { IsScript script.now }
     // What a stop at any moment of the run leaves on the disk it left before, or it is a lawful journal that begins with the one that was
     // there; where the script ended or met a limit, all that it leaves afterwards is one such journal.
     ensures file { IsTrue (D.tells disk.old) → KeepsFile (placed S.verifies me roster) (disks D.Disk disk.old disk.new) }
-    ensures stable { IsTrue (D.tells disk.old) → (result ≡ Ending.Done) ⊎ (result ≡ Ending.Limit) → Settles (placed S.verifies me roster) (disks D.Disk disk.old disk.new) }
+    ensures stable { IsTrue (D.tells disk.old) → (result ≡ ScriptEnding.Done) ⊎ (result ≡ ScriptEnding.Limit) → Settles (placed S.verifies me roster) (disks D.Disk disk.old disk.new) }
 
     // The node is refused, for its key, its roster or its journal, and then the shelf is asked for nothing, or it starts. The disk isn't touched
     // where the roster hasn't its key.
@@ -209,10 +209,10 @@ pub fn run<D: Disk, F: Shelf, K: Sink, S: Scheme + Copy, G: Signer<Of = S>>(
 
     // A fault of the disk or the sink is answered only where its count rose, which never falls. Where that of the sink rose nothing else is, and
     // where that of the disk rose, nothing but Disk, Sink or Memory.
-    ensures disk_failed { result ≡ Ending.Disk → D.faults disk.old < D.faults disk.new }
-    ensures sink_failed { result ≡ Ending.Sink → K.faults out.old < K.faults out.new }
-    ensures disk_fault { D.faults disk.old < D.faults disk.new → (result ≡ Ending.Disk) ⊎ ((result ≡ Ending.Sink) ⊎ (result ≡ Ending.Memory)) }
-    ensures sink_fault { K.faults out.old < K.faults out.new → result ≡ Ending.Sink }
+    ensures disk_failed { result ≡ ScriptEnding.Disk → D.faults disk.old < D.faults disk.new }
+    ensures sink_failed { result ≡ ScriptEnding.Sink → K.faults out.old < K.faults out.new }
+    ensures disk_fault { D.faults disk.old < D.faults disk.new → (result ≡ ScriptEnding.Disk) ⊎ ((result ≡ ScriptEnding.Sink) ⊎ (result ≡ ScriptEnding.Memory)) }
+    ensures sink_fault { K.faults out.old < K.faults out.new → result ≡ ScriptEnding.Sink }
     ensures disk_later { D.faults disk.old ≤ D.faults disk.new }
     ensures shelf { TellsShelf (F.faults shelf.old) (F.faults shelf.new) (F.failed shelf.old) (F.failed shelf.new) (Err result) }
     ensures sink_later { K.faults out.old ≤ K.faults out.new }

@@ -6,7 +6,7 @@ ghost use Rattle.depot_session.specs.SessionRuns.{disk_line};
 ghost use Rattle.depot_session.specs.ScriptTelling.{IsFaultTold, IsLoaded, Stores, Tells, TellsShelf};
 
 use crate::command_heads::head;
-use crate::ending::Ending;
+use crate::ending::ScriptEnding;
 use depot_base::{Bytes, Memory};
 use depot_lines::FileName;
 use depot_outside::{OutError, Shelf, Sink};
@@ -14,16 +14,16 @@ use depot_script::Command;
 use std::alloc::Global;
 
 /// Writes a text.
-pub fn write<K: Sink>(out: &mut K, text: &[u8]) -> Result<(), Ending>
+pub fn write<K: Sink>(out: &mut K, text: &[u8]) -> Result<(), ScriptEnding>
     ensures tells { Tells (sinks K.Sink out.old out.new) text.now None result }
     ensures same { K.tells out.new ≡ K.tells out.old }
     ensures later { K.faults out.old ≤ K.faults out.new }
-    ensures only { K.faults out.old < K.faults out.new → IsErrOf result Ending.Sink }
+    ensures only { K.faults out.old < K.faults out.new → IsErrOf result ScriptEnding.Sink }
 {
     match out.write(text) {
         Ok(()) => Ok(()),
-        Err(OutError::Memory) => Err(Ending::Memory),
-        Err(OutError::Failed) => Err(Ending::Sink),
+        Err(OutError::Memory) => Err(ScriptEnding::Memory),
+        Err(OutError::Failed) => Err(ScriptEnding::Sink),
     }
 }
 
@@ -33,13 +33,13 @@ pub fn tell<K: Sink>(
     alloc: Global,
     command: &Command,
     lines: &Bytes,
-    ends: Option<Ending>,
+    ends: Option<ScriptEnding>,
     out: &mut K,
-) -> Result<(), Ending>
+) -> Result<(), ScriptEnding>
     ensures tells { Tells (sinks K.Sink out.old out.new) (command_text command.now lines.now) ends result }
     ensures same { K.tells out.new ≡ K.tells out.old }
     ensures later { K.faults out.old ≤ K.faults out.new }
-    ensures only { K.faults out.old < K.faults out.new → IsErrOf result Ending.Sink }
+    ensures only { K.faults out.old < K.faults out.new → IsErrOf result ScriptEnding.Sink }
 {
     let mut text = Bytes::new(alloc);
     head(alloc, &mut text, command)?;
@@ -52,31 +52,31 @@ pub fn tell<K: Sink>(
 }
 
 /// Tells that the disk failed.
-pub fn disk_failed<K: Sink>(out: &mut K) -> Ending
-    ensures told { IsFaultTold (sinks K.Sink out.old out.new) disk_line Ending.Disk result }
+pub fn disk_failed<K: Sink>(out: &mut K) -> ScriptEnding
+    ensures told { IsFaultTold (sinks K.Sink out.old out.new) disk_line ScriptEnding.Disk result }
     ensures same { K.tells out.new ≡ K.tells out.old }
     ensures later { K.faults out.old ≤ K.faults out.new }
-    ensures only { K.faults out.old < K.faults out.new → result ≡ Ending.Sink }
+    ensures only { K.faults out.old < K.faults out.new → result ≡ ScriptEnding.Sink }
 {
     match write(out, b"disk\n") {
-        Ok(()) => Ending::Disk,
+        Ok(()) => ScriptEnding::Disk,
         Err(ending) => ending,
     }
 }
 
 /// Tells that a file isn't on the shelf, or that the shelf failed.
-pub fn no_file<K: Sink>(alloc: Global, name: &FileName, out: &mut K) -> Ending
-    ensures told { IsFaultTold (sinks K.Sink out.old out.new) (shelf_line name.now) Ending.Shelf result }
+pub fn no_file<K: Sink>(alloc: Global, name: &FileName, out: &mut K) -> ScriptEnding
+    ensures told { IsFaultTold (sinks K.Sink out.old out.new) (shelf_line name.now) ScriptEnding.Shelf result }
     ensures same { K.tells out.new ≡ K.tells out.old }
     ensures later { K.faults out.old ≤ K.faults out.new }
-    ensures only { K.faults out.old < K.faults out.new → result ≡ Ending.Sink }
+    ensures only { K.faults out.old < K.faults out.new → result ≡ ScriptEnding.Sink }
 {
     let name = name.text();
     let Ok(line) = format!(in alloc; "shelf {name}\n") else {
-        return Ending::Memory;
+        return ScriptEnding::Memory;
     };
     match write(out, line.as_bytes()) {
-        Ok(()) => Ending::Shelf,
+        Ok(()) => ScriptEnding::Shelf,
         Err(ending) => ending,
     }
 }
@@ -108,7 +108,7 @@ pub fn store_and_tell<F: Shelf, K: Sink>(
     bytes: &Bytes,
     shelf: &mut F,
     out: &mut K,
-) -> Result<(), Ending>
+) -> Result<(), ScriptEnding>
     ensures stores { Stores (shelves F.Shelf shelf.old shelf.new) (sinks K.Sink out.old out.new) (command_text command.now lines.now) file.now bytes.now result }
     ensures loads { F.loads shelf.new ≡ F.loads shelf.old }
     ensures once { F.stores shelf.new ≡ F.stores shelf.old ++ file.now ∷ [] }
@@ -116,11 +116,11 @@ pub fn store_and_tell<F: Shelf, K: Sink>(
     ensures shelf { TellsShelf (F.faults shelf.old) (F.faults shelf.new) (F.failed shelf.old) (F.failed shelf.new) result }
     ensures same { K.tells out.new ≡ K.tells out.old }
     ensures later { K.faults out.old ≤ K.faults out.new }
-    ensures only { K.faults out.old < K.faults out.new → IsErrOf result Ending.Sink }
+    ensures only { K.faults out.old < K.faults out.new → IsErrOf result ScriptEnding.Sink }
 {
     match shelf.store(file.text(), bytes.as_slice()) {
         Ok(()) => tell(alloc, command, lines, None, out),
-        Err(OutError::Memory) => Err(Ending::Memory),
+        Err(OutError::Memory) => Err(ScriptEnding::Memory),
         Err(OutError::Failed) => Err(no_file(alloc, file, out)),
     }
 }

@@ -9,7 +9,7 @@ ghost use Rattle.depot_session.specs.ScriptTelling.{TellsShelf, asked};
 ghost use Rattle.depot_session.specs.Turns.{IsRunning, Keeps, PlaysAnew};
 
 use crate::commands::carry_out;
-use crate::ending::Ending;
+use crate::ending::ScriptEnding;
 use crate::kept_reads::place_for;
 use crate::last_reader::LastReader;
 use depot_base::Memory;
@@ -31,7 +31,7 @@ pub fn play<S: Scheme + Copy, R: LocalNode<Of = S>, F: Shelf, K: Sink>(
     scheme: S,
     shelf: &mut F,
     out: &mut K,
-) -> Result<(), Ending>
+) -> Result<(), ScriptEnding>
     requires fit { FitAll FitsCommand commands.now }
     requires few { length commands.now ≤ MOST_LINES }
     requires running { IsRunning R.NodeState node.old }
@@ -44,7 +44,7 @@ pub fn play<S: Scheme + Copy, R: LocalNode<Of = S>, F: Shelf, K: Sink>(
     ensures shelf { TellsShelf (F.faults shelf.old) (F.faults shelf.new) (F.failed shelf.old) (F.failed shelf.new) result }
 {
     let Ok(roster) = roster else {
-        return Err(Ending::Memory);
+        return Err(ScriptEnding::Memory);
     };
     let mut reads = place_for(alloc, commands);
     let mut last = LastReader {

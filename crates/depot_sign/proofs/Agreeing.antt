@@ -8,23 +8,23 @@ use Rattle.depot_base.specs.Parts.{roster_entry, roster_entry_rises}
 use Rattle.depot_base.specs.declared.key.RosterEntry.{RosterEntry}
 use Rattle.depot_model.specs.Texts.{roster}
 use Rattle.depot_base.proofs.Numbers.{is_in}
-use Rattle.depot_sign.specs.declared.text.Stop.{Stop}
-use Rattle.depot_sign.specs.declared.text.Stop.TheVariants as stop
-use Rattle.depot_sign.specs.RosterReading.{after_field, after_part, checked_count, count_or_stop, placed, entries_or_stop, roster_or_stop, whole_or_stop}
+use Rattle.depot_sign.specs.declared.text.RosterStop.{RosterStop}
+use Rattle.depot_sign.specs.declared.text.RosterStop.TheVariants as stop
+use Rattle.depot_sign.specs.RosterReading.{after_field, after_part, checked_count, count_or_stop, entry_placed, entries_or_stop, roster_or_stop, whole_or_stop}
 
 -- what the reader answers, beside what the format's reading gives
-abbrev pub Agrees : {V : Type 0} → Result V Stop → Result V ℕ → Type 0
+abbrev pub Agrees : {V : Type 0} → Result V RosterStop → Result V ℕ → Type 0
 Agrees (Ok v) read = read ≡ Ok v
 Agrees (Err stop.Memory) read = ⊥
 Agrees (Err (stop.At at)) read = read ≡ Err at
 Agrees (Err (stop.TooMany count)) read = (at : ℕ) × (read ≡ Err at)
 Agrees (Err (stop.Twice node)) read = (at : ℕ) × (read ≡ Err at)
 
-agree_field : {A B : Type 0} (r : Result A ℕ) (f : A → Result B Stop) (g : A → Result B ℕ) → ((x : A) → Agrees (f x) (g x)) → Agrees (after_field r f) (r >>= g)
+agree_field : {A B : Type 0} (r : Result A ℕ) (f : A → Result B RosterStop) (g : A → Result B ℕ) → ((x : A) → Agrees (f x) (g x)) → Agrees (after_field r f) (r >>= g)
 agree_field (Ok x) f g h = h x
 agree_field (Err at) f g h = refl
 
-agree_part : {A B : Type 0} (r : Result A Stop) (q : Result A ℕ) (f : A → Result B Stop) (g : A → Result B ℕ) → Agrees r q → ((x : A) → Agrees (f x) (g x)) → Agrees (after_part r f) (q >>= g)
+agree_part : {A B : Type 0} (r : Result A RosterStop) (q : Result A ℕ) (f : A → Result B RosterStop) (g : A → Result B ℕ) → Agrees r q → ((x : A) → Agrees (f x) (g x)) → Agrees (after_part r f) (q >>= g)
 agree_part (Ok x) q f g a h = rw a (h x)
 agree_part (Err stop.Memory) q f g a h = absurd a
 agree_part (Err (stop.At at)) q f g a h = rw a refl
@@ -57,7 +57,7 @@ agree_count c = count_agrees (ltb (length c.rest) 2) (from_be_bytes w16 (take 2 
 
 -- ---- the entries
 
-agree_placed : {B : Type 0} (before : Option RosterEntry) (e : RosterEntry) (at : ℕ) (next : Result B Stop) (more : Result B ℕ) → Agrees next more → Agrees (placed before e at next) (cond (roster_entry_rises before e) more (Err at))
+agree_placed : {B : Type 0} (before : Option RosterEntry) (e : RosterEntry) (at : ℕ) (next : Result B RosterStop) (more : Result B ℕ) → Agrees next more → Agrees (entry_placed before e at next) (cond (roster_entry_rises before e) more (Err at))
 agree_placed None e at next more a = a
 agree_placed (Some before) e at next more a =
     elim (cases_lt before.node e.node) [
@@ -74,7 +74,7 @@ agree_entries (suc n) front c = agree_field (roster_entry.read c) _ _ (λ x. agr
 
 -- ---- the whole
 
-agree_made : {V : Type 0} (r : Result (V × Cursor) Stop) (q : Result (V × Cursor) ℕ) → Agrees r q → Agrees r (q >>= λ x. Ok (x.0, x.1))
+agree_made : {V : Type 0} (r : Result (V × Cursor) RosterStop) (q : Result (V × Cursor) ℕ) → Agrees r q → Agrees r (q >>= λ x. Ok (x.0, x.1))
 agree_made (Ok x) q a = rw a refl
 agree_made (Err stop.Memory) q a = absurd a
 agree_made (Err (stop.At at)) q a = rw a refl

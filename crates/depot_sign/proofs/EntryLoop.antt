@@ -8,23 +8,23 @@ use Rattle.depot_base.specs.declared.key.RosterEntry.{RosterEntry}
 use Rattle.depot_base.specs.Format.{last_of}
 use Rattle.depot_base.specs.Parts.{roster_entry}
 use Rattle.depot_base.proofs.Loop.{failing}
-use Rattle.depot_sign.specs.declared.text.Stop.{Stop}
-use Rattle.depot_sign.specs.declared.text.Stop.TheVariants as stop
-use Rattle.depot_sign.specs.RosterReading.{stop_of, placed, unless_stopped, entries_or_stop, ReadsOrStops}
+use Rattle.depot_sign.specs.declared.text.RosterStop.{RosterStop}
+use Rattle.depot_sign.specs.declared.text.RosterStop.TheVariants as stop
+use Rattle.depot_sign.specs.RosterReading.{stop_of, entry_placed, unless_stopped, entries_or_stop, ReadsOrStops}
 use Rattle.depot_sign.proofs.ReaderStops.{after_good}
 
 abbrev Read : Type 0
-Read = Result (List RosterEntry × Cursor) Stop
+Read = Result (List RosterEntry × Cursor) RosterStop
 
-abbrev stopping : Stop → Result (List RosterEntry) Stop
+abbrev stopping : RosterStop → Result (List RosterEntry) RosterStop
 stopping s = Err s
 
 -- an entry may stand there, or why it may not
-abbrev pub IsPlaced : List RosterEntry → RosterEntry → ℕ → Option Stop → Type 0
-IsPlaced front e at o = (next : Read) → placed (last_of front) e at next ≡ unless_stopped o next
+abbrev pub IsPlaced : List RosterEntry → RosterEntry → ℕ → Option RosterStop → Type 0
+IsPlaced front e at o = (next : Read) → entry_placed (last_of front) e at next ≡ unless_stopped o next
 
 -- one entry more
-entry_read : (count i : ℕ) (front : List RosterEntry) (c : Cursor) (e : RosterEntry) (d : Cursor) (o : Option Stop) → i < count → roster_entry.read c ≡ Ok (e, d) → IsPlaced front e c.at o
+entry_read : (count i : ℕ) (front : List RosterEntry) (c : Cursor) (e : RosterEntry) (d : Cursor) (o : Option RosterStop) → i < count → roster_entry.read c ≡ Ok (e, d) → IsPlaced front e c.at o
     → entries_or_stop (count - i) front c ≡ unless_stopped o (entries_or_stop (count - (i + 1)) (front ++ e ∷ []) d)
 entry_read count i front c e d o lt read place =
     let k : count - i ≡ suc (count - (i + 1)) = omega arith in
@@ -34,13 +34,13 @@ pub goes_on : (count i : ℕ) (front : List RosterEntry) (c : Cursor) (e : Roste
     → entries_or_stop (count - i) front c ≡ total → entries_or_stop (count - (i + 1)) (front ++ e ∷ []) d ≡ total
 goes_on count i front c e d total lt read place so_far = sym (entry_read count i front c e d None lt read place) ∙ so_far
 
-stop_told : (s : Stop) (total : Read) (after : Cursor) → total ≡ Err s → ReadsOrStops (stopping s) after total
+stop_told : (s : RosterStop) (total : Read) (after : Cursor) → total ≡ Err s → ReadsOrStops (stopping s) after total
 stop_told stop.Memory total after is = tt
 stop_told (stop.At at) total after is = is
 stop_told (stop.TooMany count) total after is = is
 stop_told (stop.Twice node) total after is = is
 
-pub refused : (count i : ℕ) (front : List RosterEntry) (c : Cursor) (e : RosterEntry) (d : Cursor) (s : Stop) (total : Read) (after : Cursor) → i < count → roster_entry.read c ≡ Ok (e, d) → IsPlaced front e c.at (Some s)
+pub refused : (count i : ℕ) (front : List RosterEntry) (c : Cursor) (e : RosterEntry) (d : Cursor) (s : RosterStop) (total : Read) (after : Cursor) → i < count → roster_entry.read c ≡ Ok (e, d) → IsPlaced front e c.at (Some s)
     → entries_or_stop (count - i) front c ≡ total → ReadsOrStops (stopping s) after total
 refused count i front c e d s total after lt read place so_far = stop_told s total after (sym so_far ∙ entry_read count i front c e d (Some s) lt read place)
 

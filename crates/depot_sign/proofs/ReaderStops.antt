@@ -10,33 +10,33 @@ use Rattle.depot_base.specs.Parts.{roster_entry, roster_entry_rises}
 use Rattle.depot_base.specs.declared.key.RosterEntry.{RosterEntry}
 use Rattle.depot_base.proofs.FormatLaws.{IsBytes, cursor}
 use Rattle.depot_base.proofs.PartLaws.{constant_lawful, u16_lawful, roster_entry_lawful}
-use Rattle.depot_sign.specs.declared.text.Stop.{Stop}
-use Rattle.depot_sign.specs.declared.text.Stop.TheVariants as stop
-use Rattle.depot_sign.specs.RosterReading.{after_field, after_part, checked_count, count_or_stop, placed, entries_or_stop, roster_or_stop, whole_or_stop}
+use Rattle.depot_sign.specs.declared.text.RosterStop.{RosterStop}
+use Rattle.depot_sign.specs.declared.text.RosterStop.TheVariants as stop
+use Rattle.depot_sign.specs.RosterReading.{after_field, after_part, checked_count, count_or_stop, entry_placed, entries_or_stop, roster_or_stop, whole_or_stop}
 
 -- the stop isn't at a field
-abbrev pub IsNoField : Stop → Type 0
+abbrev pub IsNoField : RosterStop → Type 0
 IsNoField s = (at : ℕ) → s ≡ stop.At at → ⊥
 
 -- ---- one step
 
-pub field_is : {A B : Type 0} (r : Result A ℕ) (f : A → Result B Stop) (s : Stop) → IsNoField s → after_field r f ≡ Err s → (x : A) × (r ≡ Ok x) × (f x ≡ Err s)
+pub field_is : {A B : Type 0} (r : Result A ℕ) (f : A → Result B RosterStop) (s : RosterStop) → IsNoField s → after_field r f ≡ Err s → (x : A) × (r ≡ Ok x) × (f x ≡ Err s)
 field_is (Ok x) f s other e = (x, refl, e)
 field_is (Err at) f s other e = let p : stop.At at ≡ s = cc in absurd (other at (sym p))
 
-pub field_ok : {A B : Type 0} (r : Result A ℕ) (f : A → Result B Stop) (y : B) → after_field r f ≡ Ok y → (x : A) × (r ≡ Ok x) × (f x ≡ Ok y)
+pub field_ok : {A B : Type 0} (r : Result A ℕ) (f : A → Result B RosterStop) (y : B) → after_field r f ≡ Ok y → (x : A) × (r ≡ Ok x) × (f x ≡ Ok y)
 field_ok (Ok x) f y e = (x, refl, e)
 field_ok (Err at) f y e = absurd cc
 
-pub after_good : {A B : Type 0} (r : Result A ℕ) (f : A → Result B Stop) (x : A) → r ≡ Ok x → after_field r f ≡ f x
+pub after_good : {A B : Type 0} (r : Result A ℕ) (f : A → Result B RosterStop) (x : A) → r ≡ Ok x → after_field r f ≡ f x
 after_good r f x e = rw e refl
 
-pub part_is : {A B : Type 0} (r : Result A Stop) (f : A → Result B Stop) (s : Stop) → after_part r f ≡ Err s → (r ≡ Err s) ⊎ ((x : A) × (r ≡ Ok x) × (f x ≡ Err s))
+pub part_is : {A B : Type 0} (r : Result A RosterStop) (f : A → Result B RosterStop) (s : RosterStop) → after_part r f ≡ Err s → (r ≡ Err s) ⊎ ((x : A) × (r ≡ Ok x) × (f x ≡ Err s))
 part_is (Ok x) f s e = inr (x, refl, e)
-part_is (Err t) f s e = let p : t ≡ s = cc in inl (ap (λ (u : Stop). Err u) p)
+part_is (Err t) f s e = let p : t ≡ s = cc in inl (ap (λ (u : RosterStop). Err u) p)
 
 -- the end of the text is a field
-end_is : {V : Type 0} (b : Bool) (v : V) (at : ℕ) (s : Stop) → IsNoField s → cond b (Ok v) (Err (stop.At at)) ≡ Err s → ⊥
+end_is : {V : Type 0} (b : Bool) (v : V) (at : ℕ) (s : RosterStop) → IsNoField s → cond b (Ok v) (Err (stop.At at)) ≡ Err s → ⊥
 end_is true v at s other e = cc
 end_is false v at s other e = let p : stop.At at ≡ s = cc in other at (sym p)
 
@@ -48,13 +48,13 @@ unfolding number numeral
 byte_text n v small fits = ap (λ (byte : ℕ). byte ∷ []) (omega (arith, fits.0, fits.1))
 
 -- The version and the kind stand in front, and the reader stops behind them.
-pub record Headed (text : List ℕ) (s : Stop) : Type 0 where
+pub record Headed (text : List ℕ) (s : RosterStop) : Type 0 where
   pub c : Cursor
   pub parts : text ≡ 1 ∷ 4 ∷ c.rest
   pub fits : IsBytes c.rest
   pub stopped : after_part (count_or_stop c) (λ count. entries_or_stop count.0 [] count.1) ≡ Err s
 
-pub headed : (text : List ℕ) (s : Stop) → IsBytes text → IsNoField s → whole_or_stop (cursor 0 text) ≡ Err s → Headed text s
+pub headed : (text : List ℕ) (s : RosterStop) → IsBytes text → IsNoField s → whole_or_stop (cursor 0 text) ≡ Err s → Headed text s
 unfolding roster_or_stop
 headed text s bytes other e =
     elim (part_is (roster_or_stop (cursor 0 text)) _ s e) [
@@ -73,7 +73,7 @@ headed text s bytes other e =
     ]
 
 -- and where it stops behind them, it stops
-pub stops_behind : (bytes : List ℕ) (s : Stop) → after_part (count_or_stop (cursor 2 bytes)) (λ count. entries_or_stop count.0 [] count.1) ≡ Err s → whole_or_stop (cursor 0 (1 ∷ 4 ∷ bytes)) ≡ Err s
+pub stops_behind : (bytes : List ℕ) (s : RosterStop) → after_part (count_or_stop (cursor 2 bytes)) (λ count. entries_or_stop count.0 [] count.1) ≡ Err s → whole_or_stop (cursor 0 (1 ∷ 4 ∷ bytes)) ≡ Err s
 unfolding roster_or_stop number numeral
 stops_behind bytes s e =
     let one : (constant 1).read (cursor 0 (1 ∷ 4 ∷ bytes)) ≡ Ok (1, cursor 1 (4 ∷ bytes)) = (constant_lawful 1 (omega arith)).again 0 1 (4 ∷ bytes) (omega arith, omega arith) in
@@ -83,7 +83,7 @@ stops_behind bytes s e =
 
 -- ---- the count
 
-checked_is : (great none : Bool) (n at : ℕ) (x : ℕ × Cursor) (s : Stop) → IsNoField s → cond great (Err (stop.TooMany n)) (cond none (Err (stop.At at)) (Ok x)) ≡ Err s → (great ≡ true) × (s ≡ stop.TooMany n)
+checked_is : (great none : Bool) (n at : ℕ) (x : ℕ × Cursor) (s : RosterStop) → IsNoField s → cond great (Err (stop.TooMany n)) (cond none (Err (stop.At at)) (Ok x)) ≡ Err s → (great ≡ true) × (s ≡ stop.TooMany n)
 checked_is true none n at x s other e = let p : stop.TooMany n ≡ s = cc in (refl, sym p)
 checked_is false true n at x s other e = let p : stop.At at ≡ s = cc in absurd (other at (sym p))
 checked_is false false n at x s other e = absurd cc
@@ -94,7 +94,7 @@ checked_ok false true n at x y e = absurd cc
 checked_ok false false n at x y e = (refl, cc)
 
 -- A count over 256 stands in front.
-pub record Great (bytes : List ℕ) (s : Stop) : Type 0 where
+pub record Great (bytes : List ℕ) (s : RosterStop) : Type 0 where
   pub count : ℕ
   pub rest : List ℕ
   pub parts : bytes ≡ numeral w16 count ++ rest
@@ -102,7 +102,7 @@ pub record Great (bytes : List ℕ) (s : Stop) : Type 0 where
   pub great : 256 < count
   pub is : s ≡ stop.TooMany count
 
-pub great_is : (c : Cursor) (s : Stop) → IsBytes c.rest → IsNoField s → count_or_stop c ≡ Err s → Great c.rest s
+pub great_is : (c : Cursor) (s : RosterStop) → IsBytes c.rest → IsNoField s → count_or_stop c ≡ Err s → Great c.rest s
 unfolding count_or_stop number
 great_is c s bytes other e =
     let a = field_is ((number w16 0 65535).read c) (λ x. checked_count c.at x) s other e in
@@ -127,20 +127,20 @@ count_is c count d bytes e =
 
 -- ---- the entries
 
-placed_some : {B : Type 0} (same below : Bool) (node at : ℕ) (next : Result B Stop) (s : Stop) → IsNoField s → cond same (Err (stop.Twice node)) (cond below next (Err (stop.At at))) ≡ Err s
+placed_some : {B : Type 0} (same below : Bool) (node at : ℕ) (next : Result B RosterStop) (s : RosterStop) → IsNoField s → cond same (Err (stop.Twice node)) (cond below next (Err (stop.At at))) ≡ Err s
     → ((same ≡ true) × (s ≡ stop.Twice node)) ⊎ ((below ≡ true) × (next ≡ Err s))
 placed_some true below node at next s other e = let p : stop.Twice node ≡ s = cc in inl (refl, sym p)
 placed_some false true node at next s other e = inr (refl, e)
 placed_some false false node at next s other e = let p : stop.At at ≡ s = cc in absurd (other at (sym p))
 
 -- The entry names the node of the one before it.
-record SameNode (before : Option RosterEntry) (e : RosterEntry) (s : Stop) : Type 0 where
+record SameNode (before : Option RosterEntry) (e : RosterEntry) (s : RosterStop) : Type 0 where
   pub last : RosterEntry
   pub is_last : before ≡ Some last
   pub same : last.node ≡ e.node
   pub is : s ≡ stop.Twice e.node
 
-placed_is : {B : Type 0} (before : Option RosterEntry) (e : RosterEntry) (at : ℕ) (next : Result B Stop) (s : Stop) → IsNoField s → placed before e at next ≡ Err s
+placed_is : {B : Type 0} (before : Option RosterEntry) (e : RosterEntry) (at : ℕ) (next : Result B RosterStop) (s : RosterStop) → IsNoField s → entry_placed before e at next ≡ Err s
     → SameNode before e s ⊎ ((roster_entry_rises before e ≡ true) × (next ≡ Err s))
 placed_is None e at next s other h = inr (refl, h)
 placed_is (Some before) e at next s other h =
@@ -149,14 +149,14 @@ placed_is (Some before) e at next s other h =
       | inr p ↦ inr p
     ]
 
-placed_rises : {B : Type 0} (before : Option RosterEntry) (e : RosterEntry) (at : ℕ) (next : Result B Stop) → roster_entry_rises before e ≡ true → placed before e at next ≡ next
+placed_rises : {B : Type 0} (before : Option RosterEntry) (e : RosterEntry) (at : ℕ) (next : Result B RosterStop) → roster_entry_rises before e ≡ true → entry_placed before e at next ≡ next
 placed_rises None e at next rises = refl
 placed_rises (Some before) e at next rises =
     let below : before.node < e.node = ltb-true before.node e.node rises in
     rw (ne_eqb before.node e.node (λ same. omega arith), lt-ltb before.node e.node below) refl
 
 -- Good entries stand in front, and behind them one that names the node of the last of them.
-pub record Repeats (n : ℕ) (front : List RosterEntry) (bytes : List ℕ) (s : Stop) : Type 0 where
+pub record Repeats (n : ℕ) (front : List RosterEntry) (bytes : List ℕ) (s : RosterStop) : Type 0 where
   pub more : List RosterEntry
   pub before : RosterEntry
   pub again : RosterEntry
@@ -169,10 +169,10 @@ pub record Repeats (n : ℕ) (front : List RosterEntry) (bytes : List ℕ) (s : 
   pub same : before.node ≡ again.node
   pub is : s ≡ stop.Twice again.node
 
-pub repeats : (n : ℕ) (front : List RosterEntry) (c : Cursor) (s : Stop) → IsBytes c.rest → IsNoField s → entries_or_stop n front c ≡ Err s → Repeats n front c.rest s
+pub repeats : (n : ℕ) (front : List RosterEntry) (c : Cursor) (s : RosterStop) → IsBytes c.rest → IsNoField s → entries_or_stop n front c ≡ Err s → Repeats n front c.rest s
 repeats zero front c s bytes other e = absurd cc
 repeats (suc n) front c s bytes other e =
-    let a = field_is (roster_entry.read c) (λ x. placed (last_of front) x.0 c.at (entries_or_stop n (front ++ x.0 ∷ []) x.1)) s other e in
+    let a = field_is (roster_entry.read c) (λ x. entry_placed (last_of front) x.0 c.at (entries_or_stop n (front ++ x.0 ∷ []) x.1)) s other e in
     let t = roster_entry_lawful.takes c a.0.0 a.0.1 bytes a.1 in
     elim (placed_is (last_of front) a.0.0 c.at (entries_or_stop n (front ++ a.0.0 ∷ []) a.0.1) s other a.2) [
       | inl p ↦ record {

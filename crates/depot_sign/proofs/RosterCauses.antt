@@ -17,8 +17,8 @@ use Rattle.depot_model.specs.declared.roster_format.RosterError.TheVariants as e
 use Rattle.depot_model.specs.Texts.{IsRoster, text_of_roster, roster}
 use Rattle.depot_model.specs.RosterText.{HasGreatCount, RepeatsNode, GoesWrongAt, IsRefusedFor, AreReadInOneWay}
 use Rattle.depot_model.proofs.TextLaws.{roster_lawful}
-use Rattle.depot_sign.specs.declared.text.Stop.{Stop}
-use Rattle.depot_sign.specs.declared.text.Stop.TheVariants as stop
+use Rattle.depot_sign.specs.declared.text.RosterStop.{RosterStop}
+use Rattle.depot_sign.specs.declared.text.RosterStop.TheVariants as stop
 use Rattle.depot_sign.specs.RosterReading.{checked_count, count_or_stop, entries_or_stop, whole_or_stop}
 use Rattle.depot_sign.proofs.RosterEntries.{ends}
 use Rattle.depot_sign.proofs.Agreeing.{Agrees, agree}
@@ -61,7 +61,7 @@ repeated_stops text node h =
 -- ---- the reader stops for a cause
 
 -- what a stop other than at a field means
-abbrev pub IsCause : List ℕ → Stop → Type 0
+abbrev pub IsCause : List ℕ → RosterStop → Type 0
 IsCause text stop.Memory = ⊥
 IsCause text (stop.At at) = ⊥
 IsCause text (stop.TooMany count) = HasGreatCount text count
@@ -78,7 +78,7 @@ some_is : (d e : RosterEntry) → some d ≡ some e → d ≡ e
 some_is d e is = cc
 
 -- good entries, and then one that names the node of the last of them
-node_stands : (text : List ℕ) (count : ℕ) (bytes : List ℕ) (s : Stop) → text ≡ 1 ∷ 4 ∷ (numeral w16 count ++ bytes) → count ≤ 256 → Repeats count [] bytes s → IsCause text s
+node_stands : (text : List ℕ) (count : ℕ) (bytes : List ℕ) (s : RosterStop) → text ≡ 1 ∷ 4 ∷ (numeral w16 count ++ bytes) → count ≤ 256 → Repeats count [] bytes s → IsCause text s
 node_stands text count bytes s parts limit r =
     let d = ends r.more (some_last r.more r.before r.last) in
     let last : d.last ≡ r.before = some_is d.last r.before (sym (last_pushed d.front d.last) ∙ sym (ap (λ (es : List RosterEntry). last_of es) d.is) ∙ r.last) in
@@ -100,33 +100,33 @@ node_stands text count bytes s parts limit r =
       first = ap (λ (e : RosterEntry). e.node) last ∙ r.same;
       second = refl;
     } in
-    subst (λ (t : Stop). IsCause text t) (sym r.is) stands
+    subst (λ (t : RosterStop). IsCause text t) (sym r.is) stands
 
 -- a stop other than at a field has its cause
-pub cause_of_stop : (text : List ℕ) (s : Stop) → IsBytes text → IsNoField s → whole_or_stop (cursor 0 text) ≡ Err s → IsCause text s
+pub cause_of_stop : (text : List ℕ) (s : RosterStop) → IsBytes text → IsNoField s → whole_or_stop (cursor 0 text) ≡ Err s → IsCause text s
 cause_of_stop text s bytes other e =
     let h = headed text s bytes other e in
     elim (part_is (count_or_stop h.c) (λ count. entries_or_stop count.0 [] count.1) s h.stopped) [
       | inl p ↦
           let g = great_is h.c s h.fits other p in
           let stands : HasGreatCount text g.count = record { rest = g.rest; parts = h.parts ∙ ap (λ (l : List ℕ). 1 ∷ 4 ∷ l) g.parts; fits = g.fits; great = g.great } in
-          subst (λ (t : Stop). IsCause text t) (sym g.is) stands
+          subst (λ (t : RosterStop). IsCause text t) (sym g.is) stands
       | inr q ↦
           let k = count_is h.c q.0.0 q.0.1 h.fits q.1 in
           let r = repeats q.0.0 [] q.0.1 s k.fits other q.2 in
           node_stands text q.0.0 q.0.1.rest s (h.parts ∙ ap (λ (l : List ℕ). 1 ∷ 4 ∷ l) k.parts) k.limit r
     ]
 
-abbrev pub stopped : Stop → Result (List RosterEntry) Stop
+abbrev pub stopped : RosterStop → Result (List RosterEntry) RosterStop
 stopped s = Err s
 
-pub same_stop : (s t : Stop) → stopped s ≡ stopped t → s ≡ t
+pub same_stop : (s t : RosterStop) → stopped s ≡ stopped t → s ≡ t
 same_stop s t e = cc
 
 -- where it stops at a field, the text goes wrong there
 pub wrong_at : (text : List ℕ) (at : ℕ) → IsBytes text → whole_or_stop (cursor 0 text) ≡ Err (stop.At at) → GoesWrongAt text at
 wrong_at text at bytes e =
-    let read : whole roster (cursor 0 text) ≡ Err at = subst (λ (x : Result (List RosterEntry) Stop). Agrees x (whole roster (cursor 0 text))) e (agree (cursor 0 text)) in
+    let read : whole roster (cursor 0 text) ≡ Err at = subst (λ (x : Result (List RosterEntry) RosterStop). Agrees x (whole roster (cursor 0 text))) e (agree (cursor 0 text)) in
     let w = whole_faults roster 8964 roster_lawful (cursor 0 text) at bytes read in
     record {
       fault = subst (λ (n : ℕ). FirstFault roster text n) (omega (arith, w.place)) w.fault;
@@ -140,8 +140,8 @@ wrong_at text at bytes e =
 pub refused_is_unread : (text : List ℕ) (e : RosterError) → IsRefusedFor text e → (at : ℕ) × (whole roster (cursor 0 text) ≡ Err at)
 refused_is_unread text error.Memory c = absurd c
 refused_is_unread text (error.IllFormed at) c = (0 + at, whole_stops roster 8964 roster_lawful 0 text at c.fault)
-refused_is_unread text (error.TwiceNode node) c = subst (λ (x : Result (List RosterEntry) Stop). Agrees x (whole roster (cursor 0 text))) (repeated_stops text node c) (agree (cursor 0 text))
-refused_is_unread text (error.TooMany count) c = subst (λ (x : Result (List RosterEntry) Stop). Agrees x (whole roster (cursor 0 text))) (great_stops text count c) (agree (cursor 0 text))
+refused_is_unread text (error.TwiceNode node) c = subst (λ (x : Result (List RosterEntry) RosterStop). Agrees x (whole roster (cursor 0 text))) (repeated_stops text node c) (agree (cursor 0 text))
+refused_is_unread text (error.TooMany count) c = subst (λ (x : Result (List RosterEntry) RosterStop). Agrees x (whole roster (cursor 0 text))) (great_stops text count c) (agree (cursor 0 text))
 
 -- so it is no roster's
 pub refused_is_none : (text : List ℕ) (r : List RosterEntry) (e : RosterError) → IsRoster r → text ≡ text_of_roster r → IsRefusedFor text e → ⊥

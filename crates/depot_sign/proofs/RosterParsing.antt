@@ -9,9 +9,9 @@ use Rattle.depot_model.specs.declared.roster_format.RosterError.TheVariants as e
 use Rattle.depot_model.specs.Texts.{IsRoster, text_of_roster, hash_of_roster, roster}
 use Rattle.depot_model.specs.RosterText.{IsRefusedFor, ParsesRoster}
 use Rattle.depot_model.proofs.TextLaws.{roster_lawful}
-use Rattle.depot_sign.specs.KeptEntries.{IsKept}
-use Rattle.depot_sign.specs.declared.text.Stop.{Stop}
-use Rattle.depot_sign.specs.declared.text.Stop.TheVariants as stop
+use Rattle.depot_sign.specs.KeptEntries.{IsKeptRoster}
+use Rattle.depot_sign.specs.declared.text.RosterStop.{RosterStop}
+use Rattle.depot_sign.specs.declared.text.RosterStop.TheVariants as stop
 use Rattle.depot_sign.specs.RosterReading.{whole_or_stop, GivesOrStops, IsEarlyStop, error_of}
 use Rattle.depot_sign.proofs.Agreeing.{Agrees, agree}
 use Rattle.depot_sign.proofs.RosterCauses.{cause_of_stop, wrong_at, refused_is_unread, refused_is_none, one_cause}
@@ -19,7 +19,7 @@ use Rattle.sha2.specs.Sha256.{sha256}
 
 -- what the reader gives is what the format gives
 read_whole : (text : List ℕ) (r : List RosterEntry) → whole_or_stop (cursor 0 text) ≡ Ok r → whole roster (cursor 0 text) ≡ Ok r
-read_whole text r e = subst (λ (x : Result (List RosterEntry) Stop). Agrees x (whole roster (cursor 0 text))) e (agree (cursor 0 text))
+read_whole text r e = subst (λ (x : Result (List RosterEntry) RosterStop). Agrees x (whole roster (cursor 0 text))) e (agree (cursor 0 text))
 
 -- a first fault stands within the longest text
 pub fault_early : (text : List ℕ) (at : ℕ) → FirstFault roster text at → at ≤ 8964
@@ -31,14 +31,14 @@ unfolding roster number
 roster_count r fits = fits.1.1.0
 
 -- what is read makes a roster, and the text's hash is its hash
-pub read_is_kept : (text : List ℕ) (r : List RosterEntry) → IsBytes text → whole_or_stop (cursor 0 text) ≡ Ok r → IsKept r (sha256 text)
+pub read_is_kept : (text : List ℕ) (r : List RosterEntry) → IsBytes text → whole_or_stop (cursor 0 text) ≡ Ok r → IsKeptRoster r (sha256 text)
 unfolding hash_of_roster
 read_is_kept text r bytes e =
     let t = whole_takes roster 8964 roster_lawful (cursor 0 text) r bytes (read_whole text r e) in
     record { is_roster = t.0; is_hash = ap (λ (x : List ℕ). sha256 x) t.1 }
 
 -- the hash of a roster's text is its hash
-pub text_is_kept : (r : List RosterEntry) → IsRoster r → IsKept r (sha256 (text_of_roster r))
+pub text_is_kept : (r : List RosterEntry) → IsRoster r → IsKeptRoster r (sha256 (text_of_roster r))
 unfolding hash_of_roster
 text_is_kept r fits = record { is_roster = fits; is_hash = refl }
 
@@ -81,18 +81,18 @@ parses_memory text = record {
 
 -- ---- from what the reader answers
 
-abbrev stopping : Stop → Result (List RosterEntry) Stop
+abbrev stopping : RosterStop → Result (List RosterEntry) RosterStop
 stopping s = Err s
 
 -- a stop is early
-pub stop_is_early : (text : List ℕ) (s : Stop) → IsBytes text → GivesOrStops (stopping s) (whole_or_stop (cursor 0 text)) → IsEarlyStop s
+pub stop_is_early : (text : List ℕ) (s : RosterStop) → IsBytes text → GivesOrStops (stopping s) (whole_or_stop (cursor 0 text)) → IsEarlyStop s
 stop_is_early text stop.Memory bytes h = tt
 stop_is_early text (stop.At at) bytes h = let early = fault_early text at (wrong_at text at bytes h).fault in omega (arith, early)
 stop_is_early text (stop.TooMany count) bytes h = tt
 stop_is_early text (stop.Twice node) bytes h = tt
 
 -- and the parser tells it
-pub parses_stop : (text : List ℕ) (s : Stop) → IsBytes text → GivesOrStops (stopping s) (whole_or_stop (cursor 0 text)) → ParsesRoster text (refused (error_of s))
+pub parses_stop : (text : List ℕ) (s : RosterStop) → IsBytes text → GivesOrStops (stopping s) (whole_or_stop (cursor 0 text)) → ParsesRoster text (refused (error_of s))
 parses_stop text stop.Memory bytes h = parses_memory text
 parses_stop text (stop.At at) bytes h = parses_error text (error.IllFormed at) (wrong_at text at bytes h)
 parses_stop text (stop.TooMany count) bytes h = parses_error text (error.TooMany count) (cause_of_stop text (stop.TooMany count) bytes (λ at e. cc) h)

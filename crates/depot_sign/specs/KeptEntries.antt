@@ -4,6 +4,6 @@ use Rattle.depot_base.specs.declared.key.RosterEntry.{RosterEntry}
 use Rattle.depot_model.specs.Texts.{IsRoster, hash_of_roster}
 
 -- the entries make a roster, and the hash is that of its text
-pub record IsKept (entries : List RosterEntry) (hash : List ℕ) : Type 0 where
+pub record IsKeptRoster (entries : List RosterEntry) (hash : List ℕ) : Type 0 where
   pub is_roster : IsRoster entries
   pub is_hash : hash ≡ hash_of_roster entries

@@ -17,10 +17,10 @@ use Rattle.depot_schedule.specs.declared.event.Event.{Event}
 use Rattle.depot_schedule.specs.declared.member.Member.{Member}
 use Rattle.depot_schedule.specs.declared.schedule.Schedule.{Schedule}
 use Rattle.depot_world.specs.Run.{Host, fresh_host}
-use Rattle.depot_world.specs.Setups.{SignatureSuite, Setup, entry_of, is_entry_before, roster_of, setup_of, suite_of}
+use Rattle.depot_world.specs.Setups.{SignatureSuite, Setup, roster_entry_of, is_entry_before, roster_of, setup_of, suite_of}
 use Rattle.depot_model.proofs.InsertionLaws.{from_order}
 use Rattle.depot_world.proofs.ScheduleRosters.{setup_has_members}
-use Rattle.depot_simulation.specs.Acting.{AreHosted, IsParticipant, IsHosted, ParticipantView, TellReads, View}
+use Rattle.depot_simulation.specs.Acting.{AreHosted, IsParticipant, IsHosted, ParticipantView, TellReads, ActorView}
 use Rattle.depot_scenario.specs.MemberSigners.{AreSigners, MemberSigner, member_signer_of, member_signers_of}
 use Rattle.depot_scenario.specs.Scenarios.{IsSet, MayHappen}
 use Rattle.depot_scenario.proofs.MemberLaws.{member_signer_at}
@@ -39,7 +39,7 @@ keyed key_at (x ∷ es) n made found = by_test (eqb x.node n) refl (keyed key_at
 
 entries_keyed : (suite : SignatureSuite) (height : ℕ) (members : List Member) (e : RosterEntry) → IsIn e (roster_of suite height members) → e.key ≡ (member_signer_of suite height e.node).key
 entries_keyed suite height members e on =
-    let m = from_map (entry_of suite height) e members (from_order is_entry_before e (map (entry_of suite height) members) on) in
+    let m = from_map (roster_entry_of suite height) e members (from_order is_entry_before e (map (roster_entry_of suite height) members) on) in
     subst (λ (x : RosterEntry). x.key ≡ (member_signer_of suite height x.node).key) m.1.1 refl
 
 -- the roster of a schedule has the key of each member
@@ -61,15 +61,15 @@ signer_listed key sign s verifies height listed members signers place m g same s
     ap (λ (es : List RosterEntry). key_of es m.node) (sym set.listed_is) ∙ setup_key s m on ∙ ap (λ (h : MemberSigner). Some h.key) (sym member_signer)
 
 -- the node that it starts is the host's
-pub signer_hosted : {G : Type 0} (key : G → PublicKey) (sign : G → Signs) (setup : Setup) (verifies : Verifies) (height : ℕ) (listed : List RosterEntry) (members : List Member) (signers : List G) (place : ℕ) (m : Member) (g : G) (v : View)
+pub signer_hosted : {G : Type 0} (key : G → PublicKey) (sign : G → Signs) (setup : Setup) (verifies : Verifies) (height : ℕ) (listed : List RosterEntry) (members : List Member) (signers : List G) (place : ℕ) (m : Member) (g : G) (v : ActorView)
     → IsSet setup verifies height listed members (member_signers_of key sign signers) → place < length members → m ≡ get_or members place m → g ≡ get_or signers place g
     → v ≡ record { here = record { verifies = verifies; me = (get_or members place m).node; listed = listed }; sign = sign (get_or signers place g); journal = Birth (get_or members place m).node (hash_of_roster listed) ∷ []; pending = None }
     → IsHosted setup (fresh_host setup m.node) v
 signer_hosted {G = G} key sign setup verifies height listed members signers place m g v set within is_m is_g made =
-    let first : Member → G → View = λ n h. record { here = record { verifies = verifies; me = n.node; listed = listed }; sign = sign h; journal = Birth n.node (hash_of_roster listed) ∷ []; pending = None } in
+    let first : Member → G → ActorView = λ n h. record { here = record { verifies = verifies; me = n.node; listed = listed }; sign = sign h; journal = Birth n.node (hash_of_roster listed) ∷ []; pending = None } in
     let is : v ≡ first m g = made ∙ ap (λ (n : Member). first n (get_or signers place g)) (sym is_m) ∙ ap (first m) (sym is_g) in
     let member_signer = member_signer_at key sign setup.suite setup.height members signers place m g set.signers_are within is_m is_g in
-    subst (λ (x : View). IsHosted setup (fresh_host setup m.node) x) (sym is) (record {
+    subst (λ (x : ActorView). IsHosted setup (fresh_host setup m.node) x) (sym is) (record {
       here = λ i. record { verifies = sym set.verifies_is i; me = m.node; listed = sym set.listed_is i };
       sign = ap (λ (h : MemberSigner). h.sign) member_signer;
       journal = ap (λ (es : List RosterEntry). Birth m.node (hash_of_roster es) ∷ []) (sym set.listed_is);

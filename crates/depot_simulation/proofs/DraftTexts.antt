@@ -22,7 +22,7 @@ use Rattle.depot_model.specs.History.{by_id, history_hash}
 use Rattle.depot_model.specs.Journal.{has_id}
 use Rattle.depot_model.specs.Lists.{IsIn, is_among}
 use Rattle.depot_model.specs.Log.{firsts, firsts_behind}
-use Rattle.depot_model.specs.Order.{is_named, past}
+use Rattle.depot_model.specs.Order.{is_named, parents, past}
 use Rattle.depot_model.specs.Own.{entry_of, write_of}
 use Rattle.depot_model.specs.Texts.{IsStatement, IsUpdate, id_of_update, update_body, update_fields, version_of}
 use Rattle.depot_model.specs.Vouching.{rising}
@@ -39,10 +39,11 @@ use Rattle.depot_schedule.specs.declared.event.HistoryWord.{HistoryWord}
 use Rattle.depot_schedule.specs.declared.event.HistoryWord.TheVariants as history_word
 use Rattle.depot_schedule.specs.declared.event.Ref.{Ref}
 use Rattle.depot_world.specs.Run.{Run, id_referred, plain_referred, referred}
-use Rattle.depot_world.specs.FaultySigning.{all_of, all_referred, drafted, entries_of, history_by, prev_of, updated, with_history}
+use Rattle.depot_world.specs.FaultySigning.{all_of, all_referred, drafted, entries_of, history_by, prev_of_ref, updated, with_history}
 use Rattle.depot_base.proofs.GeneralLaws.{all_both}
 use Rattle.depot_simulation.specs.Drafts.{MaySign, MayVouchFor}
-use Rattle.depot_scenario.specs.KnownUpdates.{HasSeenParents}
+use Rattle.depot_scenario.specs.KnownUpdates.{HasSeenParents, MayAsk}
+use Rattle.depot_simulation.specs.Asking.{asks_past}
 use Rattle.depot_simulation.proofs.EventFields.{voucher_sizes}
 use Rattle.depot_simulation.proofs.LabelledUpdates.{AreNamedWell, IsNamed, as_many, as_many_ids, each_is, id_named}
 
@@ -145,7 +146,7 @@ record IsPrev (seen : List Update) (p : List ℕ) : Type 0 where
   pub fits : digest.fits p
   pub was : bytes_eq p zeros ≡ false → has_id seen p ≡ true
 
-prev_is : (run : Run) (prev : Option Ref) (p : List ℕ) → AreNamedWell run → prev_of run prev ≡ Some p → IsPrev run.seen p
+prev_is : (run : Run) (prev : Option Ref) (p : List ℕ) → AreNamedWell run → prev_of_ref run prev ≡ Some p → IsPrev run.seen p
 unfolding bytes_of
 prev_is run None p named_well is =
     let none : zeros ≡ p = cc in
@@ -237,7 +238,7 @@ pub record IsSeenUpdate (seen : List Update) (u : Update) : Type 0 where
   pub parents : HasSeenParents seen u
 
 drafted_is : (run : Run) (writer seq clock : ℕ) (prev : Option Ref) (p : List ℕ) (changes : List Change) (refs : List Ref) (history : HistoryWord) (es : List Update) → AreNamedWell run → MaySign writer seq clock changes refs history
-    → prev_of run prev ≡ Some p → entries_of run writer refs ≡ Some es → IsDrafted writer run.seen p es
+    → prev_of_ref run prev ≡ Some p → entries_of run writer refs ≡ Some es → IsDrafted writer run.seen p es
 drafted_is run writer seq clock prev p changes refs history es named_well may is are =
     let from = entries_are run writer refs es are in
     record { prev = prev_is run prev p named_well is; entries = good_entries run writer refs es named_well from; few = omega (arith, few_entries run writer refs es from, may.few) }
@@ -245,8 +246,8 @@ drafted_is run writer seq clock prev p changes refs history es named_well may is
 pub updated_is_seen : (run : Run) (sign : Signs) (writer seq clock : ℕ) (prev : Option Ref) (changes : List Change) (refs : List Ref) (history : HistoryWord) (u : Update) → AreNamedWell run
     → MaySign writer seq clock changes refs history → Some u ≡ updated sign run writer seq clock prev changes refs history → IsSeenUpdate run.seen u
 unfolding updated
-updated_is_seen run sign writer seq clock prev changes refs history u named_well may is = by_prev (prev_of run prev) refl is where
-  by_entries : (p : List ℕ) (o : Option (List Update)) → prev_of run prev ≡ Some p → entries_of run writer refs ≡ o
+updated_is_seen run sign writer seq clock prev changes refs history u named_well may is = by_prev (prev_of_ref run prev) refl is where
+  by_entries : (p : List ℕ) (o : Option (List Update)) → prev_of_ref run prev ≡ Some p → entries_of run writer refs ≡ o
       → Some u ≡ option_map (λ us. with_history (drafted writer seq clock p (map write_of changes) us) (history_by run.seen history (drafted writer seq clock p (map write_of changes) us))) o → IsSeenUpdate run.seen u
   by_entries p None named are e = absurd cc
   by_entries p (Some es) named are e =
@@ -258,7 +259,7 @@ updated_is_seen run sign writer seq clock prev changes refs history u named_well
         parents = parents_of_draft writer seq clock p changes run.seen es (history_by run.seen history d) draft;
       })
 
-  by_prev : (o : Option (List ℕ)) → prev_of run prev ≡ o
+  by_prev : (o : Option (List ℕ)) → prev_of_ref run prev ≡ o
       → Some u ≡ option_and_then (λ p. option_map (λ us. with_history (drafted writer seq clock p (map write_of changes) us) (history_by run.seen history (drafted writer seq clock p (map write_of changes) us))) (entries_of run writer refs)) o → IsSeenUpdate run.seen u
   by_prev None named e = absurd cc
   by_prev (Some p) named e = by_entries p (entries_of run writer refs) named refl e
@@ -266,7 +267,7 @@ updated_is_seen run sign writer seq clock prev changes refs history u named_well
 -- ---- as it is put together
 
 -- its prev names nothing
-pub no_prev : (sign : Signs) (run : Run) (writer seq clock : ℕ) (prev : Option Ref) (changes : List Change) (refs : List Ref) (history : HistoryWord) → None ≡ prev_of run prev → None ≡ updated sign run writer seq clock prev changes refs history
+pub no_prev : (sign : Signs) (run : Run) (writer seq clock : ℕ) (prev : Option Ref) (changes : List Change) (refs : List Ref) (history : HistoryWord) → None ≡ prev_of_ref run prev → None ≡ updated sign run writer seq clock prev changes refs history
 unfolding updated
 no_prev sign run writer seq clock prev changes refs history none = rw (← none) refl
 
@@ -274,7 +275,7 @@ no_prev sign run writer seq clock prev changes refs history none = rw (← none)
 pub no_entries : (sign : Signs) (run : Run) (writer seq clock : ℕ) (prev : Option Ref) (changes : List Change) (refs : List Ref) (history : HistoryWord) → None ≡ option_map (λ us. map entry_of us) (entries_of run writer refs)
     → None ≡ updated sign run writer seq clock prev changes refs history
 unfolding updated
-no_entries sign run writer seq clock prev changes refs history none = by_prev (prev_of run prev) (entries_of run writer refs) none where
+no_entries sign run writer seq clock prev changes refs history none = by_prev (prev_of_ref run prev) (entries_of run writer refs) none where
   by_prev : (o : Option (List ℕ)) (es : Option (List Update)) → None ≡ option_map (λ us. map entry_of us) es
       → None ≡ option_and_then (λ p. option_map (λ us. with_history (drafted writer seq clock p (map write_of changes) us) (history_by run.seen history (drafted writer seq clock p (map write_of changes) us))) es) o
   by_prev None es e = refl
@@ -299,14 +300,14 @@ IsPutTogether writer seq clock p changes deps draft = (us : List Update) → dep
 
 -- its parents were seen
 pub draft_is_seen : (run : Run) (writer seq clock : ℕ) (prev : Option Ref) (p : List ℕ) (changes : List Change) (refs : List Ref) (history : HistoryWord) (deps : List Dep) (draft : Update) → AreNamedWell run
-    → MaySign writer seq clock changes refs history → Some p ≡ prev_of run prev → Some deps ≡ option_map (λ us. map entry_of us) (entries_of run writer refs) → IsPutTogether writer seq clock p changes deps draft → HasSeenParents run.seen draft
+    → MaySign writer seq clock changes refs history → Some p ≡ prev_of_ref run prev → Some deps ≡ option_map (λ us. map entry_of us) (entries_of run writer refs) → IsPutTogether writer seq clock p changes deps draft → HasSeenParents run.seen draft
 draft_is_seen run writer seq clock prev p changes refs history deps draft named_well may is are made =
     let es = has_entries run writer refs deps are in
     subst (λ (x : Update). HasSeenParents run.seen x) (sym (made es.entries es.is))
     (parents_of_draft writer seq clock p changes run.seen es.entries zeros (drafted_is run writer seq clock prev p changes refs history es.entries named_well may (sym is) es.are))
 
 -- with its history hash it is the update
-pub draft_is_updated : (sign : Signs) (run : Run) (writer seq clock : ℕ) (prev : Option Ref) (p : List ℕ) (changes : List Change) (refs : List Ref) (history : HistoryWord) (deps : List Dep) (draft u : Update) → Some p ≡ prev_of run prev
+pub draft_is_updated : (sign : Signs) (run : Run) (writer seq clock : ℕ) (prev : Option Ref) (p : List ℕ) (changes : List Change) (refs : List Ref) (history : HistoryWord) (deps : List Dep) (draft u : Update) → Some p ≡ prev_of_ref run prev
     → Some deps ≡ option_map (λ us. map entry_of us) (entries_of run writer refs) → IsPutTogether writer seq clock p changes deps draft → u ≡ with_history draft (history_by run.seen history draft) → Some u ≡ updated sign run writer seq clock prev changes refs history
 unfolding updated
 draft_is_updated sign run writer seq clock prev p changes refs history deps draft u is are made now =
@@ -339,3 +340,16 @@ pub vouched_has_text : (run : Run) (node seq : ℕ) (refs : List Ref) (named ids
 vouched_has_text run node seq refs named ids are is may =
     subst (λ (hs : List (List ℕ)). IsStatement (statement.Voucher (record { node = node; seq = seq; ids = hs }))) (sym is)
     (voucher_sized node seq refs named may (as_many_ids run refs named (sym are)) (λ h on. let r = id_named run refs named h (sym are) on in id_is_good run r.0 h r.1))
+
+-- a right history that isn't asked for is that of an update without parents
+pub may_ask : (asked : Bool) (run : Run) (writer seq clock : ℕ) (prev : Option Ref) (p : List ℕ) (changes : List Change) (refs : List Ref) (history : HistoryWord) (deps : List Dep) (draft : Update) → (asks_past prev refs history ≡ true → asked ≡ true)
+    → Some p ≡ prev_of_ref run prev → Some deps ≡ option_map (λ us. map entry_of us) (entries_of run writer refs) → IsPutTogether writer seq clock p changes deps draft → MayAsk asked draft history
+unfolding all_of firsts_behind by_id
+may_ask asked run writer seq clock prev p changes refs (history_word.Given h) deps draft ask is are made = tt
+may_ask asked run writer seq clock (Some r) p changes refs history_word.Right deps draft ask is are made = inr (ask refl)
+may_ask asked run writer seq clock None p changes (r ∷ rs) history_word.Right deps draft ask is are made = inr (ask refl)
+may_ask asked run writer seq clock None p changes [] history_word.Right deps draft ask is are made =
+    let zero : p ≡ zeros = cc in
+    let none : deps ≡ [] = cc in
+    let with : List ℕ → Update = λ q. with_history (drafted writer seq clock q (map write_of changes) []) zeros in
+    inl (subst (λ (x : Update). parents x ≡ []) (sym (made [] none)) (subst (λ (q : List ℕ). parents (with q) ≡ []) (sym zero) refl))

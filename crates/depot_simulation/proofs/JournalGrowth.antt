@@ -5,7 +5,7 @@ use Rattle.depot_model.specs.Bundle.{Signs}
 use Rattle.depot_model.specs.Checks.{Setting}
 use Rattle.depot_world.specs.Effects.{put_by, get_by, receipt_by, settled_by, checkpoint_by, sign_by, hello_by, bundle_by, give_by, restart_by}
 use Rattle.depot_world.specs.Run.{PendingStop, Host}
-use Rattle.depot_world.specs.ScheduleStops.{Effect, EventResult, standing_after, left_of, stopped_with, result_pending, result_by, event_result}
+use Rattle.depot_world.specs.ScheduleStops.{Effect, EventResult, standing_after, journal_left, stopped_with, result_pending, result_by, event_result}
 use Rattle.depot_model.proofs.FeedGrowth.{IsGrown}
 use Rattle.depot_world.proofs.EffectGrowth as effects
 
@@ -15,7 +15,7 @@ use Rattle.depot_world.proofs.EffectGrowth as effects
 pub result_grows : (s : Host) (d : Effect) → IsGrown s.correct.journal d.journal → IsGrown s.correct.journal (event_result s d).host.correct.journal
 unfolding event_result
 result_grows s d e = by_stop s.pending where
-  by_call : (a : PendingStop) (b : Bool) → IsGrown s.correct.journal (cond b (stopped_with s (left_of s.correct.journal d.journal a)) (result_by s (Some (record { call = a.call - d.calls; image = a.image })) d)).host.correct.journal
+  by_call : (a : PendingStop) (b : Bool) → IsGrown s.correct.journal (cond b (stopped_with s (journal_left s.correct.journal d.journal a)) (result_by s (Some (record { call = a.call - d.calls; image = a.image })) d)).host.correct.journal
   by_call a true = record { more = take (standing_after a) (drop (length s.correct.journal) d.journal); is = refl }
   by_call a false = e
 

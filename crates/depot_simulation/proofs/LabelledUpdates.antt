@@ -25,11 +25,11 @@ use Rattle.depot_schedule.specs.EventWords.{first_or}
 use Rattle.depot_schedule.specs.declared.event.Ref.{Ref}
 use Rattle.depot_schedule.specs.declared.event.Ref.TheVariants as ref
 use Rattle.depot_model.specs.Readers.{Reader}
-use Rattle.depot_world.specs.Run.{Made, Run, Host, first_update, id_referred, made_in, own_update, plain_referred, referred, signed_of, host_in}
+use Rattle.depot_world.specs.Run.{Labelled, Run, Host, first_update, id_referred, made_in, own_update, plain_referred, referred, signed_of, host_in}
 use Rattle.depot_world.specs.FaultySigning.{all_of, all_referred, entries_of}
 use Rattle.depot_world.specs.Setups.{Setup}
 use Rattle.depot_world.proofs.GoodRuns.{found_is}
-use Rattle.depot_simulation.specs.Acting.{AreHosted, IsHosted, ParticipantView, View}
+use Rattle.depot_simulation.specs.Acting.{AreHosted, IsHosted, ParticipantView, ActorView}
 use Rattle.depot_simulation.specs.Playing.{IsSimulationAt, IsPlayed, IsRemembered, participant_by}
 use Rattle.depot_simulation.specs.declared.participant.Participant.{Participant}
 use Rattle.depot_simulation.specs.declared.simulation.Simulation.{Simulation}
@@ -92,7 +92,7 @@ host_place_of setup (t ∷ ss) (p ∷ ps) s hosted (inl here) = record { partici
 host_place_of setup (t ∷ ss) (p ∷ ps) s hosted (inr there) = let host_place = host_place_of setup ss ps s hosted.1 there in record { participant = host_place.participant; on = inr host_place.on; hosted = host_place.hosted }
 
 -- what a label names is one of the labels
-made_is : (ms : List Made) (label : List ℕ) (m : Made) → made_in ms label ≡ Some m → IsIn m ms
+made_is : (ms : List Labelled) (label : List ℕ) (m : Labelled) → made_in ms label ≡ Some m → IsIn m ms
 unfolding made_in
 made_is [] label m is = absurd cc
 made_is (x ∷ ms) label m is = choice (bytes_eq x.label label) is (made_is ms label m) where
@@ -108,14 +108,14 @@ signed_update s u fits is = by_kind s.statement (IsStatement-from_signed s fits)
 
 labelled_is : (run : Run) (label : List ℕ) (u : Update) → IsRemembered run → option_and_then (λ s. first_update (update_in s.statement)) (signed_of run label) ≡ Some u → IsNamed run.seen u
 labelled_is run label u known is = by_made (made_in run.labels label) refl is where
-  by_signed : (m : Made) (o : Option Signed) → IsIn m run.labels → m.signed ≡ o → option_and_then (λ s. first_update (update_in s.statement)) o ≡ Some u → IsNamed run.seen u
+  by_signed : (m : Labelled) (o : Option Signed) → IsIn m run.labels → m.signed ≡ o → option_and_then (λ s. first_update (update_in s.statement)) o ≡ Some u → IsNamed run.seen u
   by_signed m None on given e = absurd cc
   by_signed m (Some s) on given e = record {
     fits = signed_update s u (known.signed_are m s on given) e;
     was = all_at (λ (w : Update). has_id run.seen (id_of_update w) ≡ true) (update_in s.statement) u (known.signed_were m s on given) (first_is (update_in s.statement) u e);
   }
 
-  by_made : (o : Option Made) → made_in run.labels label ≡ o → option_and_then (λ s. first_update (update_in s.statement)) (option_and_then (λ (m : Made). m.signed) o) ≡ Some u → IsNamed run.seen u
+  by_made : (o : Option Labelled) → made_in run.labels label ≡ o → option_and_then (λ s. first_update (update_in s.statement)) (option_and_then (λ (m : Labelled). m.signed) o) ≡ Some u → IsNamed run.seen u
   by_made None found e = absurd cc
   by_made (Some m) found e = by_signed m m.signed (made_is run.labels label m found) refl e
 
@@ -140,14 +140,14 @@ referred_is setup run ps all (ref.Own node seq) u is = own_is setup run ps node 
 
 -- ---- at a point of a run
 
-lawful_parts : {A : Type 0} (view : A → View) (participants : List (Participant A)) → ((a : A) → IsLawful (view a).here (view a).journal) → AreLawful (map (participant_by view) participants)
+lawful_parts : {A : Type 0} (view : A → ActorView) (participants : List (Participant A)) → ((a : A) → IsLawful (view a).here (view a).journal) → AreLawful (map (participant_by view) participants)
 lawful_parts view participants lawful p on = let a = from_map (participant_by view) p participants on in subst (λ (x : ParticipantView). IsLawful x.view.here x.view.journal) a.1.1 (lawful a.0.actor)
 
-pub named_here : {A R : Type 0} (view : A → View) (reads : Reader → R → Type 0) (setup : Setup) (run : Run) (simulation : Simulation A R) → ((a : A) → IsLawful (view a).here (view a).journal) → IsSimulationAt view reads setup run simulation → AreNamedWell run
+pub named_here : {A R : Type 0} (view : A → ActorView) (reads : Reader → R → Type 0) (setup : Setup) (run : Run) (simulation : Simulation A R) → ((a : A) → IsLawful (view a).here (view a).journal) → IsSimulationAt view reads setup run simulation → AreNamedWell run
 named_here view reads setup run simulation lawful at = referred_is setup run (map (participant_by view) simulation.participants.items) (record { hosted = at.hosted; lawful = lawful_parts view simulation.participants.items lawful; known = at.remembered })
 
 -- what a reference names has a text
-pub fits_here : {A R : Type 0} (view : A → View) (reads : Reader → R → Type 0) (simulation : Simulation A R) → ((a : A) → IsLawful (view a).here (view a).journal) → IsPlayed view reads simulation → (r : Ref) (u : Update) → ((setup : Setup) (run : Run) → IsSimulationAt view reads setup run simulation → Some u ≡ referred run r) → IsUpdate u
+pub fits_here : {A R : Type 0} (view : A → ActorView) (reads : Reader → R → Type 0) (simulation : Simulation A R) → ((a : A) → IsLawful (view a).here (view a).journal) → IsPlayed view reads simulation → (r : Ref) (u : Update) → ((setup : Setup) (run : Run) → IsSimulationAt view reads setup run simulation → Some u ≡ referred run r) → IsUpdate u
 fits_here view reads simulation lawful p r u is = (named_here view reads p.setup p.run simulation lawful p.at r u (sym (is p.setup p.run p.at))).fits
 
 -- ---- all of them

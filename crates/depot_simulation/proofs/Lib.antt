@@ -1,6 +1,7 @@
 pub mod BegunRuns
 pub mod DraftTexts
 pub mod EventFields
+pub mod ForgottenLabels
 pub mod JournalGrowth
 pub mod KeptReads
 pub mod LabelledUpdates

@@ -14,7 +14,6 @@ use Rattle.depot_answers.specs.AnswerTexts.{spaced}
 use Rattle.depot_base.specs.declared.statement.Signed.{Signed}
 use Rattle.depot_base.specs.declared.statement.Statement.{Statement}
 use Rattle.depot_base.specs.declared.statement.Statement.TheVariants as statement
-use Rattle.depot_graph.specs.Kept.{updates_in}
 use Rattle.depot_model.specs.Journal.{update_in}
 use Rattle.depot_model.specs.Lists.{IsIn}
 use Rattle.depot_model.specs.Bundle.{Signs}
@@ -30,11 +29,11 @@ use Rattle.depot_schedule.specs.declared.event.Ref.{Ref}
 use Rattle.depot_schedule.specs.declared.member.Member.{Member}
 use Rattle.depot_schedule.specs.declared.schedule.Schedule.{Schedule}
 use Rattle.depot_model.specs.Readers.{Reader}
-use Rattle.depot_world.specs.Run.{Made, Run, bytes_of, id_referred, made_in, signed_of}
-use Rattle.depot_world.specs.FaultySigning.{Text, all_of, hollow_text, no_reference, proof_by, proof_text, proof_with, voucher_text, vouched_text}
+use Rattle.depot_world.specs.Run.{Labelled, Run, bytes_of_label, id_referred, made_in, signed_of}
+use Rattle.depot_world.specs.FaultySigning.{Text, all_of, hollow_text, no_reference, proof_of_halves, proof_text, proof_with, voucher_text, vouched_text}
 use Rattle.depot_world.specs.Setups.{Setup}
 use Rattle.depot_world.specs.Transcript.{done, done_by_text}
-use Rattle.depot_simulation.specs.Acting.{AreHosted, View}
+use Rattle.depot_simulation.specs.Acting.{AreHosted, ActorView}
 use Rattle.depot_scenario.specs.Scenarios.{MayHappen}
 use Rattle.depot_simulation.specs.Doing.{HasDone, is_text, text_by}
 use Rattle.depot_simulation.specs.Drafts.{HasLeaf, MaySign}
@@ -114,17 +113,17 @@ unvouched_is sign run node seq refs is = ap (by_ids sign node seq) is ∙ vouche
 halves : Kind → Option Signed → Option Signed → Text
 halves kind None other = no_reference
 halves kind (Some s) None = no_reference
-halves kind (Some s) (Some t) = proof_with kind (proof_by kind s t)
+halves kind (Some s) (Some t) = proof_with kind (proof_of_halves kind s t)
 
 proof_by_halves : (run : Run) (kind : Kind) (a b : List ℕ) → halves kind (signed_of run a) (signed_of run b) ≡ proof_text run kind a b
 unfolding proof_text all_of halves
 proof_by_halves run kind a b = by_cases (signed_of run a) (signed_of run b) where
-  by_cases : (x y : Option Signed) → halves kind x y ≡ elim (all_of (x ∷ y ∷ [])) as (λ z. Text) [ Some (s ∷ t ∷ []) ↦ proof_with kind (proof_by kind s t) | others ↦ no_reference ]
+  by_cases : (x y : Option Signed) → halves kind x y ≡ elim (all_of (x ∷ y ∷ [])) as (λ z. Text) [ Some (s ∷ t ∷ []) ↦ proof_with kind (proof_of_halves kind s t) | others ↦ no_reference ]
   by_cases None y = refl
   by_cases (Some s) None = refl
   by_cases (Some s) (Some t) = refl
 
-pub proof_is : (run : Run) (kind : Kind) (a b : List ℕ) (s t : Signed) → Some s ≡ signed_of run a → Some t ≡ signed_of run b → proof_with kind (proof_by kind s t) ≡ proof_text run kind a b
+pub proof_is : (run : Run) (kind : Kind) (a b : List ℕ) (s t : Signed) → Some s ≡ signed_of run a → Some t ≡ signed_of run b → proof_with kind (proof_of_halves kind s t) ≡ proof_text run kind a b
 unfolding halves
 proof_is run kind a b s t one two = ap (λ (x : Option Signed). halves kind x (Some t)) one ∙ ap (halves kind (signed_of run a)) two ∙ proof_by_halves run kind a b
 
@@ -142,45 +141,45 @@ hollow_by : List ℕ → Option Signed → Text
 hollow_by text None = no_reference
 hollow_by text (Some s) = if nat_le (length text) 65536 then proof_with NotUpdate (Hollow s text) else no_reference
 
-hollow_is_by : (run : Run) (voucher plain : List ℕ) → hollow_by (bytes_of run plain) (signed_of run voucher) ≡ hollow_text run voucher plain
+hollow_is_by : (run : Run) (voucher plain : List ℕ) → hollow_by (bytes_of_label run plain) (signed_of run voucher) ≡ hollow_text run voucher plain
 unfolding hollow_text hollow_by
 hollow_is_by run voucher plain = by_cases (signed_of run voucher) where
-  by_cases : (o : Option Signed) → hollow_by (bytes_of run plain) o
-      ≡ elim o as (λ x. Text) [ None ↦ no_reference | Some s ↦ if nat_le (length (bytes_of run plain)) 65536 then proof_with NotUpdate (Hollow s (bytes_of run plain)) else no_reference ]
+  by_cases : (o : Option Signed) → hollow_by (bytes_of_label run plain) o
+      ≡ elim o as (λ x. Text) [ None ↦ no_reference | Some s ↦ if nat_le (length (bytes_of_label run plain)) 65536 then proof_with NotUpdate (Hollow s (bytes_of_label run plain)) else no_reference ]
   by_cases None = refl
   by_cases (Some s) = refl
 
 -- the label of the voucher names none
 pub no_voucher : (run : Run) (voucher plain : List ℕ) → None ≡ signed_of run voucher → no_reference ≡ hollow_text run voucher plain
 unfolding hollow_by
-no_voucher run voucher plain none = ap (hollow_by (bytes_of run plain)) none ∙ hollow_is_by run voucher plain
+no_voucher run voucher plain none = ap (hollow_by (bytes_of_label run plain)) none ∙ hollow_is_by run voucher plain
 
 -- there are too many bytes
-pub long_text : (run : Run) (voucher plain text : List ℕ) (s : Signed) → Some s ≡ signed_of run voucher → text ≡ bytes_of run plain → 65536 < length text → no_reference ≡ hollow_text run voucher plain
+pub long_text : (run : Run) (voucher plain text : List ℕ) (s : Signed) → Some s ≡ signed_of run voucher → text ≡ bytes_of_label run plain → 65536 < length text → no_reference ≡ hollow_text run voucher plain
 unfolding hollow_by
 long_text run voucher plain text s is same long =
     let late : nat_le (length text) 65536 ≡ false = grind (arith, nat_tests, long) in
-    ap (λ (b : Bool). if b then proof_with NotUpdate (Hollow s text) else no_reference) (sym late) ∙ ap (λ (t : List ℕ). hollow_by t (Some s)) same ∙ ap (hollow_by (bytes_of run plain)) is ∙ hollow_is_by run voucher plain
+    ap (λ (b : Bool). if b then proof_with NotUpdate (Hollow s text) else no_reference) (sym late) ∙ ap (λ (t : List ℕ). hollow_by t (Some s)) same ∙ ap (hollow_by (bytes_of_label run plain)) is ∙ hollow_is_by run voucher plain
 
-pub hollow_is : (run : Run) (voucher plain text : List ℕ) (s : Signed) → Some s ≡ signed_of run voucher → text ≡ bytes_of run plain → length text ≤ 65536 → proof_with NotUpdate (Hollow s text) ≡ hollow_text run voucher plain
+pub hollow_is : (run : Run) (voucher plain text : List ℕ) (s : Signed) → Some s ≡ signed_of run voucher → text ≡ bytes_of_label run plain → length text ≤ 65536 → proof_with NotUpdate (Hollow s text) ≡ hollow_text run voucher plain
 unfolding hollow_by
 hollow_is run voucher plain text s is same short =
     let early : nat_le (length text) 65536 ≡ true = grind (arith, nat_tests, short) in
-    ap (λ (b : Bool). if b then proof_with NotUpdate (Hollow s text) else no_reference) (sym early) ∙ ap (λ (t : List ℕ). hollow_by t (Some s)) same ∙ ap (hollow_by (bytes_of run plain)) is ∙ hollow_is_by run voucher plain
+    ap (λ (b : Bool). if b then proof_with NotUpdate (Hollow s text) else no_reference) (sym early) ∙ ap (λ (t : List ℕ). hollow_by t (Some s)) same ∙ ap (hollow_by (bytes_of_label run plain)) is ∙ hollow_is_by run voucher plain
 
 -- ---- signed statements of labels
 
 -- a signed statement was made under a label
-record IsMade (ms : List Made) (s : Signed) : Type 0 where
-  made : Made
+record IsMade (ms : List Labelled) (s : Signed) : Type 0 where
+  made : Labelled
   on : IsIn made ms
   is : made.signed ≡ Some s
 
-is_made : (ms : List Made) (label : List ℕ) (s : Signed) → option_and_then (λ (m : Made). m.signed) (made_in ms label) ≡ Some s → IsMade ms s
+is_made : (ms : List Labelled) (label : List ℕ) (s : Signed) → option_and_then (λ (m : Labelled). m.signed) (made_in ms label) ≡ Some s → IsMade ms s
 unfolding made_in
 is_made [] label s e = absurd cc
 is_made (m ∷ ms) label s e = by_test (bytes_eq m.label label) (is_made ms label s) e where
-  by_test : (b : Bool) → (option_and_then (λ (x : Made). x.signed) (made_in ms label) ≡ Some s → IsMade ms s) → option_and_then (λ (x : Made). x.signed) (cond b (Some m) (made_in ms label)) ≡ Some s → IsMade (m ∷ ms) s
+  by_test : (b : Bool) → (option_and_then (λ (x : Labelled). x.signed) (made_in ms label) ≡ Some s → IsMade ms s) → option_and_then (λ (x : Labelled). x.signed) (cond b (Some m) (made_in ms label)) ≡ Some s → IsMade (m ∷ ms) s
   by_test true rest is = record { made = m; on = inl refl; is = is }
   by_test false rest is = let r = rest is in record { made = r.made; on = inr r.on; is = r.is }
 
@@ -209,20 +208,20 @@ update_seen seen u None were is = tt
 update_seen seen u (Some s) were is = subst (λ (st : Statement). WereSeen seen (update_in st)) (sym is) were
 
 -- a label was given a text
-pub text_given : (A : Type 0) {R : Type 0} (view : A → View) (reads : Reader → R → Type 0) (setup : Setup) (run : Run) (label : List ℕ) (t : Text) (old new : Simulation A R) (made : made_text.Text) (lines : List ℕ) → IsSimulationAt view reads setup run old → IsText made t → IsKept run.seen made.signed
+pub text_given : (A : Type 0) {R : Type 0} (view : A → ActorView) (reads : Reader → R → Type 0) (setup : Setup) (run : Run) (label : List ℕ) (t : Text) (old new : Simulation A R) (made : made_text.Text) (lines : List ℕ) → IsSimulationAt view reads setup run old → IsText made t → IsKept run.seen made.signed
     → lines ≡ spaced made.answer ++ 10 ∷ [] → new.participants ≡ old.participants → new.seen ≡ old.seen → new.readers ≡ old.readers
-    → ((labels : List Made) → AreLabels old.labels.map.entries labels → AreLabels new.labels.map.entries (labels ++ record { label = label; bytes = made.bytes; signed = made.signed; plain = made.plain } ∷ []))
+    → ((labels : List Labelled) → AreLabels old.labels.map.entries labels → AreLabels new.labels.map.entries (labels ++ record { label = label; bytes = made.bytes; signed = made.signed; plain = made.plain } ∷ []))
     → HasDone A view reads setup (done_by_text run label t) lines new
 text_given A {R = R} view reads setup run label t old new made lines at is kept told participants seen readers labels = record {
   lines_are = told ∙ ap (λ (answer : List ℕ). spaced answer ++ 10 ∷ []) is.answer_is ∙ sym (append-nil (spaced t.answer ++ 10 ∷ []));
   at = record {
     hosted = subst (λ (v : Vec (Participant A) Global). AreHosted setup run.hosts (map (participant_by view) v.items)) (sym participants) at.hosted;
-    labels_are = subst (λ (m : Made). AreLabels new.labels.map.entries (run.labels ++ m ∷ []))
+    labels_are = subst (λ (m : Labelled). AreLabels new.labels.map.entries (run.labels ++ m ∷ []))
         (ap (λ (b : List ℕ). record { label = label; bytes = b; signed = made.signed; plain = made.plain }) is.bytes_are
         ∙ ap (λ (o : Option Signed). record { label = label; bytes = t.bytes; signed = o; plain = made.plain }) is.signed_is
         ∙ ap (λ (p : Bool). record { label = label; bytes = t.bytes; signed = t.signed; plain = p }) is.plain_is)
         (labels run.labels at.labels_are);
-    seen_are = ap (λ (x : KnownUpdates). updates_in x.graph.items.entries) seen ∙ at.seen_are;
+    seen_are = ap (λ (x : KnownUpdates). x.listed.updates) seen ∙ at.seen_are;
     readers_are = subst (λ (rs : Readers R). AreReaders reads rs.map.entries run.readers) (sym readers) at.readers_are;
     remembered = label_remembers run (record { label = label; bytes = t.bytes; signed = t.signed; plain = t.plain }) at.remembered (subst (λ (o : Option Signed). IsKept run.seen o) is.signed_is kept);
   };

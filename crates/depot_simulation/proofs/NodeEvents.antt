@@ -6,7 +6,6 @@ use Rattle.std.proofs.lemmas.Option.{slice_get_within}
 use Rattle.depot_base.specs.Writes.{one_change}
 use Rattle.depot_base.specs.declared.record.Record.{Record}
 use Rattle.depot_base.specs.declared.update.Update.{Update}
-use Rattle.depot_graph.specs.Kept.{updates_in}
 use Rattle.depot_laws.proofs.Causes.{lawful_is_causal}
 use Rattle.depot_model.specs.Journal.{accepted}
 use Rattle.depot_model.specs.Lawful.{IsLawful}
@@ -16,13 +15,13 @@ use Rattle.depot_schedule.specs.declared.event.Event.TheVariants as event
 use Rattle.depot_schedule.specs.EventLines.{event_node}
 use Rattle.depot_model.specs.Readers.{Reader}
 use Rattle.depot_world.specs.Effects.{put_by, get_by, hello_by, bundle_by, give_by, restart_by, checkpoint_by, sign_by}
-use Rattle.depot_world.specs.Run.{Made, Run, Host, bytes_of, host_in, put_host, seen_with, with_host}
+use Rattle.depot_world.specs.Run.{Labelled, Run, Host, bytes_of_label, host_in, put_host, seen_with, with_host}
 use Rattle.depot_world.specs.ScheduleStops.{Effect, EventResult, event_result}
 use Rattle.depot_world.specs.Setups.{Setup, stands_on, signs_on}
-use Rattle.depot_world.specs.Transcript.{Done, pending_at, by_node, done, done_by_node, lines_after_arrow}
+use Rattle.depot_world.specs.Transcript.{Done, pending_at, done_at_node, done, done_by_node, lines_after_arrow}
 use Rattle.depot_model.proofs.FeedGrowth.{IsGrown, grown_none}
 use Rattle.depot_world.proofs.GoodRuns.{found_is}
-use Rattle.depot_simulation.specs.Acting.{View, AreHosted, CameTo, IsParticipant, IsHosted, TellReads}
+use Rattle.depot_simulation.specs.Acting.{ActorView, AreHosted, CameTo, IsParticipant, IsHosted, TellReads}
 use Rattle.depot_simulation.specs.Doing.{HasDone, HasLeft, effect_of, is_effect}
 use Rattle.depot_scenario.specs.Labels.{AreLabels, label_by, labels_with}
 use Rattle.depot_simulation.specs.Playing.{IsSimulationAt, IsRemembered, WereSeen, participant_by}
@@ -46,8 +45,8 @@ effect_grows setup run (event.Put node key value) s = put_grows (stands_on setup
 effect_grows setup run (event.Puts node changes) s = put_grows (stands_on setup s.correct.node) s changes
 effect_grows setup run (event.Get node key) s = get_grows s key
 effect_grows setup run (event.Hello node label) s = hello_grows (stands_on setup s.correct.node) s
-effect_grows setup run (event.Bundle node hello label) s = bundle_grows (stands_on setup s.correct.node) (signs_on setup s.correct.node) s (bytes_of run hello)
-effect_grows setup run (event.Give node label size) s = give_grows (stands_on setup s.correct.node) s (bytes_of run label)
+effect_grows setup run (event.Bundle node hello label) s = bundle_grows (stands_on setup s.correct.node) (signs_on setup s.correct.node) s (bytes_of_label run hello)
+effect_grows setup run (event.Give node label size) s = give_grows (stands_on setup s.correct.node) s (bytes_of_label run label)
 effect_grows setup run (event.Restart node) s = restart_grows s
 effect_grows setup run (event.Update label writer seq clock prev key value deps hash) s = restart_grows s
 effect_grows setup run (event.Updates label writer seq clock prev changes deps hash) s = restart_grows s
@@ -64,7 +63,7 @@ effect_grows setup run (event.Receipt node refs) s = restart_grows s
 effect_grows setup run (event.Settled node reference k) s = restart_grows s
 effect_grows setup run event.Audit s = restart_grows s
 effect_grows setup run (event.Checkpoint node label) s = checkpoint_grows (stands_on setup s.correct.node) s
-effect_grows setup run (event.Sign node label) s = sign_grows (stands_on setup s.correct.node) s (bytes_of run label)
+effect_grows setup run (event.Sign node label) s = sign_grows (stands_on setup s.correct.node) s (bytes_of_label run label)
 effect_grows setup run (event.Trim node label name) s = restart_grows s
 effect_grows setup run (event.Tgive name label) s = restart_grows s
 effect_grows setup run (event.Tget name key) s = restart_grows s
@@ -77,12 +76,12 @@ at_node run label effect o = elim o as (λ x. Done) [
   | Some s ↦ done_by_node run label (event_result s (effect s))
 ]
 
-pub there_is : (run : Run) (node : ℕ) (label : Option (List ℕ)) (effect : Host → Effect) (s : Host) → host_in run.hosts node ≡ Some s → by_node run node label effect ≡ done_by_node run label (event_result s (effect s))
-unfolding by_node at_node
+pub there_is : (run : Run) (node : ℕ) (label : Option (List ℕ)) (effect : Host → Effect) (s : Host) → host_in run.hosts node ≡ Some s → done_at_node run node label effect ≡ done_by_node run label (event_result s (effect s))
+unfolding done_at_node at_node
 there_is run node label effect s found = ap (at_node run label effect) found
 
-pub none_is : (run : Run) (node : ℕ) (label : Option (List ℕ)) (effect : Host → Effect) → host_in run.hosts node ≡ None → by_node run node label effect ≡ record { answer = []; behind = []; run = run }
-unfolding by_node at_node
+pub none_is : (run : Run) (node : ℕ) (label : Option (List ℕ)) (effect : Host → Effect) → host_in run.hosts node ≡ None → done_at_node run node label effect ≡ record { answer = []; behind = []; run = run }
+unfolding done_at_node at_node
 none_is run node label effect found = ap (at_node run label effect) found
 
 effect_is : (setup : Setup) (run : Run) (e : Event) (s : Host) → is_effect e ≡ true → host_in run.hosts (event_node e) ≡ Some s → s.correct.node ≡ event_node e → done setup run e ≡ done_by_node run (label_by e) (event_result s (effect_of setup run e s))
@@ -93,10 +92,10 @@ effect_is setup run (event.Puts node changes) s effect found is = there_is run n
 effect_is setup run (event.Get node key) s effect found is = there_is run node None (λ x. get_by x.correct key) s found
 effect_is setup run (event.Hello node label) s effect found is = there_is run node (Some label) (λ x. hello_by (stands_on setup node) x.correct) s found ∙ ap (λ (n : ℕ). done_by_node run (Some label) (event_result s (hello_by (stands_on setup n) s.correct))) (sym is)
 effect_is setup run (event.Bundle node hello label) s effect found is =
-    there_is run node (Some label) (λ x. bundle_by (stands_on setup node) (signs_on setup node) x.correct (bytes_of run hello)) s found
-    ∙ ap (λ (n : ℕ). done_by_node run (Some label) (event_result s (bundle_by (stands_on setup n) (signs_on setup n) s.correct (bytes_of run hello)))) (sym is)
+    there_is run node (Some label) (λ x. bundle_by (stands_on setup node) (signs_on setup node) x.correct (bytes_of_label run hello)) s found
+    ∙ ap (λ (n : ℕ). done_by_node run (Some label) (event_result s (bundle_by (stands_on setup n) (signs_on setup n) s.correct (bytes_of_label run hello)))) (sym is)
 effect_is setup run (event.Give node label size) s effect found is =
-    there_is run node None (λ x. give_by (stands_on setup node) x.correct (bytes_of run label)) s found ∙ ap (λ (n : ℕ). done_by_node run None (event_result s (give_by (stands_on setup n) s.correct (bytes_of run label)))) (sym is)
+    there_is run node None (λ x. give_by (stands_on setup node) x.correct (bytes_of_label run label)) s found ∙ ap (λ (n : ℕ). done_by_node run None (event_result s (give_by (stands_on setup n) s.correct (bytes_of_label run label)))) (sym is)
 effect_is setup run (event.Restart node) s effect found is = there_is run node None (λ x. restart_by x.correct) s found
 effect_is setup run (event.Update label writer seq clock prev key value deps hash) s effect found is = absurd cc
 effect_is setup run (event.Updates label writer seq clock prev changes deps hash) s effect found is = absurd cc
@@ -115,7 +114,7 @@ effect_is setup run event.Audit s effect found is = absurd cc
 effect_is setup run (event.Checkpoint node label) s effect found is =
     there_is run node (Some label) (λ x. checkpoint_by (stands_on setup node) x.correct) s found ∙ ap (λ (n : ℕ). done_by_node run (Some label) (event_result s (checkpoint_by (stands_on setup n) s.correct))) (sym is)
 effect_is setup run (event.Sign node label) s effect found is =
-    there_is run node None (λ x. sign_by (stands_on setup node) x.correct (bytes_of run label)) s found ∙ ap (λ (n : ℕ). done_by_node run None (event_result s (sign_by (stands_on setup n) s.correct (bytes_of run label)))) (sym is)
+    there_is run node None (λ x. sign_by (stands_on setup node) x.correct (bytes_of_label run label)) s found ∙ ap (λ (n : ℕ). done_by_node run None (event_result s (sign_by (stands_on setup n) s.correct (bytes_of_label run label)))) (sym is)
 effect_is setup run (event.Trim node label name) s effect found is = absurd cc
 effect_is setup run (event.Tgive name label) s effect found is = absurd cc
 effect_is setup run (event.Tget name key) s effect found is = absurd cc
@@ -126,8 +125,8 @@ nowhere_is setup run (event.Put node key value) effect none = none_is run node N
 nowhere_is setup run (event.Puts node changes) effect none = none_is run node None (λ x. put_by (stands_on setup node) x.correct changes) none
 nowhere_is setup run (event.Get node key) effect none = none_is run node None (λ x. get_by x.correct key) none
 nowhere_is setup run (event.Hello node label) effect none = none_is run node (Some label) (λ x. hello_by (stands_on setup node) x.correct) none
-nowhere_is setup run (event.Bundle node hello label) effect none = none_is run node (Some label) (λ x. bundle_by (stands_on setup node) (signs_on setup node) x.correct (bytes_of run hello)) none
-nowhere_is setup run (event.Give node label size) effect none = none_is run node None (λ x. give_by (stands_on setup node) x.correct (bytes_of run label)) none
+nowhere_is setup run (event.Bundle node hello label) effect none = none_is run node (Some label) (λ x. bundle_by (stands_on setup node) (signs_on setup node) x.correct (bytes_of_label run hello)) none
+nowhere_is setup run (event.Give node label size) effect none = none_is run node None (λ x. give_by (stands_on setup node) x.correct (bytes_of_label run label)) none
 nowhere_is setup run (event.Restart node) effect none = none_is run node None (λ x. restart_by x.correct) none
 nowhere_is setup run (event.Update label writer seq clock prev key value deps hash) effect none = absurd cc
 nowhere_is setup run (event.Updates label writer seq clock prev changes deps hash) effect none = absurd cc
@@ -144,13 +143,13 @@ nowhere_is setup run (event.Receipt node refs) effect none = absurd cc
 nowhere_is setup run (event.Settled node reference k) effect none = absurd cc
 nowhere_is setup run event.Audit effect none = absurd cc
 nowhere_is setup run (event.Checkpoint node label) effect none = none_is run node (Some label) (λ x. checkpoint_by (stands_on setup node) x.correct) none
-nowhere_is setup run (event.Sign node label) effect none = none_is run node None (λ x. sign_by (stands_on setup node) x.correct (bytes_of run label)) none
+nowhere_is setup run (event.Sign node label) effect none = none_is run node None (λ x. sign_by (stands_on setup node) x.correct (bytes_of_label run label)) none
 nowhere_is setup run (event.Trim node label name) effect none = absurd cc
 nowhere_is setup run (event.Tgive name label) effect none = absurd cc
 nowhere_is setup run (event.Tget name key) effect none = absurd cc
 
 -- an event of a node that isn't there says nothing
-pub nothing_done : (A : Type 0) {R : Type 0} (view : A → View) (reads : Reader → R → Type 0) (setup : Setup) (run : Run) (e : Event) (simulation : Simulation A R) → is_effect e ≡ true → position (λ p. eqb (view p.actor).here.me (event_node e)) simulation.participants.items ≡ None → IsSimulationAt view reads setup run simulation → HasDone A view reads setup (done setup run e) (10 ∷ []) simulation
+pub nothing_done : (A : Type 0) {R : Type 0} (view : A → ActorView) (reads : Reader → R → Type 0) (setup : Setup) (run : Run) (e : Event) (simulation : Simulation A R) → is_effect e ≡ true → position (λ p. eqb (view p.actor).here.me (event_node e)) simulation.participants.items ≡ None → IsSimulationAt view reads setup run simulation → HasDone A view reads setup (done setup run e) (10 ∷ []) simulation
 nothing_done A view reads setup run e simulation effect none at =
     let nowhere = nowhere_is setup run e effect (no_host_place (participant_by view) setup run.hosts simulation.participants.items (event_node e) at.hosted none) in
     subst (λ (d : Done). HasDone A view reads setup d (10 ∷ []) simulation) (sym nowhere) (record { lines_are = refl; at = at })
@@ -158,7 +157,7 @@ nothing_done A view reads setup run e simulation effect none at =
 -- ---- a node that leaves its place
 
 -- what a simulation that a node left has of the run
-pub record IsLeft (A : Type 0) {R : Type 0} (view : A → View) (reads : Reader → R → Type 0) (setup : Setup) (run : Run) (node : ℕ) (left : Simulation A R) (acting : ActingNode A) : Type 0 where
+pub record IsLeft (A : Type 0) {R : Type 0} (view : A → ActorView) (reads : Reader → R → Type 0) (setup : Setup) (run : Run) (node : ℕ) (left : Simulation A R) (acting : ActingNode A) : Type 0 where
   pub host : Host
   pub found : host_in run.hosts node ≡ Some host
   pub is : host.correct.node ≡ node
@@ -167,11 +166,11 @@ pub record IsLeft (A : Type 0) {R : Type 0} (view : A → View) (reads : Reader 
   pub count_is : acting.count ≡ length (accepted host.correct.journal)
   pub back : (w : Host) (x : Participant A) → w.correct.node ≡ node → IsParticipant setup w (participant_by view x) → AreHosted setup (put_host w run.hosts) (map (participant_by view) (insert left.participants.items acting.place x))
   pub labels_are : AreLabels left.labels.map.entries run.labels
-  pub seen_are : updates_in left.seen.graph.items.entries ≡ run.seen
+  pub seen_are : left.seen.listed.updates ≡ run.seen
   pub readers_are : AreReaders reads left.readers.map.entries run.readers
   pub accepted_were : WereSeen run.seen (accepted host.correct.journal)
 
-pub left_is : (A : Type 0) {R : Type 0} (view : A → View) (reads : Reader → R → Type 0) (setup : Setup) (run : Run) (node : ℕ) (before left : Simulation A R) (acting : ActingNode A) → HasLeft A view node before left acting → IsSimulationAt view reads setup run before → IsLeft A view reads setup run node left acting
+pub left_is : (A : Type 0) {R : Type 0} (view : A → ActorView) (reads : Reader → R → Type 0) (setup : Setup) (run : Run) (node : ℕ) (before left : Simulation A R) (acting : ActingNode A) → HasLeft A view node before left acting → IsSimulationAt view reads setup run before → IsLeft A view reads setup run node left acting
 left_is A {R = R} view reads setup run node before left acting l at =
     let host_place = host_place_at (participant_by view) setup run.hosts before.participants.items node acting.place at.hosted l.place_is in
     let f = found_is run.hosts node host_place.host host_place.found in
@@ -186,13 +185,13 @@ left_is A {R = R} view reads setup run node before left acting l at =
       count_is = l.count_is ∙ ap (λ (J : List Record). length (accepted J)) sits.hosted.journal;
       back = λ w x number is. subst (λ (xs : List (Participant A)). AreHosted setup (put_host w run.hosts) (map (participant_by view) (insert xs acting.place x))) (sym l.others) (host_place.back w x number is);
       labels_are = subst (λ (ls : Labels). AreLabels ls.map.entries run.labels) (sym l.labels_stay) at.labels_are;
-      seen_are = ap (λ (x : KnownUpdates). updates_in x.graph.items.entries) l.seen_stays ∙ at.seen_are;
+      seen_are = ap (λ (x : KnownUpdates). x.listed.updates) l.seen_stays ∙ at.seen_are;
       readers_are = subst (λ (rs : Readers R). AreReaders reads rs.map.entries run.readers) (sym l.readers_stay) at.readers_are;
       accepted_were = at.remembered.accepted_were host_place.host f.on;
     }
 
 -- its place is one among the others, or behind them
-pub place_within : (A : Type 0) {R : Type 0} (view : A → View) (node : ℕ) (before left : Simulation A R) (acting : ActingNode A) → HasLeft A view node before left acting → acting.place ≤ length left.participants.items
+pub place_within : (A : Type 0) {R : Type 0} (view : A → ActorView) (node : ℕ) (before left : Simulation A R) (acting : ActingNode A) → HasLeft A view node before left acting → acting.place ≤ length left.participants.items
 place_within A view node before left acting l =
     let within = slice_get_within before.participants.items acting.place acting.participant l.part_is in
     omega (arith, length-remove before.participants.items acting.place within, ap length l.others)
@@ -200,17 +199,17 @@ place_within A view node before left acting l =
 -- ---- and comes back
 
 -- what it had accepted when it left was seen
-pub had_seen : (A : Type 0) {R : Type 0} (view : A → View) (reads : Reader → R → Type 0) (setup : Setup) (run : Run) (node : ℕ) (left : Simulation A R) (acting : ActingNode A) (K : List Record) → (i : IsLeft A view reads setup run node left acting) → IsGrown i.host.correct.journal K
-    → WereSeen (updates_in left.seen.graph.items.entries) (take acting.count (accepted K))
+pub had_seen : (A : Type 0) {R : Type 0} (view : A → ActorView) (reads : Reader → R → Type 0) (setup : Setup) (run : Run) (node : ℕ) (left : Simulation A R) (acting : ActingNode A) (K : List Record) → (i : IsLeft A view reads setup run node left acting) → IsGrown i.host.correct.journal K
+    → WereSeen left.seen.listed.updates (take acting.count (accepted K))
 had_seen A view reads setup run node left acting K i grown =
     let J = i.host.correct.journal in
     let front : take acting.count (accepted K) ≡ accepted J = ap (λ (n : ℕ). take n (accepted K)) i.count_is ∙ accepted_front J K grown in
     subst (λ (us : List Update). WereSeen us (take acting.count (accepted K))) (sym i.seen_are) (subst (λ (us : List Update). WereSeen run.seen us) (sym front) i.accepted_were)
 
 -- the event was done, once the node is back
-done_at : (A : Type 0) {R : Type 0} (view : A → View) (reads : Reader → R → Type 0) (setup : Setup) (run : Run) (o : Option (List ℕ)) (w : EventResult) (lines : List ℕ) (new : Simulation A R) → lines ≡ lines_after_arrow w.answer w.behind
+done_at : (A : Type 0) {R : Type 0} (view : A → ActorView) (reads : Reader → R → Type 0) (setup : Setup) (run : Run) (o : Option (List ℕ)) (w : EventResult) (lines : List ℕ) (new : Simulation A R) → lines ≡ lines_after_arrow w.answer w.behind
     → AreHosted setup (put_host w.host run.hosts) (map (participant_by view) new.participants.items) → AreLabels new.labels.map.entries (labels_with run.labels o w.bytes)
-    → updates_in new.seen.graph.items.entries ≡ seen_with run.seen (accepted w.host.correct.journal) → AreReaders reads new.readers.map.entries run.readers → IsCausal [] (accepted w.host.correct.journal) → IsRemembered run → HasDone A view reads setup (done_by_node run o w) lines new
+    → new.seen.listed.updates ≡ seen_with run.seen (accepted w.host.correct.journal) → AreReaders reads new.readers.map.entries run.readers → IsCausal [] (accepted w.host.correct.journal) → IsRemembered run → HasDone A view reads setup (done_by_node run o w) lines new
 unfolding with_host
 done_at A view reads setup run None w lines new told hosted labels seen_are readers causal r = record {
   lines_are = told;
@@ -228,11 +227,11 @@ done_at A view reads setup run (Some label) w lines new told hosted labels seen_
 }
 
 -- the node is back, and its bytes are under their label
-pub comes_back : (A : Type 0) {R : Type 0} (view : A → View) (reads : Reader → R → Type 0) (setup : Setup) (run : Run) (node : ℕ) (o : Option (List ℕ)) (before left new : Simulation A R) (acting : ActingNode A) (after : Participant A) (lines bytes : List ℕ) (w : EventResult) → IsLawful (view after.actor).here (view after.actor).journal
+pub comes_back : (A : Type 0) {R : Type 0} (view : A → ActorView) (reads : Reader → R → Type 0) (setup : Setup) (run : Run) (node : ℕ) (o : Option (List ℕ)) (before left new : Simulation A R) (acting : ActingNode A) (after : Participant A) (lines bytes : List ℕ) (w : EventResult) → IsLawful (view after.actor).here (view after.actor).journal
     → IsSimulationAt view reads setup run before → (i : IsLeft A view reads setup run node left acting) → CameTo setup w (view after.actor) lines bytes → w.host.correct.node ≡ i.host.correct.node → TellReads w.host.correct.reads after.reads
     → new.participants.items ≡ insert left.participants.items acting.place after
-    → updates_in new.seen.graph.items.entries ≡ seen_with (updates_in left.seen.graph.items.entries) (accepted (view after.actor).journal)
-    → ((labels : List Made) → AreLabels left.labels.map.entries labels → AreLabels new.labels.map.entries (labels_with labels o bytes)) → new.readers ≡ left.readers
+    → new.seen.listed.updates ≡ seen_with left.seen.listed.updates (accepted (view after.actor).journal)
+    → ((labels : List Labelled) → AreLabels left.labels.map.entries labels → AreLabels new.labels.map.entries (labels_with labels o bytes)) → new.readers ≡ left.readers
     → HasDone A view reads setup (done_by_node run o w) lines new
 comes_back A {R = R} view reads setup run node o before left new acting after lines bytes w lawful at i came same told participants seen labels readers =
     let hosted = i.back w.host after (same ∙ i.is) (record { hosted = came.hosted; told = told }) in
@@ -248,19 +247,19 @@ comes_back A {R = R} view reads setup run node o before left new acting after li
 -- ---- what an event does
 
 -- what the node had accepted before it was seen
-pub effect_had_seen : (A : Type 0) {R : Type 0} (view : A → View) (reads : Reader → R → Type 0) (setup : Setup) (run : Run) (e : Event) (left : Simulation A R) (acting : ActingNode A) (after : A) (lines bytes : List ℕ) → (i : IsLeft A view reads setup run (event_node e) left acting) → CameTo setup (event_result i.host (effect_of setup run e i.host)) (view after) lines bytes
-    → WereSeen (updates_in left.seen.graph.items.entries) (take acting.count (accepted (view after).journal))
+pub effect_had_seen : (A : Type 0) {R : Type 0} (view : A → ActorView) (reads : Reader → R → Type 0) (setup : Setup) (run : Run) (e : Event) (left : Simulation A R) (acting : ActingNode A) (after : A) (lines bytes : List ℕ) → (i : IsLeft A view reads setup run (event_node e) left acting) → CameTo setup (event_result i.host (effect_of setup run e i.host)) (view after) lines bytes
+    → WereSeen left.seen.listed.updates (take acting.count (accepted (view after).journal))
 effect_had_seen A view reads setup run e left acting after lines bytes i came =
     let K = (event_result i.host (effect_of setup run e i.host)).host.correct.journal in
-    subst (λ (x : List Record). WereSeen (updates_in left.seen.graph.items.entries) (take acting.count (accepted x))) (sym came.hosted.journal) (had_seen A view reads setup run (event_node e) left acting K i (effect_grows setup run e i.host))
+    subst (λ (x : List Record). WereSeen left.seen.listed.updates (take acting.count (accepted x))) (sym came.hosted.journal) (had_seen A view reads setup run (event_node e) left acting K i (effect_grows setup run e i.host))
 
 -- the event was done
-pub effect_done : (A : Type 0) {R : Type 0} (view : A → View) (reads : Reader → R → Type 0) (setup : Setup) (run : Run) (e : Event) (before left new : Simulation A R) (acting : ActingNode A) (after : Participant A) (lines bytes : List ℕ) → is_effect e ≡ true → IsLawful (view after.actor).here (view after.actor).journal → IsSimulationAt view reads setup run before
+pub effect_done : (A : Type 0) {R : Type 0} (view : A → ActorView) (reads : Reader → R → Type 0) (setup : Setup) (run : Run) (e : Event) (before left new : Simulation A R) (acting : ActingNode A) (after : Participant A) (lines bytes : List ℕ) → is_effect e ≡ true → IsLawful (view after.actor).here (view after.actor).journal → IsSimulationAt view reads setup run before
     → (i : IsLeft A view reads setup run (event_node e) left acting) → CameTo setup (event_result i.host (effect_of setup run e i.host)) (view after.actor) lines bytes
     → TellReads (event_result i.host (effect_of setup run e i.host)).host.correct.reads after.reads
     → new.participants.items ≡ insert left.participants.items acting.place after
-    → updates_in new.seen.graph.items.entries ≡ seen_with (updates_in left.seen.graph.items.entries) (accepted (view after.actor).journal)
-    → ((labels : List Made) → AreLabels left.labels.map.entries labels → AreLabels new.labels.map.entries (labels_with labels (label_by e) bytes)) → new.readers ≡ left.readers
+    → new.seen.listed.updates ≡ seen_with left.seen.listed.updates (accepted (view after.actor).journal)
+    → ((labels : List Labelled) → AreLabels left.labels.map.entries labels → AreLabels new.labels.map.entries (labels_with labels (label_by e) bytes)) → new.readers ≡ left.readers
     → HasDone A view reads setup (done setup run e) lines new
 effect_done A view reads setup run e before left new acting after lines bytes effect lawful at i came told participants seen labels readers =
     let s = i.host in
@@ -290,26 +289,26 @@ unfolding pending_at at_host
 unarmed_is run node call image none = ap (at_host run call image) none
 
 -- no node is there
-pub nothing_pending : (A : Type 0) {R : Type 0} (view : A → View) (reads : Reader → R → Type 0) (setup : Setup) (run : Run) (node call image : ℕ) (simulation : Simulation A R) → position (λ p. eqb (view p.actor).here.me node) simulation.participants.items ≡ None → IsSimulationAt view reads setup run simulation → HasDone A view reads setup (pending_at run node call image) (10 ∷ []) simulation
+pub nothing_pending : (A : Type 0) {R : Type 0} (view : A → ActorView) (reads : Reader → R → Type 0) (setup : Setup) (run : Run) (node call image : ℕ) (simulation : Simulation A R) → position (λ p. eqb (view p.actor).here.me node) simulation.participants.items ≡ None → IsSimulationAt view reads setup run simulation → HasDone A view reads setup (pending_at run node call image) (10 ∷ []) simulation
 nothing_pending A view reads setup run node call image simulation none at =
     subst (λ (d : Done). HasDone A view reads setup d (10 ∷ []) simulation) (sym (unarmed_is run node call image (no_host_place (participant_by view) setup run.hosts simulation.participants.items node at.hosted none))) (record { lines_are = refl; at = at })
 
 -- the node with the stop is that of its host
-pending_host_place : (setup : Setup) (s : Host) (v after : View) (call image : ℕ) → IsHosted setup s v → after ≡ record v { pending = Some (record { call = call; image = image }) } → IsHosted setup (pending_host s call image) after
-pending_host_place setup s v after call image hosted is = subst (λ (x : View). IsHosted setup (pending_host s call image) x) (sym is) (record { here = hosted.here; sign = hosted.sign; journal = hosted.journal; pending = refl })
+pending_host_place : (setup : Setup) (s : Host) (v after : ActorView) (call image : ℕ) → IsHosted setup s v → after ≡ record v { pending = Some (record { call = call; image = image }) } → IsHosted setup (pending_host s call image) after
+pending_host_place setup s v after call image hosted is = subst (λ (x : ActorView). IsHosted setup (pending_host s call image) x) (sym is) (record { here = hosted.here; sign = hosted.sign; journal = hosted.journal; pending = refl })
 
 -- what it had accepted was seen
-pub pending_had_seen : (A : Type 0) {R : Type 0} (view : A → View) (reads : Reader → R → Type 0) (setup : Setup) (run : Run) (node : ℕ) (left : Simulation A R) (acting : ActingNode A) (after : A) (call image : ℕ) → IsLeft A view reads setup run node left acting → view after ≡ record (view acting.participant.actor) { pending = Some (record { call = call; image = image }) }
-    → WereSeen (updates_in left.seen.graph.items.entries) (take acting.count (accepted (view after).journal))
+pub pending_had_seen : (A : Type 0) {R : Type 0} (view : A → ActorView) (reads : Reader → R → Type 0) (setup : Setup) (run : Run) (node : ℕ) (left : Simulation A R) (acting : ActingNode A) (after : A) (call image : ℕ) → IsLeft A view reads setup run node left acting → view after ≡ record (view acting.participant.actor) { pending = Some (record { call = call; image = image }) }
+    → WereSeen left.seen.listed.updates (take acting.count (accepted (view after).journal))
 pending_had_seen A view reads setup run node left acting after call image i is =
     let host_place = pending_host_place setup i.host (view acting.participant.actor) (view after) call image i.hosted is in
-    subst (λ (x : List Record). WereSeen (updates_in left.seen.graph.items.entries) (take acting.count (accepted x))) (sym host_place.journal) (had_seen A view reads setup run node left acting i.host.correct.journal i (grown_none i.host.correct.journal))
+    subst (λ (x : List Record). WereSeen left.seen.listed.updates (take acting.count (accepted x))) (sym host_place.journal) (had_seen A view reads setup run node left acting i.host.correct.journal i (grown_none i.host.correct.journal))
 
 -- the stop was set
-pub stop_set : (A : Type 0) {R : Type 0} (view : A → View) (reads : Reader → R → Type 0) (setup : Setup) (run : Run) (node call image : ℕ) (before left new : Simulation A R) (acting : ActingNode A) (after : A) → IsLawful (view after).here (view after).journal → IsSimulationAt view reads setup run before
+pub stop_set : (A : Type 0) {R : Type 0} (view : A → ActorView) (reads : Reader → R → Type 0) (setup : Setup) (run : Run) (node call image : ℕ) (before left new : Simulation A R) (acting : ActingNode A) (after : A) → IsLawful (view after).here (view after).journal → IsSimulationAt view reads setup run before
     → IsLeft A view reads setup run node left acting → view after ≡ record (view acting.participant.actor) { pending = Some (record { call = call; image = image }) }
     → new.participants.items ≡ insert left.participants.items acting.place (record { actor = after; reads = acting.participant.reads })
-    → updates_in new.seen.graph.items.entries ≡ seen_with (updates_in left.seen.graph.items.entries) (accepted (view after).journal)
+    → new.seen.listed.updates ≡ seen_with left.seen.listed.updates (accepted (view after).journal)
     → new.labels ≡ left.labels → new.readers ≡ left.readers
     → HasDone A view reads setup (pending_at run node call image) (codes " armed" ++ 10 ∷ []) new
 stop_set A view reads setup run node call image before left new acting after lawful at i is participants seen labels readers =

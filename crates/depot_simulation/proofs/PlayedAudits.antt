@@ -23,7 +23,7 @@ use Rattle.depot_world.specs.Run.{Run, Host}
 use Rattle.depot_world.specs.Setups.{Setup}
 use Rattle.depot_world.specs.Transcript.{audit_by, ended}
 use Rattle.depot_world.proofs.AuditedRuns.{run_is_audited, traces_are_apart, traces_are_listed}
-use Rattle.depot_simulation.specs.Acting.{AreHosted, IsParticipant, ParticipantView, TellReads, View}
+use Rattle.depot_simulation.specs.Acting.{AreHosted, IsParticipant, ParticipantView, TellReads, ActorView}
 use Rattle.depot_simulation.specs.Auditing.{MayHandIn, handed_in}
 use Rattle.depot_simulation.specs.Doing.{HasDone}
 use Rattle.depot_simulation.specs.Playing.{IsSimulationAt, participant_by}
@@ -37,7 +37,7 @@ many_reads : (rs : List Read) (told : List ReadTrace) → TellReads rs told → 
 many_reads rs told t = sym (length-map told read_of) ∙ ap (λ (xs : List audits.ReadTrace). length xs) t.are ∙ length-map rs traced_read
 
 -- no node has more than a trace
-pub parts_may : {A : Type 0} (view : A → View) (setup : Setup) (ss : List Host) (participants : List (Participant A)) → AreHosted setup ss (map (participant_by view) participants) → ((s : Host) → IsIn s ss → length s.correct.reads ≤ 100000) → MayHandIn participants
+pub parts_may : {A : Type 0} (view : A → ActorView) (setup : Setup) (ss : List Host) (participants : List (Participant A)) → AreHosted setup ss (map (participant_by view) participants) → ((s : Host) → IsIn s ss → length s.correct.reads ≤ 100000) → MayHandIn participants
 parts_may view setup [] [] hosted few = tt
 parts_may view setup [] (p ∷ participants) hosted few = absurd hosted
 parts_may view setup (s ∷ ss) [] hosted few = tt
@@ -63,7 +63,7 @@ handed_are setup (s ∷ ss) (p ∷ ps) hosted =
 abbrev pub AreTracesOf : Run → List Trace → Type 0
 AreTracesOf run traces = map trace_of traces ≡ traces_by run
 
-pub traces_are : {A R : Type 0} (view : A → View) (reads : Reader → R → Type 0) (setup : Setup) (run : Run) (simulation : Simulation A R) (traces : List Trace) → map trace_of traces ≡ map handed_in (map (participant_by view) simulation.participants.items) → IsSimulationAt view reads setup run simulation → AreTracesOf run traces
+pub traces_are : {A R : Type 0} (view : A → ActorView) (reads : Reader → R → Type 0) (setup : Setup) (run : Run) (simulation : Simulation A R) (traces : List Trace) → map trace_of traces ≡ map handed_in (map (participant_by view) simulation.participants.items) → IsSimulationAt view reads setup run simulation → AreTracesOf run traces
 traces_are view reads setup run simulation traces are at = are ∙ handed_are setup run.hosts (map (participant_by view) simulation.participants.items) at.hosted
 
 pub many_traces : (run : Run) (traces : List Trace) → AreTracesOf run traces → length traces ≡ length run.hosts
@@ -94,7 +94,7 @@ found_is setup run verifies listed traces found sound by same are is = run_is_au
     (subst (λ (v : Verifies). audits.IsFindingOf v setup.listed (map trace_of traces) found) (sym by) (subst (λ (es : List RosterEntry). audits.IsFindingOf verifies es (map trace_of traces) found) (sym same) is)))
 
 -- the audit was done
-pub audit_done : (A : Type 0) {R : Type 0} (view : A → View) (reads : Reader → R → Type 0) (setup : Setup) (run : Run) (verifies : Verifies) (listed : List RosterEntry) (traces : List Trace) (found : Finding) (lines : List ℕ) (simulation : Simulation A R) → IsSound setup run → setup.suite.verifies ≡ verifies → setup.listed ≡ listed
+pub audit_done : (A : Type 0) {R : Type 0} (view : A → ActorView) (reads : Reader → R → Type 0) (setup : Setup) (run : Run) (verifies : Verifies) (listed : List RosterEntry) (traces : List Trace) (found : Finding) (lines : List ℕ) (simulation : Simulation A R) → IsSound setup run → setup.suite.verifies ≡ verifies → setup.listed ≡ listed
     → AreTracesOf run traces → audits.IsFindingOf verifies listed (map trace_of traces) (finding_of found) → lines ≡ ended (spaced (text_of_finding (finding_of found))) → IsSimulationAt view reads setup run simulation → HasDone A view reads setup (audit_by setup run) lines simulation
 audit_done A view reads setup run verifies listed traces found lines simulation sound by same are is told at = record {
   lines_are = told ∙ ap (λ (f : audit.Finding). ended (spaced (text_of_finding f))) (found_is setup run verifies listed traces (finding_of found) sound by same are is) ∙ sym (append-nil (ended (spaced (text_of_finding (finding_in (audited setup run))))));

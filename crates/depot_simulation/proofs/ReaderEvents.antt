@@ -13,10 +13,10 @@ use Rattle.depot_world.specs.Run.{NamedReader, Run, Host, reader_in, host_in}
 use Rattle.depot_world.specs.Setups.{Setup, stands_on}
 use Rattle.depot_world.specs.Transcript.{Done, answer_of_reader, ended, reader_made, reader_told, tget_by, tgive_by, trim_at, trimmed_with}
 use Rattle.depot_world.proofs.GoodRuns.{found_is}
-use Rattle.depot_simulation.specs.Acting.{View}
+use Rattle.depot_simulation.specs.Acting.{ActorView}
 use Rattle.depot_simulation.specs.Doing.{HasDone}
 use Rattle.depot_simulation.specs.Playing.{IsSimulationAt, participant_by}
-use Rattle.depot_simulation.specs.Readers.{AreReaders, HasTrimmed, IsMade, gone_on, readers_with, shown_of, told_of}
+use Rattle.depot_simulation.specs.Readers.{AreReaders, HasTrimmed, IsMade, gone_on, readers_with, reader_shown, reader_lines}
 use Rattle.depot_simulation.specs.declared.participant.Participant.{Participant}
 use Rattle.depot_simulation.specs.declared.simulation.Simulation.{Simulation}
 use Rattle.depot_simulation.specs.declared.readers.Readers.{Readers}
@@ -30,7 +30,7 @@ use Rattle.depot_simulation.proofs.HostPlaces.{no_host_place, host_place_at}
 abbrev pub with_readers : Run → List NamedReader → Run
 with_readers run rs = record run { readers = rs }
 
-readers_at : (A : Type 0) {R : Type 0} (view : A → View) (reads : Reader → R → Type 0) (setup : Setup) (run : Run) (rs : List NamedReader) (old : Simulation A R) (readers : Readers R) → IsSimulationAt view reads setup run old → AreReaders reads readers.map.entries rs
+readers_at : (A : Type 0) {R : Type 0} (view : A → ActorView) (reads : Reader → R → Type 0) (setup : Setup) (run : Run) (rs : List NamedReader) (old : Simulation A R) (readers : Readers R) → IsSimulationAt view reads setup run old → AreReaders reads readers.map.entries rs
     → IsSimulationAt view reads setup (with_readers run rs) (record old { readers = readers })
 readers_at A view reads setup run rs old readers at are = record {
   hosted = at.hosted;
@@ -66,13 +66,13 @@ unfolding trim_at at_node
 trim_nowhere setup run node text name none = ap (at_node setup run node text name) none
 
 -- no node is there
-pub nothing_trimmed : (A : Type 0) {R : Type 0} (view : A → View) (reads : Reader → R → Type 0) (setup : Setup) (run : Run) (node : ℕ) (text name : List ℕ) (simulation : Simulation A R) → position (λ p. eqb (view p.actor).here.me node) simulation.participants.items ≡ None → IsSimulationAt view reads setup run simulation
+pub nothing_trimmed : (A : Type 0) {R : Type 0} (view : A → ActorView) (reads : Reader → R → Type 0) (setup : Setup) (run : Run) (node : ℕ) (text name : List ℕ) (simulation : Simulation A R) → position (λ p. eqb (view p.actor).here.me node) simulation.participants.items ≡ None → IsSimulationAt view reads setup run simulation
     → HasDone A view reads setup (trim_at setup run node text name) (10 ∷ []) simulation
 nothing_trimmed A view reads setup run node text name simulation none at =
     subst (λ (d : Done). HasDone A view reads setup d (10 ∷ []) simulation) (sym (trim_nowhere setup run node text name (no_host_place (participant_by view) setup run.hosts simulation.participants.items node at.hosted none))) (record { lines_are = refl; at = at })
 
 -- what the node answers is what the run's node answers
-same_trim : (A : Type 0) {R : Type 0} (view : A → View) (reads : Reader → R → Type 0) (setup : Setup) (run : Run) (node place : ℕ) (text name : List ℕ) (simulation : Simulation A R) (p : Participant A) → IsSimulationAt view reads setup run simulation
+same_trim : (A : Type 0) {R : Type 0} (view : A → ActorView) (reads : Reader → R → Type 0) (setup : Setup) (run : Run) (node place : ℕ) (text name : List ℕ) (simulation : Simulation A R) (p : Participant A) → IsSimulationAt view reads setup run simulation
     → position (λ q. eqb (view q.actor).here.me node) simulation.participants.items ≡ Some place → p ≡ get_or simulation.participants.items place p → trim_at setup run node text name ≡ trimmed_with run name (trim_of (view p.actor).here (view p.actor).journal text)
 same_trim A view reads setup run node place text name simulation p at found is =
     let host_place = host_place_at (participant_by view) setup run.hosts simulation.participants.items node place at.hosted found in
@@ -85,7 +85,7 @@ same_trim A view reads setup run node place text name simulation p at found is =
     ∙ ap (λ (J : List Record). trimmed_with run name (trim_of (stands_on setup node) J text)) (sym journal) ∙ ap (λ (h : Setting). trimmed_with run name (trim_of h (view p.actor).journal text)) (sym here)
 
 -- a node was there: its answer is told, and its reader kept
-pub reader_trimmed : (A : Type 0) {R : Type 0} (view : A → View) (reads : Reader → R → Type 0) (setup : Setup) (run : Run) (node place : ℕ) (text name : List ℕ) (old : Simulation A R) (readers : Readers R) (p : Participant A) (t : Trimming R) → IsSimulationAt view reads setup run old
+pub reader_trimmed : (A : Type 0) {R : Type 0} (view : A → ActorView) (reads : Reader → R → Type 0) (setup : Setup) (run : Run) (node place : ℕ) (text name : List ℕ) (old : Simulation A R) (readers : Readers R) (p : Participant A) (t : Trimming R) → IsSimulationAt view reads setup run old
     → position (λ q. eqb (view q.actor).here.me node) old.participants.items ≡ Some place → p ≡ get_or old.participants.items place p → HasTrimmed reads (trim_of (view p.actor).here (view p.actor).journal text) t
     → ((rs : List NamedReader) (made : Option Reader) → AreReaders reads old.readers.map.entries rs → IsMade reads t.reader made → AreReaders reads readers.map.entries (rs ++ record { name = name; reader = made } ∷ []))
     → HasDone A view reads setup (trim_at setup run node text name) t.lines (record old { readers = readers })
@@ -105,7 +105,7 @@ at_reader run name stream o = elim o as (λ x. Done) [
   | Some r ↦ reader_told run name (reader_feed_of r stream)
 ]
 
-taken_at : (A : Type 0) {R : Type 0} (view : A → View) (reads : Reader → R → Type 0) (setup : Setup) (run : Run) (name stream lines : List ℕ) (old : Simulation A R) (readers : Readers R) (o : Option Reader) → IsSimulationAt view reads setup run old → lines ≡ told_of o stream
+taken_at : (A : Type 0) {R : Type 0} (view : A → ActorView) (reads : Reader → R → Type 0) (setup : Setup) (run : Run) (name stream lines : List ℕ) (old : Simulation A R) (readers : Readers R) (o : Option Reader) → IsSimulationAt view reads setup run old → lines ≡ reader_lines o stream
     → AreReaders reads readers.map.entries (readers_with name (gone_on o stream) run.readers) → HasDone A view reads setup (at_reader run name stream o) lines (record old { readers = readers })
 unfolding at_reader
 taken_at A view reads setup run name stream lines old readers None at told are = record { lines_are = told; at = readers_at A view reads setup run run.readers old readers at are }
@@ -114,17 +114,17 @@ taken_at A view reads setup run name stream lines old readers (Some r) at told a
   at = readers_at A view reads setup run (readers_with name (gone_on (Some r) stream) run.readers) old readers at are;
 }
 
-pub stream_taken : (A : Type 0) {R : Type 0} (view : A → View) (reads : Reader → R → Type 0) (setup : Setup) (run : Run) (name stream lines : List ℕ) (old : Simulation A R) (readers : Readers R) → IsSimulationAt view reads setup run old → lines ≡ told_of (reader_in run.readers name) stream
+pub stream_taken : (A : Type 0) {R : Type 0} (view : A → ActorView) (reads : Reader → R → Type 0) (setup : Setup) (run : Run) (name stream lines : List ℕ) (old : Simulation A R) (readers : Readers R) → IsSimulationAt view reads setup run old → lines ≡ reader_lines (reader_in run.readers name) stream
     → AreReaders reads readers.map.entries (readers_with name (gone_on (reader_in run.readers name) stream) run.readers) → HasDone A view reads setup (tgive_by run name stream) lines (record old { readers = readers })
 unfolding tgive_by at_reader
 stream_taken A view reads setup run name stream lines old readers at told are = taken_at A view reads setup run name stream lines old readers (reader_in run.readers name) at told are
 
 -- ---- a reader that reads a key
 
-shown_alone : (o : Option Reader) (key : List ℕ) → shown_of o key ≡ ended (option_map_or (λ r. answer_of_reader r key) o [])
+shown_alone : (o : Option Reader) (key : List ℕ) → reader_shown o key ≡ ended (option_map_or (λ r. answer_of_reader r key) o [])
 shown_alone None key = refl
 shown_alone (Some r) key = refl
 
-pub key_shown : (A : Type 0) {R : Type 0} (view : A → View) (reads : Reader → R → Type 0) (setup : Setup) (run : Run) (name key lines : List ℕ) (simulation : Simulation A R) → IsSimulationAt view reads setup run simulation → lines ≡ shown_of (reader_in run.readers name) key
+pub key_shown : (A : Type 0) {R : Type 0} (view : A → ActorView) (reads : Reader → R → Type 0) (setup : Setup) (run : Run) (name key lines : List ℕ) (simulation : Simulation A R) → IsSimulationAt view reads setup run simulation → lines ≡ reader_shown (reader_in run.readers name) key
     → HasDone A view reads setup (tget_by run name key) lines simulation
 key_shown A view reads setup run name key lines simulation at shown = record { lines_are = shown ∙ shown_alone (reader_in run.readers name) key ∙ alone (option_map_or (λ r. answer_of_reader r key) (reader_in run.readers name) []); at = at }

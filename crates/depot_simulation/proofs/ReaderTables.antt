@@ -13,7 +13,7 @@ use Rattle.depot_model.specs.Readers.{Reader}
 use Rattle.depot_scenario.specs.Labels.{named_in}
 use Rattle.depot_scenario.proofs.LabelTables.{named_once_put}
 use Rattle.depot_world.specs.Run.{NamedReader, put_reader, reader_in}
-use Rattle.depot_simulation.specs.Readers.{AreReaders, IsMade, IsNamed, first_named, gone_on, readers_with, shown_of, told_of}
+use Rattle.depot_simulation.specs.Readers.{AreReaders, IsMade, IsNamed, first_named, gone_on, readers_with, reader_shown, reader_lines}
 
 -- ---- what was made under a name of a run
 
@@ -170,8 +170,8 @@ readers_of_none reads entries rs name stream are is = subst (λ (o : Option Read
 
 -- ---- lines
 
-pub nothing_told : {R : Type 0} (reads : Reader → R → Type 0) (entries : List (Vec ℕ Global × Option R)) (rs : List NamedReader) (name stream : List ℕ) → AreReaders reads entries rs → None ≡ named_in name entries → 10 ∷ [] ≡ told_of (reader_in rs name) stream
-nothing_told reads entries rs name stream are is = ap (λ (o : Option Reader). told_of o stream) (sym (none_there reads entries rs name are is))
+pub nothing_told : {R : Type 0} (reads : Reader → R → Type 0) (entries : List (Vec ℕ Global × Option R)) (rs : List NamedReader) (name stream : List ℕ) → AreReaders reads entries rs → None ≡ named_in name entries → 10 ∷ [] ≡ reader_lines (reader_in rs name) stream
+nothing_told reads entries rs name stream are is = ap (λ (o : Option Reader). reader_lines o stream) (sym (none_there reads entries rs name are is))
 
-pub nothing_shown : {R : Type 0} (reads : Reader → R → Type 0) (entries : List (Vec ℕ Global × Option R)) (rs : List NamedReader) (name key : List ℕ) → AreReaders reads entries rs → None ≡ named_in name entries → 10 ∷ [] ≡ shown_of (reader_in rs name) key
-nothing_shown reads entries rs name key are is = ap (λ (o : Option Reader). shown_of o key) (sym (none_there reads entries rs name are is))
+pub nothing_shown : {R : Type 0} (reads : Reader → R → Type 0) (entries : List (Vec ℕ Global × Option R)) (rs : List NamedReader) (name key : List ℕ) → AreReaders reads entries rs → None ≡ named_in name entries → 10 ∷ [] ≡ reader_shown (reader_in rs name) key
+nothing_shown reads entries rs name key are is = ap (λ (o : Option Reader). reader_shown o key) (sym (none_there reads entries rs name are is))

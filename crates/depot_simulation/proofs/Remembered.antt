@@ -43,11 +43,6 @@ unfolding seen_with
 stays_seen seen [] h e = e
 stays_seen seen (u ∷ us) h e = stays_seen (with_one seen u) us h (one_stays seen u h e)
 
--- ids that were seen
-pub ids_stay_seen : (seen us : List Update) (ids : List (List ℕ)) → IdsWereSeen seen ids → IdsWereSeen (seen_with seen us) ids
-ids_stay_seen seen us [] were = tt
-ids_stay_seen seen us (h ∷ hs) were = (stays_seen seen us h were.0, ids_stay_seen seen us hs were.1)
-
 -- updates that were seen
 pub were_stay_seen : (seen us vs : List Update) → WereSeen seen vs → WereSeen (seen_with seen us) vs
 were_stay_seen seen us [] were = tt
@@ -92,12 +87,6 @@ come_behind ids seen (u ∷ us) known c = (
 -- so it is where each parent stands before its children, whatever was seen
 pub causal_come : (seen us : List Update) → IsCausal [] us → ParentsCome seen us
 causal_come seen us c = come_behind [] seen us tt c
-
--- those behind others
-pub come_later : (seen us more : List Update) → ParentsCome seen (us ++ more) → ParentsCome (seen_with seen us) more
-unfolding seen_with
-come_later seen [] more come = come
-come_later seen (u ∷ us) more come = come_later (with_one seen u) us more come.1
 
 -- the parents of the next were seen, where those before it were added
 pub parents_of_next : (seen us : List Update) (i : ℕ) (u : Update) → ParentsCome seen us → slice_get us i ≡ Some u → IdsWereSeen (seen_with seen (take i us)) (parents u)

@@ -1,6 +1,7 @@
 -- Runs that remember what was seen, and how one host, one label or one update more leaves them so.
-use Rattle.std.proofs.Common.{◌≡◌, ◌-◌, Bool, true, false, eqb, leb, cond, List, [], ◌∷◌, map, Option, Some, None, refl, ap, subst, ◌∙◌, inl, inr}
+use Rattle.std.proofs.Common.{◌≡◌, ◌-◌, ℕ, Bool, true, false, not, eqb, leb, cond, List, [], ◌∷◌, map, Option, Some, None, refl, ap, subst, ◌∙◌, inl, inr}
 use Rattle.std.specs.Prelude.{filter}
+use Rattle.std.specs.Str.{bytes_eq}
 use Rattle.std.proofs.lemmas.Bool.{eq-eqb, both_ways}
 use Rattle.depot_base.specs.declared.proof.Proof.{Proof}
 use Rattle.depot_base.specs.declared.statement.Signed.{Signed}
@@ -9,10 +10,11 @@ use Rattle.depot_model.specs.Journal.{accepted, update_in}
 use Rattle.depot_model.specs.Lists.{IsIn}
 use Rattle.depot_model.specs.Order.{parents, IsCausal}
 use Rattle.depot_model.specs.Texts.{IsSigned}
-use Rattle.depot_model.proofs.Members.{from_map, in_pushed}
+use Rattle.depot_model.proofs.Members.{from_filter, from_map, in_pushed}
 use Rattle.depot_schedule.specs.declared.member.Member.{Member}
-use Rattle.depot_world.specs.Run.{PendingStop, Host, Made, NamedReader, Run, fresh_host, run_of, put_host, seen_with, with_label, with_host}
-use Rattle.depot_world.specs.ScheduleStops.{Effect, EventResult, left_of, stopped_with, result_pending, result_by, event_result}
+use Rattle.depot_world.specs.Forgetting.{labels_without, with_labels}
+use Rattle.depot_world.specs.Run.{PendingStop, Host, Labelled, NamedReader, Run, fresh_host, run_of, put_host, seen_with, with_label, with_host}
+use Rattle.depot_world.specs.ScheduleStops.{Effect, EventResult, journal_left, stopped_with, result_pending, result_by, event_result}
 use Rattle.depot_world.specs.Setups.{Setup}
 use Rattle.depot_simulation.specs.Playing.{WereSeen, IsRemembered}
 use Rattle.depot_simulation.proofs.Remembered.{IdsWereSeen, were_stay_seen, all_are_seen, causal_come, stays_causal}
@@ -29,18 +31,6 @@ each_put P s (t ∷ ss) one each x on = by_test (eqb t.correct.node s.correct.no
   by_test true rest (inr there) = each x (inr there)
   by_test false rest (inl here) = each x (inl here)
   by_test false rest (inr there) = rest there
-
--- a host is put in the place of one of its node
-in_place : (s t : Host) (ss : List Host) → IsIn t ss → t.correct.node ≡ s.correct.node → IsIn s (put_host s ss)
-unfolding put_host
-in_place s t [] never same = absurd never
-in_place s t (x ∷ ss) on same = by_test (eqb x.correct.node s.correct.node) refl (λ there. in_place s t ss there same) where
-  by_test : (b : Bool) → eqb x.correct.node s.correct.node ≡ b → (IsIn t ss → IsIn s (put_host s ss)) → IsIn s (cond b (s ∷ ss) (x ∷ put_host s ss))
-  by_test true is behind = inl refl
-  by_test false is behind = elim on [
-    | inl here ↦ absurd (both_ways (eqb x.correct.node s.correct.node) is (eq-eqb x.correct.node s.correct.node (ap (λ (y : Host). y.correct.node) here ∙ same)))
-    | inr there ↦ inr (behind there)
-  ]
 
 -- a host whose accepted updates stand behind their parents
 pub host_remembers : (run : Run) (s : Host) → IsRemembered run → IsCausal [] (accepted s.correct.journal) → IsRemembered (with_host run s)
@@ -66,19 +56,25 @@ pub none_is_kept : (seen : List Update) → IsKept seen None
 none_is_kept seen = record { fits = λ s is. absurd cc; were = λ s is. absurd cc }
 
 -- one label more
-pub label_remembers : (run : Run) (new : Made) → IsRemembered run → IsKept run.seen new.signed → IsRemembered (with_label run new)
+pub label_remembers : (run : Run) (new : Labelled) → IsRemembered run → IsKept run.seen new.signed → IsRemembered (with_label run new)
 label_remembers run new r k = record {
   causal = r.causal;
   accepted_were = r.accepted_were;
   signed_are = λ m s on is. elim (in_pushed m run.labels new on) [
     | inl old ↦ r.signed_are m s old is
-    | inr now ↦ k.fits s (ap (λ (x : Made). x.signed) now ∙ is)
+    | inr now ↦ k.fits s (ap (λ (x : Labelled). x.signed) now ∙ is)
   ];
   signed_were = λ m s on is. elim (in_pushed m run.labels new on) [
     | inl old ↦ r.signed_were m s old is
-    | inr now ↦ k.were s (ap (λ (x : Made). x.signed) now ∙ is)
+    | inr now ↦ k.were s (ap (λ (x : Labelled). x.signed) now ∙ is)
   ];
 }
+
+-- one label less
+pub fewer_remember : (run : Run) (label : List ℕ) → IsRemembered run → IsRemembered (with_labels run (labels_without label run.labels))
+fewer_remember run label r =
+    let within : (m : Labelled) → IsIn m (labels_without label run.labels) → IsIn m run.labels = λ m on. (from_filter (λ (x : Labelled). not (bytes_eq x.label label)) m run.labels on).0 in
+    record { causal = r.causal; accepted_were = r.accepted_were; signed_are = λ m s on is. r.signed_are m s (within m on) is; signed_were = λ m s on is. r.signed_were m s (within m on) is }
 
 -- one update more, whose parents were seen
 pub update_remembers : (run : Run) (u : Update) → IsRemembered run → IdsWereSeen run.seen (parents u) → IsRemembered (record run { seen = seen_with run.seen (u ∷ []) })
@@ -103,7 +99,7 @@ readers_remember run readers r = record { causal = r.causal; accepted_were = r.a
 pub same_node : (s : Host) (d : Effect) → (event_result s d).host.correct.node ≡ s.correct.node
 unfolding event_result
 same_node s d = by_stop s.pending where
-  by_call : (a : PendingStop) (b : Bool) → (cond b (stopped_with s (left_of s.correct.journal d.journal a)) (result_by s (Some (record { call = a.call - d.calls; image = a.image })) d)).host.correct.node ≡ s.correct.node
+  by_call : (a : PendingStop) (b : Bool) → (cond b (stopped_with s (journal_left s.correct.journal d.journal a)) (result_by s (Some (record { call = a.call - d.calls; image = a.image })) d)).host.correct.node ≡ s.correct.node
   by_call a true = refl
   by_call a false = refl
 

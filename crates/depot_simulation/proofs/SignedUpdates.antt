@@ -8,7 +8,6 @@ use Rattle.depot_base.specs.declared.proof.Proof.{Proof}
 use Rattle.depot_base.specs.Writes.{one_change}
 use Rattle.depot_base.specs.declared.update.Update.{Update}
 use Rattle.depot_base.specs.declared.write.Change.{Change}
-use Rattle.depot_graph.specs.Kept.{updates_in}
 use Rattle.depot_model.specs.Bundle.{Signs}
 use Rattle.depot_model.specs.Judgement.{first_failed_point, verdict_of}
 use Rattle.depot_model.specs.Own.{values_of, write_of}
@@ -21,15 +20,15 @@ use Rattle.depot_schedule.specs.declared.event.Event.TheVariants as event
 use Rattle.depot_schedule.specs.declared.event.HistoryWord.{HistoryWord}
 use Rattle.depot_schedule.specs.declared.event.Ref.{Ref}
 use Rattle.depot_model.specs.Readers.{Reader}
-use Rattle.depot_world.specs.Run.{Run, bytes_of, seen_with}
-use Rattle.depot_world.specs.FaultySigning.{drafted, entries_of, history_by, prev_of, proof_in, updated, update_text, with_history}
+use Rattle.depot_world.specs.Run.{Run, bytes_of_label, seen_with}
+use Rattle.depot_world.specs.FaultySigning.{drafted, entries_of, history_by, prev_of_ref, proof_in, updated, with_history}
 use Rattle.depot_world.specs.Setups.{Setup, signs_on}
 use Rattle.depot_world.specs.Transcript.{Done, done, done_by_text, done_by_update, ended, head_words, judged_with, lines_after_arrow, lines_of}
-use Rattle.depot_simulation.specs.Acting.{AreHosted, ParticipantView, View}
+use Rattle.depot_simulation.specs.Acting.{AreHosted, ParticipantView, ActorView}
 use Rattle.depot_simulation.specs.Doing.{HasDone, is_signing, signed_text, update_by, with_update}
 use Rattle.depot_scenario.specs.Labels.{AreLabels}
 use Rattle.depot_simulation.specs.Drafts.{IsNumbered}
-use Rattle.depot_simulation.specs.Playing.{IsAt, IsSimulationAt, participant_by}
+use Rattle.depot_simulation.specs.Playing.{IsRunAt, IsSimulationAt, participant_by}
 use Rattle.depot_scenario.specs.KnownUpdates.{HasSeenParents}
 use Rattle.depot_scenario.specs.declared.label_table.Given.{Given}
 use Rattle.depot_scenario.specs.declared.label_table.Labels.{Labels}
@@ -44,7 +43,7 @@ use Rattle.depot_simulation.proofs.RememberedRuns.{judged_remembers, update_reme
 -- the update that is made is the writer's, and has its number
 pub is_numbered : (sign : Signs) (run : Run) (writer seq clock : ℕ) (prev : Option Ref) (changes : List Change) (deps : List Ref) (history : HistoryWord) (u : Update) → Some u ≡ updated sign run writer seq clock prev changes deps history → IsNumbered writer seq u
 unfolding updated
-is_numbered sign run writer seq clock prev changes deps history u is = by_parts (prev_of run prev) (entries_of run writer deps) is where
+is_numbered sign run writer seq clock prev changes deps history u is = by_parts (prev_of_ref run prev) (entries_of run writer deps) is where
   by_parts : (o : Option (List ℕ)) (x : Option (List Update))
       → Some u ≡ option_and_then (λ (p : List ℕ). option_map (λ (us : List Update). with_history (drafted writer seq clock p (map write_of changes) us) (history_by run.seen history (drafted writer seq clock p (map write_of changes) us))) x) o → IsNumbered writer seq u
   by_parts None x e = absurd cc
@@ -54,13 +53,9 @@ is_numbered sign run writer seq clock prev changes deps history u is = by_parts 
       let same : with_history d (history_by run.seen history d) ≡ u = cc in
       subst (IsNumbered writer seq) same (record { writer_is = refl; seq_is = refl })
 
--- what the label is given where it was made
-pub signed_is : (setup : Setup) (writer seq : ℕ) (changes : List Change) (u : Update) → IsNumbered writer seq u → update_text (signs_on setup u.writer) u (values_of changes) ≡ signed_text (signs_on setup writer) changes (Some u)
-signed_is setup writer seq changes u n = ap (λ (k : ℕ). update_text (signs_on setup k) u (values_of changes)) n.writer_is
-
 -- an update was seen
-pub sees_update : (A : Type 0) {R : Type 0} (view : A → View) (reads : Reader → R → Type 0) (setup : Setup) (run : Run) (u : Update) (old new : Simulation A R) → IsSimulationAt view reads setup run old → HasSeenParents (updates_in old.seen.graph.items.entries) u → new.participants ≡ old.participants → new.labels ≡ old.labels → new.readers ≡ old.readers
-    → updates_in new.seen.graph.items.entries ≡ seen_with (updates_in old.seen.graph.items.entries) (u ∷ []) → IsSimulationAt view reads setup (with_update run (Some u)) new
+pub sees_update : (A : Type 0) {R : Type 0} (view : A → ActorView) (reads : Reader → R → Type 0) (setup : Setup) (run : Run) (u : Update) (old new : Simulation A R) → IsSimulationAt view reads setup run old → HasSeenParents old.seen.listed.updates u → new.participants ≡ old.participants → new.labels ≡ old.labels → new.readers ≡ old.readers
+    → new.seen.listed.updates ≡ seen_with old.seen.listed.updates (u ∷ []) → IsSimulationAt view reads setup (with_update run (Some u)) new
 sees_update A {R = R} view reads setup run u old new at parents participants labels readers seen = record {
   hosted = subst (λ (v : Vec (Participant A) Global). AreHosted setup run.hosts (map (participant_by view) v.items)) (sym participants) at.hosted;
   labels_are = subst (λ (x : Labels). AreLabels x.map.entries run.labels) (sym labels) at.labels_are;
@@ -109,21 +104,21 @@ update_is setup run (event.Tget name key) is = absurd cc
 
 -- a judgement changes nothing that a simulation keeps
 judged_at : {R : Type 0} (reads : Reader → R → Type 0) (setup : Setup) (run : Run) (read : Result Proof ℕ) (participants : List ParticipantView) (entries : List (Vec ℕ Global × Given)) (seen : List Update) (readers : List (Vec ℕ Global × Option R))
-    → IsAt reads setup run participants entries seen readers → IsAt reads setup (judged_with setup run read).run participants entries seen readers
+    → IsRunAt reads setup run participants entries seen readers → IsRunAt reads setup (judged_with setup run read).run participants entries seen readers
 judged_at reads setup run (Err at) participants entries seen readers i = i
 judged_at reads setup run (Ok p) participants entries seen readers i = by_point (first_failed_point setup.suite.verifies setup.listed p) where
   by_point : (o : Option JudgeError)
-      → IsAt reads setup (elim o as (λ x. Done) [ Some f ↦ record { answer = spaced (text_of_point f); behind = []; run = run } | None ↦ record { answer = spaced (text_of_verdict (verdict_of p)); behind = []; run = record run { judged = run.judged ++ p ∷ [] } } ]).run participants entries seen readers
+      → IsRunAt reads setup (elim o as (λ x. Done) [ Some f ↦ record { answer = spaced (text_of_point f); behind = []; run = run } | None ↦ record { answer = spaced (text_of_verdict (verdict_of p)); behind = []; run = record run { judged = run.judged ++ p ∷ [] } } ]).run participants entries seen readers
   by_point (Some f) = i
   by_point None = record { hosted = i.hosted; labels_are = i.labels_are; seen_are = i.seen_are; readers_are = i.readers_are; remembered = judged_remembers run (run.judged ++ p ∷ []) i.remembered }
 
-pub judged_done : (A : Type 0) {R : Type 0} (view : A → View) (reads : Reader → R → Type 0) (setup : Setup) (run : Run) (label bytes text lines : List ℕ) (simulation : Simulation A R) → IsSimulationAt view reads setup run simulation → bytes ≡ bytes_of run label
-    → text ≡ (judged_with setup run (proof_in bytes)).answer → (judged_with setup run (proof_in bytes)).behind ≡ [] → lines ≡ text ++ 10 ∷ [] → HasDone A view reads setup (judged_with setup run (proof_in (bytes_of run label))) lines simulation
+pub judged_done : (A : Type 0) {R : Type 0} (view : A → ActorView) (reads : Reader → R → Type 0) (setup : Setup) (run : Run) (label bytes text lines : List ℕ) (simulation : Simulation A R) → IsSimulationAt view reads setup run simulation → bytes ≡ bytes_of_label run label
+    → text ≡ (judged_with setup run (proof_in bytes)).answer → (judged_with setup run (proof_in bytes)).behind ≡ [] → lines ≡ text ++ 10 ∷ [] → HasDone A view reads setup (judged_with setup run (proof_in (bytes_of_label run label))) lines simulation
 judged_done A view reads setup run label bytes text lines simulation at same is none told =
     let d = judged_with setup run (proof_in bytes) in
     let done : HasDone A view reads setup d lines simulation = record {
       lines_are = told ∙ ap (λ (t : List ℕ). t ++ 10 ∷ []) is ∙ sym (append-nil (d.answer ++ 10 ∷ [])) ∙ ap (λ (ls : List (List ℕ)). ended d.answer ++ flat_map ended ls) (sym none);
-      at = judged_at reads setup run (proof_in bytes) (map (participant_by view) simulation.participants.items) simulation.labels.map.entries (updates_in simulation.seen.graph.items.entries) simulation.readers.map.entries at;
+      at = judged_at reads setup run (proof_in bytes) (map (participant_by view) simulation.participants.items) simulation.labels.map.entries simulation.seen.listed.updates simulation.readers.map.entries at;
     } in
     subst (λ (b : List ℕ). HasDone A view reads setup (judged_with setup run (proof_in b)) lines simulation) same done
 

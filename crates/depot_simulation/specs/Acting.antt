@@ -20,14 +20,14 @@ use Rattle.depot_world.specs.Setups.{Setup, stands_on, signs_on}
 use Rattle.depot_simulation.specs.declared.actor.EventOutcome.{EventOutcome}
 
 -- where a node stands, how it signs, its journal, and the stop that waits on its disk
-pub record View : Type 0 where
+pub record ActorView : Type 0 where
   pub here : Setting
   pub sign : Signs
   pub journal : List Record
   pub pending : Option PendingStop
 
 -- a node of this number that was just started on an empty disk
-abbrev pub fresh_view : Verifies → List RosterEntry → ℕ → Signs → View
+abbrev pub fresh_view : Verifies → List RosterEntry → ℕ → Signs → ActorView
 fresh_view verifies listed node sign = record {
   here = record { verifies = verifies; me = node; listed = listed };
   sign = sign;
@@ -36,7 +36,7 @@ fresh_view verifies listed node sign = record {
 }
 
 -- it is the node of this host
-pub record IsHosted (setup : Setup) (s : Host) (v : View) : Type 0 where
+pub record IsHosted (setup : Setup) (s : Host) (v : ActorView) : Type 0 where
   pub here : v.here ≡ stands_on setup s.correct.node
   pub sign : v.sign ≡ signs_on setup s.correct.node
   pub journal : v.journal ≡ s.correct.journal
@@ -53,7 +53,7 @@ pub record TellReads (rs : List Read) (told : List ReadTrace) : Type 0 where
 
 -- a node as a simulation has it: how it is seen, and the reads that were kept of it
 pub record ParticipantView : Type 0 where
-  pub view : View
+  pub view : ActorView
   pub reads : List ReadTrace
 
 -- it is the node of this host, and these are its reads
@@ -69,12 +69,12 @@ AreHosted setup (s ∷ ss) [] = ⊥
 AreHosted setup (s ∷ ss) (p ∷ ps) = IsParticipant setup s p × AreHosted setup ss ps
 
 -- An event of a node came to this: the node after it, these lines, and these bytes for a label.
-pub record CameTo (setup : Setup) (w : EventResult) (v : View) (lines bytes : List ℕ) : Type 0 where
+pub record CameTo (setup : Setup) (w : EventResult) (v : ActorView) (lines bytes : List ℕ) : Type 0 where
   pub hosted : IsHosted setup w.host v
   pub lines_are : lines ≡ lines_after_arrow w.answer w.behind
   pub bytes_are : bytes ≡ w.bytes
 
 -- Of whatever host this was the node, an event came to what it lets a correct node do, by where it stands and how it signs.
-abbrev pub Acts : {A : Type 0} → (A → View) → A → (Setting → Signs → Correct → Effect) → EventOutcome A → Type 0
+abbrev pub Acts : {A : Type 0} → (A → ActorView) → A → (Setting → Signs → Correct → Effect) → EventOutcome A → Type 0
 Acts view actor effect outcome = (setup : Setup) (s : Host) → IsHosted setup s (view actor)
     → CameTo setup (event_result s (effect (stands_on setup s.correct.node) (signs_on setup s.correct.node) s.correct)) (view outcome.actor) outcome.lines outcome.bytes

@@ -15,13 +15,13 @@ use Rattle.depot_schedule.specs.declared.event.Event.TheVariants as event
 use Rattle.depot_schedule.specs.declared.event.Ref.{Ref}
 use Rattle.depot_schedule.specs.EventLines.{event_changes, event_node}
 use Rattle.depot_world.specs.Audits.{traced_read}
-use Rattle.depot_world.specs.Effects.{read_of, put_by, get_by, hello_by, bundle_by, give_by, restart_by, receipt_by, settled_by, checkpoint_by, sign_by}
-use Rattle.depot_world.specs.Run.{Run, Host, bytes_of, seen_with}
+use Rattle.depot_world.specs.Effects.{read_at_end, put_by, get_by, hello_by, bundle_by, give_by, restart_by, receipt_by, settled_by, checkpoint_by, sign_by}
+use Rattle.depot_world.specs.Run.{Run, Host, bytes_of_label, seen_with}
 use Rattle.depot_world.specs.FaultySigning.{Text, no_reference, counted_bytes, updated, update_text, vouched_text, proof_text, hollow_text, proof_in, flip_at}
 use Rattle.depot_world.specs.ScheduleStops.{Effect}
 use Rattle.depot_world.specs.Setups.{Setup, stands_on, signs_on}
-use Rattle.depot_world.specs.Transcript.{Done, by_node, judged_with, lines_after_arrow, lines_of}
-use Rattle.depot_simulation.specs.Acting.{View}
+use Rattle.depot_world.specs.Transcript.{Done, done_at_node, judged_with, lines_after_arrow, lines_of}
+use Rattle.depot_simulation.specs.Acting.{ActorView}
 use Rattle.depot_simulation.specs.Playing.{IsSimulationAt, IsPlayed}
 use Rattle.depot_simulation.specs.declared.acting.ActingNode.{ActingNode}
 use Rattle.depot_simulation.specs.declared.participant.Participant.{Participant}
@@ -30,12 +30,12 @@ use Rattle.depot_simulation.specs.declared.simulation.Simulation.{Simulation}
 -- ---- all events
 
 -- This was done: these lines say so from the arrow on, and the simulation is at the run after it.
-pub record HasDone (A : Type 0) {R : Type 0} (view : A → View) (reads : Reader → R → Type 0) (setup : Setup) (d : Done) (lines : List ℕ) (simulation : Simulation A R) : Type 0 where
+pub record HasDone (A : Type 0) {R : Type 0} (view : A → ActorView) (reads : Reader → R → Type 0) (setup : Setup) (d : Done) (lines : List ℕ) (simulation : Simulation A R) : Type 0 where
   pub lines_are : lines ≡ lines_after_arrow d.answer d.behind
   pub at : IsSimulationAt view reads setup d.run simulation
 
 -- the same of the whole lines of an event
-pub record HasTold (A : Type 0) {R : Type 0} (view : A → View) (reads : Reader → R → Type 0) (setup : Setup) (e : Event) (d : Done) (lines : List ℕ) (simulation : Simulation A R) : Type 0 where
+pub record HasTold (A : Type 0) {R : Type 0} (view : A → ActorView) (reads : Reader → R → Type 0) (setup : Setup) (e : Event) (d : Done) (lines : List ℕ) (simulation : Simulation A R) : Type 0 where
   pub lines_are : lines ≡ lines_of e d
   pub at : IsSimulationAt view reads setup d.run simulation
 
@@ -66,32 +66,32 @@ effect_of setup run (event.Put node key value) s = put_by (stands_on setup s.cor
 effect_of setup run (event.Puts node changes) s = put_by (stands_on setup s.correct.node) s.correct changes
 effect_of setup run (event.Get node key) s = get_by s.correct key
 effect_of setup run (event.Hello node label) s = hello_by (stands_on setup s.correct.node) s.correct
-effect_of setup run (event.Bundle node hello label) s = bundle_by (stands_on setup s.correct.node) (signs_on setup s.correct.node) s.correct (bytes_of run hello)
-effect_of setup run (event.Give node label size) s = give_by (stands_on setup s.correct.node) s.correct (bytes_of run label)
+effect_of setup run (event.Bundle node hello label) s = bundle_by (stands_on setup s.correct.node) (signs_on setup s.correct.node) s.correct (bytes_of_label run hello)
+effect_of setup run (event.Give node label size) s = give_by (stands_on setup s.correct.node) s.correct (bytes_of_label run label)
 effect_of setup run (event.Checkpoint node label) s = checkpoint_by (stands_on setup s.correct.node) s.correct
-effect_of setup run (event.Sign node label) s = sign_by (stands_on setup s.correct.node) s.correct (bytes_of run label)
+effect_of setup run (event.Sign node label) s = sign_by (stands_on setup s.correct.node) s.correct (bytes_of_label run label)
 effect_of setup run e s = restart_by s.correct
 
 -- the read that a node makes in it, as a trace tells it, if it makes one
 abbrev pub reads_by : List Record → Event → List ReadTrace
-reads_by J (event.Get node key) = traced_read (read_of J key) ∷ []
+reads_by J (event.Get node key) = traced_read (read_at_end J key) ∷ []
 reads_by J e = []
 
 -- a node gives receipts for these ids
 abbrev pub receipts_by : Setup → Run → ℕ → List (List ℕ) → Done
-receipts_by setup run node ids = by_node run node None (λ s. receipt_by (stands_on setup node) s.correct ids)
+receipts_by setup run node ids = done_at_node run node None (λ s. receipt_by (stands_on setup node) s.correct ids)
 
 -- a node tells whether an id is settled at so many nodes
 abbrev pub settling_by : Run → ℕ → List ℕ → ℕ → Done
-settling_by run node id k = by_node run node None (λ s. settled_by s.correct id k)
+settling_by run node id k = done_at_node run node None (λ s. settled_by s.correct id k)
 
 -- the place of the first node of this number, from 0
-abbrev pub place_in : {A : Type 0} → (A → View) → ℕ → List (Participant A) → Option ℕ
-place_in view node participants = position (λ p. (view p.actor).here.me == node) participants
+abbrev pub place_of_node : {A : Type 0} → (A → ActorView) → ℕ → List (Participant A) → Option ℕ
+place_of_node view node participants = position (λ p. (view p.actor).here.me == node) participants
 
 -- The first node of this number left its place.
-pub record HasLeft (A : Type 0) {R : Type 0} (view : A → View) (node : ℕ) (old new : Simulation A R) (acting : ActingNode A) : Type 0 where
-  pub place_is : place_in view node old.participants.items ≡ Some acting.place
+pub record HasLeft (A : Type 0) {R : Type 0} (view : A → ActorView) (node : ℕ) (old new : Simulation A R) (acting : ActingNode A) : Type 0 where
+  pub place_is : place_of_node view node old.participants.items ≡ Some acting.place
   pub part_is : slice_get old.participants.items acting.place ≡ Some acting.participant
   pub count_is : acting.count ≡ length (accepted (view acting.participant.actor).journal)
   pub others : new.participants.items ≡ remove old.participants.items acting.place
@@ -100,7 +100,7 @@ pub record HasLeft (A : Type 0) {R : Type 0} (view : A → View) (node : ℕ) (o
   pub readers_stay : new.readers ≡ old.readers
 
 -- the same, of a simulation that was at some point of some run
-pub record HasLeftSimulation (A : Type 0) {R : Type 0} (view : A → View) (reads : Reader → R → Type 0) (node : ℕ) (new : Simulation A R) (acting : ActingNode A) : Type 0 where
+pub record HasLeftSimulation (A : Type 0) {R : Type 0} (view : A → ActorView) (reads : Reader → R → Type 0) (node : ℕ) (new : Simulation A R) (acting : ActingNode A) : Type 0 where
   pub before : Simulation A R
   pub played : IsPlayed view reads before
   pub left : HasLeft A view node before new acting
@@ -117,9 +117,9 @@ text_by setup run (event.Voucher label writer seq refs) = vouched_by setup run w
 text_by setup run (event.Proof label kind first second) = proof_text run kind first second
 text_by setup run (event.Hollow label voucher plain) = hollow_text run voucher plain
 text_by setup run (event.Raw label bytes) = counted_bytes bytes
-text_by setup run (event.Cut label source start count) = counted_bytes (take count (drop start (bytes_of run source)))
-text_by setup run (event.Flip label source place) = counted_bytes (flip_at place (bytes_of run source))
-text_by setup run (event.Join label first second) = counted_bytes (bytes_of run first ++ bytes_of run second)
+text_by setup run (event.Cut label source start count) = counted_bytes (take count (drop start (bytes_of_label run source)))
+text_by setup run (event.Flip label source place) = counted_bytes (flip_at place (bytes_of_label run source))
+text_by setup run (event.Join label first second) = counted_bytes (bytes_of_label run first ++ bytes_of_label run second)
 text_by setup run e = no_reference
 
 abbrev pub is_text : Event → Bool
@@ -133,8 +133,8 @@ is_text (event.Join label first second) = true
 is_text e = false
 
 -- the bytes of a label are judged as a proof
-abbrev pub judged_by : Setup → Run → List ℕ → Done
-judged_by setup run label = judged_with setup run (proof_in (bytes_of run label))
+abbrev pub label_judged : Setup → Run → List ℕ → Done
+label_judged setup run label = judged_with setup run (proof_in (bytes_of_label run label))
 
 -- ---- updates that faulty nodes sign
 

@@ -1,5 +1,5 @@
 -- What a call gives of whatever run a simulation stands at.
-use Rattle.std.specs.Prelude.{◌⊎◌, ℕ, List, [], Vec}
+use Rattle.std.specs.Prelude.{◌≡◌, ◌⊎◌, ℕ, List, [], length, Vec}
 use Rattle.std.specs.declared.alloc.Global.{Global}
 use Rattle.depot_base.specs.declared.key.PublicKey.{PublicKey}
 use Rattle.depot_model.specs.Bundle.{Signs}
@@ -8,6 +8,7 @@ use Rattle.depot_model.specs.Roster.{Verifies}
 use Rattle.depot_outside.specs.Told.{Sinks, Wrote, WroteFront}
 use Rattle.depot_schedule.specs.declared.event.Event.{Event}
 use Rattle.depot_scenario.specs.Labels.{AreLabels}
+use Rattle.depot_scenario.specs.LabelUses.{AreUses}
 use Rattle.depot_scenario.specs.ScenarioTexts.{IsText}
 use Rattle.depot_scenario.specs.Scenarios.{IsScenarioOf}
 use Rattle.depot_scenario.specs.declared.label_table.Given.{Given}
@@ -19,9 +20,9 @@ use Rattle.depot_world.specs.Run.{Run, Host}
 use Rattle.depot_world.specs.ScheduleStops.{event_result}
 use Rattle.depot_world.specs.Setups.{Setup}
 use Rattle.depot_world.specs.Transcript.{Done, done, printed}
-use Rattle.depot_simulation.specs.Acting.{CameTo, IsHosted, View}
+use Rattle.depot_simulation.specs.Acting.{CameTo, IsHosted, ActorView}
 use Rattle.depot_simulation.specs.Doing.{HasDone, HasLeft, HasTold, effect_of}
-use Rattle.depot_simulation.specs.Playing.{IsSimulationAt, StaysSound}
+use Rattle.depot_simulation.specs.Playing.{IsSimulationAt, IsSimulationFor, StaysSound}
 use Rattle.depot_simulation.specs.declared.acting.ActingNode.{ActingNode}
 use Rattle.depot_simulation.specs.declared.actor.EventOutcome.{EventOutcome}
 use Rattle.depot_simulation.specs.declared.simulation.Simulation.{Simulation}
@@ -29,7 +30,7 @@ use Rattle.depot_simulation.specs.declared.simulation.Simulation.{Simulation}
 -- ---- the runs
 
 -- this holds of whatever run a simulation stands at, in whatever setup
-abbrev pub OfEachRun : {A R : Type 0} → (A → View) → (Reader → R → Type 0) → Simulation A R → (Setup → Run → Type 0) → Type 0
+abbrev pub OfEachRun : {A R : Type 0} → (A → ActorView) → (Reader → R → Type 0) → Simulation A R → (Setup → Run → Type 0) → Type 0
 OfEachRun view reads simulation Of = (setup : Setup) (run : Run) → IsSimulationAt view reads setup run simulation → Of setup run
 
 -- it holds of whatever setup a scenario has
@@ -38,47 +39,47 @@ OfEachSetupOn verifies key sign scenario Of = (setup : Setup) → IsScenarioOf v
 
 -- it holds of whatever run a simulation stands at, in whatever setup a scenario has
 abbrev pub OfEachRunOn : {A R S G : Type 0} → Verifies → (G → PublicKey) → (G → Signs) → Scenario S G
-    → (A → View) → (Reader → R → Type 0) → Simulation A R → (Setup → Run → Type 0) → Type 0
+    → (A → ActorView) → (Reader → R → Type 0) → Simulation A R → (Setup → Run → Type 0) → Type 0
 OfEachRunOn verifies key sign scenario view reads simulation Of = (setup : Setup) (run : Run) → IsScenarioOf verifies key sign setup scenario
     → IsSimulationAt view reads setup run simulation → Of setup run
 
 -- it holds of each of these whose nodes may be audited
 abbrev pub OfEachSoundRunOn : {A R S G : Type 0} → Verifies → (G → PublicKey) → (G → Signs) → Scenario S G
-    → (A → View) → (Reader → R → Type 0) → Simulation A R → (Setup → Run → Type 0) → Type 0
+    → (A → ActorView) → (Reader → R → Type 0) → Simulation A R → (Setup → Run → Type 0) → Type 0
 OfEachSoundRunOn verifies key sign scenario view reads simulation Of = (setup : Setup) (run : Run) → IsScenarioOf verifies key sign setup scenario
     → IsSound setup run → IsSimulationAt view reads setup run simulation → Of setup run
 
 -- it holds of what is printed of events that may be played from whatever run a simulation stands at, in whatever setup a scenario has
 abbrev pub OfEachPrinted : {A R S G : Type 0} → Verifies → (G → PublicKey) → (G → Signs) → Scenario S G → List Event
-    → (A → View) → (Reader → R → Type 0) → Simulation A R → (List ℕ → Type 0) → Type 0
+    → (A → ActorView) → (Reader → R → Type 0) → Simulation A R → (List ℕ → Type 0) → Type 0
 OfEachPrinted verifies key sign scenario events view reads simulation Of = (setup : Setup) (run : Run) → IsScenarioOf verifies key sign setup scenario
     → StaysSound setup run events → IsSimulationAt view reads setup run simulation → Of (printed setup run events)
 
 -- ---- what a simulation comes to
 
 -- Whatever run a simulation stood at, it stands at the one that this makes of it.
-abbrev pub GoesTo : {A R : Type 0} → (A → View) → (Reader → R → Type 0) → Simulation A R → (Setup → Run → Run) → Simulation A R → Type 0
+abbrev pub GoesTo : {A R : Type 0} → (A → ActorView) → (Reader → R → Type 0) → Simulation A R → (Setup → Run → Run) → Simulation A R → Type 0
 GoesTo view reads old then new = OfEachRun view reads old (λ setup run. IsSimulationAt view reads setup (then setup run) new)
 
 -- Of whatever run a simulation stood at, this was done: these lines say so from the arrow on, and it stands at the run after it.
-abbrev pub Simulates : {A R : Type 0} → (A → View) → (Reader → R → Type 0) → Simulation A R → (Setup → Run → Done) → List ℕ → Simulation A R → Type 0
+abbrev pub Simulates : {A R : Type 0} → (A → ActorView) → (Reader → R → Type 0) → Simulation A R → (Setup → Run → Done) → List ℕ → Simulation A R → Type 0
 Simulates view reads old what lines new = OfEachRun view reads old (λ setup run. HasDone _ view reads setup (what setup run) lines new)
 
 -- the same of the runs in the setups of a scenario
 abbrev pub SimulatesOn : {A R S G : Type 0} → Verifies → (G → PublicKey) → (G → Signs) → Scenario S G
-    → (A → View) → (Reader → R → Type 0) → Simulation A R → (Setup → Run → Done) → List ℕ → Simulation A R → Type 0
+    → (A → ActorView) → (Reader → R → Type 0) → Simulation A R → (Setup → Run → Done) → List ℕ → Simulation A R → Type 0
 SimulatesOn verifies key sign scenario view reads old what lines new =
     OfEachRunOn verifies key sign scenario view reads old (λ setup run. HasDone _ view reads setup (what setup run) lines new)
 
 -- the same of those whose nodes may be audited
 abbrev pub SimulatesSoundOn : {A R S G : Type 0} → Verifies → (G → PublicKey) → (G → Signs) → Scenario S G
-    → (A → View) → (Reader → R → Type 0) → Simulation A R → (Setup → Run → Done) → List ℕ → Simulation A R → Type 0
+    → (A → ActorView) → (Reader → R → Type 0) → Simulation A R → (Setup → Run → Done) → List ℕ → Simulation A R → Type 0
 SimulatesSoundOn verifies key sign scenario view reads old what lines new =
     OfEachSoundRunOn verifies key sign scenario view reads old (λ setup run. HasDone _ view reads setup (what setup run) lines new)
 
 -- Of these, an event was done: the lines are its lines, and the simulation stands at the run after it.
 abbrev pub PlaysEvent : {A R S G : Type 0} → Verifies → (G → PublicKey) → (G → Signs) → Scenario S G
-    → (A → View) → (Reader → R → Type 0) → Simulation A R → Event → List ℕ → Simulation A R → Type 0
+    → (A → ActorView) → (Reader → R → Type 0) → Simulation A R → Event → List ℕ → Simulation A R → Type 0
 PlaysEvent verifies key sign scenario view reads old e lines new =
     OfEachSoundRunOn verifies key sign scenario view reads old (λ setup run. HasTold _ view reads setup e (done setup run e) lines new)
 
@@ -93,13 +94,13 @@ WritesFront Plays sink new = Wrote sink [] ⊎ ((lines : List ℕ) × (Plays lin
 -- ---- the node that left its place for an event
 
 -- Of whatever the simulation was before the node left, this was done.
-abbrev pub Completes : {A R : Type 0} → (A → View) → (Reader → R → Type 0) → ℕ → Simulation A R → ActingNode A → (Setup → Run → Done)
+abbrev pub Completes : {A R : Type 0} → (A → ActorView) → (Reader → R → Type 0) → ℕ → Simulation A R → ActingNode A → (Setup → Run → Done)
     → List ℕ → Simulation A R → Type 0
 Completes {A = A} {R = R} view reads node left acting what lines new = (before : Simulation A R) → HasLeft A view node before left acting
     → Simulates view reads before what lines new
 
 -- Of whatever run these are the labels, and whatever host this was the node, an event came to what it lets the node do.
-abbrev pub ActsIn : {A : Type 0} → (A → View) → List (Vec ℕ Global × Given) → A → Event → EventOutcome A → Type 0
+abbrev pub ActsIn : {A : Type 0} → (A → ActorView) → List (Vec ℕ Global × Given) → A → Event → EventOutcome A → Type 0
 ActsIn view labels actor e outcome = (setup : Setup) (run : Run) (s : Host) → AreLabels labels run.labels → IsHosted setup s (view actor)
     → CameTo setup (event_result s (effect_of setup run e s)) (view outcome.actor) outcome.lines outcome.bytes
 
@@ -107,6 +108,14 @@ ActsIn view labels actor e outcome = (setup : Setup) (run : Run) (s : Host) → 
 
 -- Of whatever run a simulation stands at, in whatever setup a scenario has, this is what an event makes.
 abbrev pub MakesOn : {A R S G : Type 0} → Verifies → (G → PublicKey) → (G → Signs) → Scenario S G
-    → (A → View) → (Reader → R → Type 0) → Simulation A R → (Setup → Run → Text) → made_text.Text → Type 0
+    → (A → ActorView) → (Reader → R → Type 0) → Simulation A R → (Setup → Run → Text) → made_text.Text → Type 0
 MakesOn verifies key sign scenario view reads simulation made text =
     OfEachRunOn verifies key sign scenario view reads simulation (λ setup run. IsText text (made setup run))
+
+-- ---- labels that are forgotten
+
+-- Of whatever so many events are to come, and whatever run a simulation stood at: it stands at that run for them, and the uses of labels that
+-- are left are theirs.
+abbrev pub ForgetsLabels : {A R : Type 0} → (A → ActorView) → (Reader → R → Type 0) → ℕ → List (Vec ℕ Global × ℕ) → Simulation A R → List (Vec ℕ Global × ℕ) → Simulation A R → Type 0
+ForgetsLabels view reads many uses old left new = (to_come : List Event) → length to_come ≡ many → AreUses uses to_come
+    → AreUses left to_come × OfEachRun view reads old (λ setup run. IsSimulationFor view reads setup to_come run new)

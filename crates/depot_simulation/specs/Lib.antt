@@ -1,4 +1,5 @@
 pub mod Acting
+pub mod Asking
 pub mod Auditing
 pub mod Doing
 pub mod Drafts

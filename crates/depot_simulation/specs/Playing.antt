@@ -13,10 +13,11 @@ use Rattle.depot_model.specs.Roster.{Verifies}
 use Rattle.depot_model.specs.Texts.{IsSigned, id_of_update}
 use Rattle.depot_schedule.specs.declared.event.Event.{Event}
 use Rattle.depot_world.specs.Audits.{IsSound}
-use Rattle.depot_world.specs.Run.{Made, Run, Host}
+use Rattle.depot_world.specs.Forgetting.{IsAlikeFor}
+use Rattle.depot_world.specs.Run.{Labelled, Run, Host}
 use Rattle.depot_world.specs.Setups.{Setup}
 use Rattle.depot_world.specs.Transcript.{run_after}
-use Rattle.depot_simulation.specs.Acting.{View, ParticipantView, AreHosted}
+use Rattle.depot_simulation.specs.Acting.{ActorView, ParticipantView, AreHosted}
 use Rattle.depot_simulation.specs.Readers.{AreReaders}
 use Rattle.depot_scenario.specs.Scenarios.{IsScenarioOf}
 use Rattle.depot_scenario.specs.Labels.{AreLabels}
@@ -24,7 +25,6 @@ use Rattle.depot_scenario.specs.declared.label_table.Given.{Given}
 use Rattle.depot_scenario.specs.declared.scenario.Scenario.{Scenario}
 use Rattle.depot_simulation.specs.declared.participant.Participant.{Participant}
 use Rattle.depot_simulation.specs.declared.simulation.Simulation.{Simulation}
-use Rattle.depot_graph.specs.Kept.{updates_in}
 use Rattle.std.specs.declared.alloc.Global.{Global}
 
 -- each of these updates was seen
@@ -36,11 +36,11 @@ WereSeen seen us = AllByRecursion (λ u. has_id seen (id_of_update u) ≡ true) 
 pub record IsRemembered (run : Run) : Type 0 where
   pub causal : IsCausal [] run.seen
   pub accepted_were : (s : Host) → IsIn s run.hosts → WereSeen run.seen (accepted s.correct.journal)
-  pub signed_are : (m : Made) (s : Signed) → IsIn m run.labels → m.signed ≡ Some s → IsSigned s
-  pub signed_were : (m : Made) (s : Signed) → IsIn m run.labels → m.signed ≡ Some s → WereSeen run.seen (update_in s.statement)
+  pub signed_are : (m : Labelled) (s : Signed) → IsIn m run.labels → m.signed ≡ Some s → IsSigned s
+  pub signed_were : (m : Labelled) (s : Signed) → IsIn m run.labels → m.signed ≡ Some s → WereSeen run.seen (update_in s.statement)
 
 -- Nodes with their reads, labels, updates and readers are those of a run, which was remembered.
-pub record IsAt {R : Type 0} (reads : Reader → R → Type 0) (setup : Setup) (run : Run) (participants : List ParticipantView) (labels : List (Vec ℕ Global × Given)) (seen : List Update) (readers : List (Vec ℕ Global × Option R)) : Type 0 where
+pub record IsRunAt {R : Type 0} (reads : Reader → R → Type 0) (setup : Setup) (run : Run) (participants : List ParticipantView) (labels : List (Vec ℕ Global × Given)) (seen : List Update) (readers : List (Vec ℕ Global × Option R)) : Type 0 where
   pub hosted : AreHosted setup run.hosts participants
   pub labels_are : AreLabels labels run.labels
   pub seen_are : seen ≡ run.seen
@@ -48,21 +48,27 @@ pub record IsAt {R : Type 0} (reads : Reader → R → Type 0) (setup : Setup) (
   pub remembered : IsRemembered run
 
 -- a participant of a simulation, seen by what is seen of its node
-abbrev pub participant_by : {A : Type 0} → (A → View) → Participant A → ParticipantView
+abbrev pub participant_by : {A : Type 0} → (A → ActorView) → Participant A → ParticipantView
 participant_by view p = record { view = view p.actor; reads = p.reads }
 
 -- a simulation is at this point of a run
-abbrev pub IsSimulationAt : {A R : Type 0} → (A → View) → (Reader → R → Type 0) → Setup → Run → Simulation A R → Type 0
-IsSimulationAt view reads setup run simulation = IsAt reads setup run (map (participant_by view) simulation.participants.items) simulation.labels.map.entries (updates_in simulation.seen.graph.items.entries) simulation.readers.map.entries
+abbrev pub IsSimulationAt : {A R : Type 0} → (A → ActorView) → (Reader → R → Type 0) → Setup → Run → Simulation A R → Type 0
+IsSimulationAt view reads setup run simulation = IsRunAt reads setup run (map (participant_by view) simulation.participants.items) simulation.labels.map.entries simulation.seen.listed.updates simulation.readers.map.entries
+
+-- a simulation is at a run that is this one, but for labels that none of these events names
+pub record IsSimulationFor {A R : Type 0} (view : A → ActorView) (reads : Reader → R → Type 0) (setup : Setup) (es : List Event) (run : Run) (simulation : Simulation A R) : Type 0 where
+  pub few : Run
+  pub alike : IsAlikeFor es run few
+  pub at : IsSimulationAt view reads setup few simulation
 
 -- a simulation is at some point of some run
-pub record IsPlayed {A R : Type 0} (view : A → View) (reads : Reader → R → Type 0) (simulation : Simulation A R) : Type 0 where
+pub record IsPlayed {A R : Type 0} (view : A → ActorView) (reads : Reader → R → Type 0) (simulation : Simulation A R) : Type 0 where
   pub setup : Setup
   pub run : Run
   pub at : IsSimulationAt view reads setup run simulation
 
 -- a simulation is at some point of some run, in the setup of this scenario, and its nodes may be audited
-pub record IsPlayedOn {A R S G : Type 0} (verifies : Verifies) (key : G → PublicKey) (sign : G → Signs) (scenario : Scenario S G) (view : A → View) (reads : Reader → R → Type 0) (simulation : Simulation A R) : Type 0 where
+pub record IsPlayedOn {A R S G : Type 0} (verifies : Verifies) (key : G → PublicKey) (sign : G → Signs) (scenario : Scenario S G) (view : A → ActorView) (reads : Reader → R → Type 0) (simulation : Simulation A R) : Type 0 where
   pub setup : Setup
   pub run : Run
   pub on : IsScenarioOf verifies key sign setup scenario
@@ -74,7 +80,7 @@ abbrev pub StaysSound : Setup → Run → List Event → Type 0
 StaysSound setup run events = (n : ℕ) → IsSound setup (run_after setup run (take n events))
 
 -- a simulation is at some point of some run, in the setup of this scenario, from which these events may be played
-pub record MayPlay {A R S G : Type 0} (verifies : Verifies) (key : G → PublicKey) (sign : G → Signs) (scenario : Scenario S G) (events : List Event) (view : A → View) (reads : Reader → R → Type 0) (simulation : Simulation A R) : Type 0 where
+pub record MayPlay {A R S G : Type 0} (verifies : Verifies) (key : G → PublicKey) (sign : G → Signs) (scenario : Scenario S G) (events : List Event) (view : A → ActorView) (reads : Reader → R → Type 0) (simulation : Simulation A R) : Type 0 where
   pub setup : Setup
   pub run : Run
   pub on : IsScenarioOf verifies key sign setup scenario

@@ -25,9 +25,9 @@ pub record HasTrimmed {R : Type 0} (reads : Reader → R → Type 0) (answer : T
   pub reader_is : IsMade reads t.reader (reader_made answer)
 
 -- the lines of a reader that takes a stream, or of none
-abbrev pub told_of : Option Reader → List ℕ → List ℕ
-told_of None stream = ended []
-told_of (Some r) stream = ended (spaced (text_of_reader_feed (reader_feed_of r stream)))
+abbrev pub reader_lines : Option Reader → List ℕ → List ℕ
+reader_lines None stream = ended []
+reader_lines (Some r) stream = ended (spaced (text_of_reader_feed (reader_feed_of r stream)))
 
 -- the reader that has taken a stream
 abbrev pub gone_on : Option Reader → List ℕ → Option Reader
@@ -35,9 +35,9 @@ gone_on None stream = None
 gone_on (Some r) stream = Some (reader_feed_of r stream).reader
 
 -- the lines of a reader that reads a key, or of none
-abbrev pub shown_of : Option Reader → List ℕ → List ℕ
-shown_of None key = ended []
-shown_of (Some r) key = ended (answer_of_reader r key)
+abbrev pub reader_shown : Option Reader → List ℕ → List ℕ
+reader_shown None key = ended []
+reader_shown (Some r) key = ended (answer_of_reader r key)
 
 -- ---- readers by their names
 

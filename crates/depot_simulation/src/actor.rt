@@ -14,9 +14,9 @@ ghost use Rattle.depot_traces.specs.SeenTraces as seen_traces;
 ghost use Rattle.depot_traces.specs.TraceTexts.{IsTrace, read_text};
 ghost use Rattle.depot_traces.specs.declared.trace.TheConstants.{MOST_READS};
 ghost use Rattle.depot_world.specs.Audits.{traced_read};
-ghost use Rattle.depot_world.specs.Effects.{read_of, put_by, get_by, receipt_by, settled_by, checkpoint_by, sign_by, hello_by, bundle_by, give_by, restart_by};
+ghost use Rattle.depot_world.specs.Effects.{read_at_end, put_by, get_by, receipt_by, settled_by, checkpoint_by, sign_by, hello_by, bundle_by, give_by, restart_by};
 ghost use Rattle.depot_world.specs.Run.{PendingStop, own_update};
-ghost use Rattle.depot_simulation.specs.Acting.{Acts, HaveTexts, View};
+ghost use Rattle.depot_simulation.specs.Acting.{Acts, HaveTexts, ActorView};
 ghost use Rattle.depot_simulation.specs.Readers.{HasTrimmed};
 ghost use Rattle.depot_simulation.specs.Auditing.{handed_in};
 
@@ -43,7 +43,7 @@ pub trait Actor: Drop + Numbered {
     type Reader: Reading;
 
     /// Where it stands, how it signs, its journal, and the stop that waits on its disk.
-    ghost view: { Self → View };
+    ghost view: { Self → ActorView };
 
     /// How many updates it accepted. It takes no memory.
     fn update_count(&self) -> u32
@@ -70,7 +70,7 @@ pub trait Actor: Drop + Numbered {
 
     /// A read of a key at its records as they are, as a trace tells it.
     fn read(&self, key: &Key) -> Result<ReadTrace, Memory>
-        ensures { IfOk result (λ r. read_text.fits r × (seen_traces.read_of r ≡ traced_read (read_of (view self.now).journal key.now))) };
+        ensures { IfOk result (λ r. read_text.fits r × (seen_traces.read_of r ≡ traced_read (read_at_end (view self.now).journal key.now))) };
 
     /// What it hands in for an audit: its records, and these of its reads, which are copied.
     fn trace(&self, reads: &[ReadTrace]) -> Result<Trace, Memory>

@@ -1,12 +1,13 @@
 //! The updates that faulty nodes sign, and what they vouch for.
-ghost use Rattle.std.specs.Prelude.{◌≡◌, ℕ, map, option_map, IfOk, IfSome};
+ghost use Rattle.std.specs.Prelude.{◌≡◌, ℕ, true, map, option_map, IfOk, IfSome};
 ghost use Rattle.depot_base.specs.declared.statement.Statement.TheVariants as statement;
 ghost use Rattle.depot_model.specs.Bundle.{Signs};
 ghost use Rattle.depot_model.specs.Own.{entry_of};
 ghost use Rattle.depot_model.specs.Texts.{IsStatement, IsUpdate, id_of_update};
 ghost use Rattle.depot_model.specs.Vouching.{rising};
 ghost use Rattle.depot_world.specs.Run.{id_referred, referred};
-ghost use Rattle.depot_world.specs.FaultySigning.{all_of, all_referred, entries_of, prev_of, updated};
+ghost use Rattle.depot_world.specs.FaultySigning.{all_of, all_referred, entries_of, prev_of_ref, updated};
+ghost use Rattle.depot_simulation.specs.Asking.{asks_past};
 ghost use Rattle.depot_simulation.specs.Drafts.{IsNumbered, MaySign, MayVouchFor};
 ghost use Rattle.depot_simulation.specs.Playing.{IsPlayed};
 ghost use Rattle.depot_scenario.specs.KnownUpdates.{HasSeenParents};
@@ -15,8 +16,7 @@ ghost use Rattle.depot_simulation.specs.EachRun.{OfEachRun};
 use crate::actor::Actor;
 use crate::simulation::Simulation;
 use depot_base::{Change, Dep, Deps, Hash32, Ids, Memory, NodeId, Update};
-use depot_graph::Graph;
-use depot_model::{Past, hash_of};
+use depot_model::hash_of;
 use depot_scenario::{drafted, entries_of_others, entry_of, rising_ids, writes_of};
 use depot_schedule::{HistoryWord, Ref};
 use depot_update::id_of;
@@ -37,10 +37,11 @@ impl<A: Actor> Simulation<A> {
     ) -> Result<Option<Update>, Memory>
         requires played { IsPlayed A.view A.Reader.reads self.now }
         requires fits { MaySign writer seq clock changes.now deps.now history }
+        requires asked { asks_past prev.now deps.now history ≡ true → self.now.seen.asked ≡ true }
         ensures is { IfOk result (λ made. OfEachRun A.view A.Reader.reads self.now (λ setup run. (sign : Signs) → made ≡ updated sign run writer seq clock prev.now changes.now deps.now history)) }
         ensures text { IfOk result (λ made. IfSome made (λ u. IsUpdate u)) }
         ensures numbered { IfOk result (λ made. IfSome made (λ u. IsNumbered writer seq u)) }
-        ensures parents { IfOk result (λ made. IfSome made (λ u. HasSeenParents (⟦<Graph as Past>⟧.updates self.now.seen.graph) u)) }
+        ensures parents { IfOk result (λ made. IfSome made (λ u. HasSeenParents self.now.seen.listed.updates u)) }
     {
         let Some(prev) = self.prev_of(prev)? else {
             return Ok(None);
@@ -118,7 +119,7 @@ impl<A: Actor> Simulation<A> {
     /// The id that a prev names: zeros where there is none. None exactly where its reference names nothing.
     fn prev_of(&self, prev: &Option<Ref>) -> Result<Option<Hash32>, Memory>
         requires { IsPlayed A.view A.Reader.reads self.now }
-        ensures { IfOk result (λ id. OfEachRun A.view A.Reader.reads self.now (λ setup run. id ≡ prev_of run prev.now)) }
+        ensures { IfOk result (λ id. OfEachRun A.view A.Reader.reads self.now (λ setup run. id ≡ prev_of_ref run prev.now)) }
     {
         match prev {
             Some(r) => self.update_id(r),

@@ -23,7 +23,8 @@ impl<A: Actor> Simulation<A> {
         requires changes { PutsChanges event.now }
         requires node { event_node event.now ≡ node }
         requires played { IsPlayed A.view A.Reader.reads self.old }
-        ensures { IfOk result (λ lines. Simulates A.view A.Reader.reads self.old (λ setup run. done setup run event.now) lines self.new) }
+        ensures lines { IfOk result (λ lines. Simulates A.view A.Reader.reads self.old (λ setup run. done setup run event.now) lines self.new) }
+        ensures asked { self.new.seen.asked ≡ self.old.seen.asked }
     {
         match self.leave(node) {
             Some(acting) => self.act(acting, event),
@@ -36,7 +37,8 @@ impl<A: Actor> Simulation<A> {
         requires effect { is_effect event.now ≡ true }
         requires changes { PutsChanges event.now }
         requires left { HasLeftSimulation A A.view A.Reader.reads (event_node event.now) self.old acting }
-        ensures { IfOk result (λ lines. Completes A.view A.Reader.reads (event_node event.now) self.old acting (λ setup run. done setup run event.now) lines self.new) }
+        ensures lines { IfOk result (λ lines. Completes A.view A.Reader.reads (event_node event.now) self.old acting (λ setup run. done setup run event.now) lines self.new) }
+        ensures asked { self.new.seen.asked ≡ self.old.seen.asked }
     {
         let ActingNode {
             place,

@@ -1,6 +1,6 @@
 //! Readers that are made of nodes, take streams and read keys.
-ghost use Rattle.std.specs.Prelude.{IfOk};
-ghost use Rattle.depot_world.specs.Run.{bytes_of};
+ghost use Rattle.std.specs.Prelude.{◌≡◌, IfOk};
+ghost use Rattle.depot_world.specs.Run.{bytes_of_label};
 ghost use Rattle.depot_world.specs.Transcript.{tget_by, tgive_by, trim_at};
 ghost use Rattle.depot_simulation.specs.Playing.{IsPlayed};
 ghost use Rattle.depot_simulation.specs.EachRun.{Simulates};
@@ -15,7 +15,8 @@ impl<A: Actor> Simulation<A> {
     /// A reader is made of a node, below the checkpoint whose text a label has. The node stays at its place, since it stays as it is. The
     /// lines are those from the arrow on.
     pub fn trim(&mut self, node: NodeId, label: &Label, name: &Label) -> Result<Bytes, Memory>
-        ensures { IfOk result (λ lines. Simulates A.view A.Reader.reads self.old (λ setup run. trim_at setup run node (bytes_of run label.now) name.now) lines self.new) }
+        ensures lines { IfOk result (λ lines. Simulates A.view A.Reader.reads self.old (λ setup run. trim_at setup run node (bytes_of_label run label.now) name.now) lines self.new) }
+        ensures asked { self.new.seen.asked ≡ self.old.seen.asked }
     {
         let Some(place) = self.place_of(node) else {
             return Ok(Bytes::from_slice(self.alloc, b"\n")?);
@@ -29,7 +30,8 @@ impl<A: Actor> Simulation<A> {
     /// The reader of a name takes the bytes of a label. The lines are those from the arrow on.
     pub fn tgive(&mut self, name: &Label, label: &Label) -> Result<Bytes, Memory>
         requires { IsPlayed A.view A.Reader.reads self.old }
-        ensures { IfOk result (λ lines. Simulates A.view A.Reader.reads self.old (λ setup run. tgive_by run name.now (bytes_of run label.now)) lines self.new) }
+        ensures lines { IfOk result (λ lines. Simulates A.view A.Reader.reads self.old (λ setup run. tgive_by run name.now (bytes_of_label run label.now)) lines self.new) }
+        ensures asked { self.new.seen.asked ≡ self.old.seen.asked }
     {
         let stream = self.labels.bytes(label);
         self.readers.tgive(name, stream)

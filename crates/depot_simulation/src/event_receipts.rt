@@ -25,7 +25,8 @@ impl<A: Actor> Simulation<A> {
     pub fn receipt(&mut self, node: NodeId, refs: &[Ref]) -> Result<Bytes, Memory>
         requires few { (1 ≤ length refs.now) × (length refs.now ≤ MOST_WRITES) }
         requires played { IsPlayed A.view A.Reader.reads self.old }
-        ensures { IfOk result (λ lines. Simulates A.view A.Reader.reads self.old (λ setup run. receipt_for setup run node (all_referred run refs.now)) lines self.new) }
+        ensures lines { IfOk result (λ lines. Simulates A.view A.Reader.reads self.old (λ setup run. receipt_for setup run node (all_referred run refs.now)) lines self.new) }
+        ensures asked { self.new.seen.asked ≡ self.old.seen.asked }
     {
         let Some(ids) = self.receipt_ids(refs)? else {
             return Ok(Bytes::from_slice(self.alloc, b" NoRef\n")?);
@@ -41,7 +42,8 @@ impl<A: Actor> Simulation<A> {
         requires changes { AreChanges (receipt_changes ids.now) }
         requires rising { AllPairsByRecursion (λ g h. is_below g h ≡ true) ids.now }
         requires left { (node : ℕ) × HasLeftSimulation A A.view A.Reader.reads node self.old acting }
-        ensures { IfOk result (λ lines. (node : ℕ) → Completes A.view A.Reader.reads node self.old acting (λ setup run. receipts_by setup run node ids.now) lines self.new) }
+        ensures lines { IfOk result (λ lines. (node : ℕ) → Completes A.view A.Reader.reads node self.old acting (λ setup run. receipts_by setup run node ids.now) lines self.new) }
+        ensures asked { self.new.seen.asked ≡ self.old.seen.asked }
     {
         let ActingNode {
             place,
@@ -57,7 +59,8 @@ impl<A: Actor> Simulation<A> {
     /// Whether so many nodes gave receipts for what a reference names, as a node knows. The lines are those from the arrow on.
     pub fn settled(&mut self, node: NodeId, update: &Ref, k: u32) -> Result<Bytes, Memory>
         requires played { IsPlayed A.view A.Reader.reads self.old }
-        ensures { IfOk result (λ lines. Simulates A.view A.Reader.reads self.old (λ setup run. settled_for run node k (referred run update.now)) lines self.new) }
+        ensures lines { IfOk result (λ lines. Simulates A.view A.Reader.reads self.old (λ setup run. settled_for run node k (referred run update.now)) lines self.new) }
+        ensures asked { self.new.seen.asked ≡ self.old.seen.asked }
     {
         let Some(id) = self.update_id(update)? else {
             return Ok(Bytes::from_slice(self.alloc, b" NoRef\n")?);
@@ -76,7 +79,8 @@ impl<A: Actor> Simulation<A> {
         k: u32,
     ) -> Result<Bytes, Memory>
         requires left { (node : ℕ) × HasLeftSimulation A A.view A.Reader.reads node self.old acting }
-        ensures { IfOk result (λ lines. (node : ℕ) → Completes A.view A.Reader.reads node self.old acting (λ setup run. settling_by run node id.now k) lines self.new) }
+        ensures lines { IfOk result (λ lines. (node : ℕ) → Completes A.view A.Reader.reads node self.old acting (λ setup run. settling_by run node id.now k) lines self.new) }
+        ensures asked { self.new.seen.asked ≡ self.old.seen.asked }
     {
         let ActingNode {
             place,

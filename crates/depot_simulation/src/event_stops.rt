@@ -1,5 +1,5 @@
 //! Stops that are set on the disk of a node.
-ghost use Rattle.std.specs.Prelude.{◌≤◌, ℕ, IfOk};
+ghost use Rattle.std.specs.Prelude.{◌≡◌, ◌≤◌, ℕ, IfOk};
 ghost use Rattle.depot_base.specs.declared.limits.TheConstants.{MOST_STOP_CALL};
 ghost use Rattle.depot_world.specs.Transcript.{pending_at};
 ghost use Rattle.depot_simulation.specs.Doing.{HasLeftSimulation};
@@ -19,7 +19,8 @@ impl<A: Actor> Simulation<A> {
         requires most { call ≤ MOST_STOP_CALL }
         requires image { image ≤ 2 }
         requires played { IsPlayed A.view A.Reader.reads self.old }
-        ensures { IfOk result (λ lines. Simulates A.view A.Reader.reads self.old (λ setup run. pending_at run node call image) lines self.new) }
+        ensures lines { IfOk result (λ lines. Simulates A.view A.Reader.reads self.old (λ setup run. pending_at run node call image) lines self.new) }
+        ensures asked { self.new.seen.asked ≡ self.old.seen.asked }
     {
         match self.leave(node) {
             Some(acting) => self.arm(acting, call, image),
@@ -33,7 +34,8 @@ impl<A: Actor> Simulation<A> {
         requires most { call ≤ MOST_STOP_CALL }
         requires image { image ≤ 2 }
         requires left { (node : ℕ) × HasLeftSimulation A A.view A.Reader.reads node self.old acting }
-        ensures { IfOk result (λ lines. (node : ℕ) → Completes A.view A.Reader.reads node self.old acting (λ setup run. pending_at run node call image) lines self.new) }
+        ensures lines { IfOk result (λ lines. (node : ℕ) → Completes A.view A.Reader.reads node self.old acting (λ setup run. pending_at run node call image) lines self.new) }
+        ensures asked { self.new.seen.asked ≡ self.old.seen.asked }
     {
         let ActingNode {
             place,

@@ -1,10 +1,11 @@
 //! One event of a schedule.
-ghost use Rattle.std.specs.Prelude.{IfOk};
+ghost use Rattle.std.specs.Prelude.{◌≡◌, true, IfOk};
 ghost use Rattle.depot_world.specs.Transcript.{done};
 ghost use Rattle.depot_scenario.specs.Scenarios.{MayHappen};
+ghost use Rattle.depot_simulation.specs.Asking.{asks};
 ghost use Rattle.depot_simulation.specs.Playing.{IsPlayedOn};
 ghost use Rattle.depot_simulation.specs.EachRun.{PlaysEvent, SimulatesOn, SimulatesSoundOn};
-ghost use Rattle.depot_simulation.specs.Doing.{judged_by};
+ghost use Rattle.depot_simulation.specs.Doing.{label_judged};
 
 use crate::actor::Actor;
 use crate::simulation::Simulation;
@@ -23,7 +24,9 @@ impl<A: Actor> Simulation<A> {
     ) -> Result<Bytes, Memory>
         requires may { MayHappen scenario.now.height scenario.now.members.now event.now }
         requires played { IsPlayedOn S.verifies G.key_of G.signature_of scenario.now A.view A.Reader.reads self.old }
-        ensures { IfOk result (λ lines. PlaysEvent S.verifies G.key_of G.signature_of scenario.now A.view A.Reader.reads self.old event.now lines self.new) }
+        requires asked { asks event.now ≡ true → self.old.seen.asked ≡ true }
+        ensures lines { IfOk result (λ lines. PlaysEvent S.verifies G.key_of G.signature_of scenario.now A.view A.Reader.reads self.old event.now lines self.new) }
+        ensures asked { self.new.seen.asked ≡ self.old.seen.asked }
     {
         let mut lines = Bytes::new(self.alloc);
         event_head(self.alloc, &mut lines, event)?;
@@ -40,7 +43,9 @@ impl<A: Actor> Simulation<A> {
     ) -> Result<Bytes, Memory>
         requires may { MayHappen scenario.now.height scenario.now.members.now event.now }
         requires played { IsPlayedOn S.verifies G.key_of G.signature_of scenario.now A.view A.Reader.reads self.old }
-        ensures { IfOk result (λ lines. SimulatesSoundOn S.verifies G.key_of G.signature_of scenario.now A.view A.Reader.reads self.old (λ setup run. done setup run event.now) lines self.new) }
+        requires asked { asks event.now ≡ true → self.old.seen.asked ≡ true }
+        ensures lines { IfOk result (λ lines. SimulatesSoundOn S.verifies G.key_of G.signature_of scenario.now A.view A.Reader.reads self.old (λ setup run. done setup run event.now) lines self.new) }
+        ensures asked { self.new.seen.asked ≡ self.old.seen.asked }
     {
         match event {
             Event::Put { node, .. } => self.effect(*node, event),
@@ -78,7 +83,7 @@ impl<A: Actor> Simulation<A> {
         scenario: &Scenario<'_, S, G>,
         label: &Label,
     ) -> Result<Bytes, Memory>
-        ensures { IfOk result (λ lines. SimulatesOn S.verifies G.key_of G.signature_of scenario.now A.view A.Reader.reads self.now (λ setup run. judged_by setup run label.now) lines self.now) }
+        ensures { IfOk result (λ lines. SimulatesOn S.verifies G.key_of G.signature_of scenario.now A.view A.Reader.reads self.now (λ setup run. label_judged setup run label.now) lines self.now) }
     {
         let mut lines = judged(
             self.alloc,

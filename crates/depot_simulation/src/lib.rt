@@ -9,12 +9,14 @@
 //! gives its lines: `effects` those that a node acts in, which leaves its place for them
 //! (`host_places`), `event_receipts` those in which it gives receipts or counts them, for what references name, `event_stops` those that
 //! set a stop on a disk, `event_readers` those of readers, `audits` the audit of all nodes, `updates` and `made` those that only make a
-//! label, and `drafting` finds what their references name. `playing` begins a run and plays all events. What needs no node stands in `depot_scenario`; the
-//! nodes are `depot_replay`'s.
+//! label, and `drafting` finds what their references name. `asking` tells which events ask for right histories, `playing` begins a run
+//! and plays all events, and `forgetting` gives up labels that no event to come names. What needs no node stands in `depot_scenario`;
+//! the nodes are `depot_replay`'s.
 #![tactic(auto)]
 
 mod acting;
 mod actor;
+mod asking;
 mod audits;
 mod drafting;
 mod effects;
@@ -22,6 +24,7 @@ mod event_readers;
 mod event_receipts;
 mod event_stops;
 mod events;
+mod forgetting;
 mod host_places;
 mod made;
 mod participant;
@@ -34,6 +37,7 @@ mod starts_fresh;
 mod updates;
 
 pub use actor::{Actor, EventOutcome};
+pub use asking::any_asks;
 pub use participant::Participant;
 pub use playing::{begun, play_all, write};
 pub use readers::Readers;

@@ -36,7 +36,8 @@ impl<A: Actor> Simulation<A> {
         requires scenario { IsSomeScenario S.verifies G.key_of G.signature_of scenario.now }
         requires may { MayHappen scenario.now.height scenario.now.members.now event.now }
         requires played { IsPlayed A.view A.Reader.reads self.old }
-        ensures { IfOk result (λ lines. SimulatesOn S.verifies G.key_of G.signature_of scenario.now A.view A.Reader.reads self.old (λ setup run. done setup run event.now) lines self.new) }
+        ensures lines { IfOk result (λ lines. SimulatesOn S.verifies G.key_of G.signature_of scenario.now A.view A.Reader.reads self.old (λ setup run. done setup run event.now) lines self.new) }
+        ensures asked { self.new.seen.asked ≡ self.old.seen.asked }
     {
         let text = self.text(scenario, event)?;
         let lines = self.labels.give(label, text)?;

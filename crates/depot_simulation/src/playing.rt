@@ -1,5 +1,5 @@
 //! A run from its begin on: events are played, and what they print is written.
-ghost use Rattle.std.specs.Prelude.{◌≡◌, ◌++◌, IsTrue, OnOk, OnErr, IsErrOf, IfOk};
+ghost use Rattle.std.specs.Prelude.{◌≡◌, ◌++◌, true, IsTrue, OnOk, OnErr, IsErrOf, IfOk};
 ghost use Rattle.depot_base.specs.Faults.{HasCause};
 ghost use Rattle.depot_base.specs.Reading.{AddsFrontOf};
 ghost use Rattle.depot_model.specs.Lists.{IsIn};
@@ -8,6 +8,7 @@ ghost use Rattle.depot_schedule.specs.declared.event.Event.{Event};
 ghost use Rattle.depot_world.specs.Run.{run_of};
 ghost use Rattle.depot_world.specs.Setups.{setup_of};
 ghost use Rattle.depot_scenario.specs.Scenarios.{IsScenarioOf, MayHappen};
+ghost use Rattle.depot_simulation.specs.Asking.{asks};
 ghost use Rattle.depot_simulation.specs.Playing.{IsPlayedOn, IsSimulationAt, MayPlay};
 ghost use Rattle.depot_simulation.specs.EachRun.{OfEachPrinted, PlaysEvent, WritesFront, WritesLines};
 ghost use Rattle.depot_outside.specs.Told.{Wrote, WroteFront, sinks};
@@ -21,21 +22,23 @@ use crate::starts_fresh::StartsFresh;
 use depot_base::Memory;
 use depot_model::{Scheme, Signer};
 use depot_outside::{OutError, Sink};
-use depot_scenario::{KnownUpdates, Labels, Scenario};
+use depot_scenario::{KnownUpdates, LabelUses, Labels, Scenario};
 use depot_schedule::{Event, Events, Schedule};
 use depot_traces::Reads;
 use std::alloc::Global;
 
-/// The run before its first event.
+/// The run before its first event; `asked` says whether its events will ask for right histories of updates with parents.
 pub fn begun<'a, A: StartsFresh<S, &'a G>, S: Scheme + Copy, G: Signer<Of = S>>(
     alloc: Global,
     schedule: &Schedule,
     scenario: &Scenario<'a, S, G>,
+    asked: bool,
 ) -> Result<Simulation<A>, Memory>
     requires schedule { IsSchedule schedule.now }
     requires members { scenario.now.members.now ≡ schedule.now.members }
     requires scenario { IsScenarioOf S.verifies G.key_of G.signature_of (setup_of schedule.now) scenario.now }
-    ensures { IfOk result (λ simulation. IsSimulationAt A.view A.Reader.reads (setup_of schedule.now) (run_of (setup_of schedule.now) schedule.now.members) simulation) }
+    ensures at { IfOk result (λ simulation. IsSimulationAt A.view A.Reader.reads (setup_of schedule.now) (run_of (setup_of schedule.now) schedule.now.members) simulation) }
+    ensures asked { IfOk result (λ simulation. simulation.seen.asked ≡ asked) }
 {
     let mut participants = Vec::new(alloc);
     for place in 0..scenario.members.len() {
@@ -54,13 +57,14 @@ pub fn begun<'a, A: StartsFresh<S, &'a G>, S: Scheme + Copy, G: Signer<Of = S>>(
         alloc,
         participants,
         labels: Labels::new(alloc),
-        seen: KnownUpdates::new(alloc),
+        seen: KnownUpdates::new(alloc, asked),
         readers: Readers::new(alloc),
     })
 }
 
 /// Plays events, one after the other, and writes the lines of each after it was done. After an error a front of them all went out.
-/// An event that was played is given up, so the memory of a schedule goes while its run grows.
+/// An event that was played is given up, and so are the labels that no event behind it names: the memory of a schedule goes while its
+/// run grows.
 pub fn play_all<A: Actor, S: Scheme, G: Signer, K: Sink>(
     simulation: &mut Simulation<A>,
     scenario: &Scenario<'_, S, G>,
@@ -68,6 +72,7 @@ pub fn play_all<A: Actor, S: Scheme, G: Signer, K: Sink>(
     out: &mut K,
 ) -> Result<(), ReplayError>
     requires may { (e : Event) → IsIn e events → MayHappen scenario.now.height scenario.now.members.now e }
+    requires asked { (e : Event) → IsIn e events → asks e ≡ true → simulation.old.seen.asked ≡ true }
     requires played { MayPlay S.verifies G.key_of G.signature_of scenario.now events A.view A.Reader.reads simulation.old }
     ensures done { OfEachPrinted S.verifies G.key_of G.signature_of scenario.now events A.view A.Reader.reads simulation.old (λ text. OnOk result (Wrote (sinks K.Sink out.old out.new) text)) }
     ensures front { OfEachPrinted S.verifies G.key_of G.signature_of scenario.now events A.view A.Reader.reads simulation.old (λ text. OnErr result (WroteFront (sinks K.Sink out.old out.new) text)) }
@@ -77,11 +82,15 @@ pub fn play_all<A: Actor, S: Scheme, G: Signer, K: Sink>(
 {
     let mut to_come = events.into_vec();
     to_come.reverse();
+    let mut uses = LabelUses::of(simulation.alloc, to_come.as_slice())?;
     while let Some(event) = to_come.pop() {
         give_back(&mut to_come);
         let played = play_one(simulation, scenario, &event, out);
+        // The labels are lent from the event: they are forgotten before it is given up, whatever its playing answered.
+        let forgotten = simulation.forget_labels(&event, &mut uses, to_come.len());
         drop(event);
         played?;
+        forgotten?;
     }
     Ok(())
 }
@@ -94,9 +103,11 @@ fn play_one<A: Actor, S: Scheme, G: Signer, K: Sink>(
     out: &mut K,
 ) -> Result<(), ReplayError>
     requires may { MayHappen scenario.now.height scenario.now.members.now event.now }
+    requires asked { asks event.now ≡ true → simulation.old.seen.asked ≡ true }
     requires played { IsPlayedOn S.verifies G.key_of G.signature_of scenario.now A.view A.Reader.reads simulation.old }
     ensures done { OnOk result (WritesLines (PlaysEvent S.verifies G.key_of G.signature_of scenario.now A.view A.Reader.reads simulation.old event.now) (sinks K.Sink out.old out.new) simulation.new) }
     ensures front { OnErr result (WritesFront (PlaysEvent S.verifies G.key_of G.signature_of scenario.now A.view A.Reader.reads simulation.old event.now) (sinks K.Sink out.old out.new) simulation.new) }
+    ensures asked { simulation.new.seen.asked ≡ simulation.old.seen.asked }
     ensures tells { K.tells out.new ≡ K.tells out.old }
     ensures cause { HasCause (K.faults out.old) (K.faults out.new) (IsErrOf result ReplayError.Sink) }
     ensures faultless { K.is_faultless out.old → K.is_faultless out.new × (K.faults out.new ≡ K.faults out.old) }

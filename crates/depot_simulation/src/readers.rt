@@ -2,7 +2,7 @@
 ghost use Rattle.std.specs.Prelude.{◌≡◌, List, Option, [], IfOk, OnOk};
 ghost use Rattle.depot_model.specs.Readers.{Reader};
 ghost use Rattle.depot_world.specs.Run.{NamedReader, reader_in};
-ghost use Rattle.depot_simulation.specs.Readers.{AreReaders, IsMade, KeepsMade, TakesStream, gone_on, shown_of, told_of};
+ghost use Rattle.depot_simulation.specs.Readers.{AreReaders, IsMade, KeepsMade, TakesStream, gone_on, reader_shown, reader_lines};
 
 use crate::reading::Reading;
 use depot_base::{Bytes, Key, Memory};
@@ -45,7 +45,7 @@ impl<R: Reading> Readers<R> {
     /// The reader of a name takes a stream. The lines are those from the arrow on; nothing is told where there is none.
     pub fn tgive(&mut self, name: &Label, stream: &[u8]) -> Result<Bytes, Memory>
         requires { (readers : List NamedReader) × AreReaders R.reads self.old.map.entries readers }
-        ensures lines { IfOk result (λ lines. (readers : List NamedReader) → AreReaders R.reads self.old.map.entries readers → lines ≡ told_of (reader_in readers name.now) stream.now) }
+        ensures lines { IfOk result (λ lines. (readers : List NamedReader) → AreReaders R.reads self.old.map.entries readers → lines ≡ reader_lines (reader_in readers name.now) stream.now) }
         ensures readers { OnOk result (TakesStream R.reads self.old.map.entries name.now stream.now self.new.map.entries) }
     {
         match self.map.get_mut(name.bytes()) {
@@ -57,7 +57,7 @@ impl<R: Reading> Readers<R> {
     /// The reader of a name reads a key. The lines are those from the arrow on; nothing is told where there is none.
     pub fn tget(&self, name: &Label, key: &Key) -> Result<Bytes, Memory>
         requires { (readers : List NamedReader) × AreReaders R.reads self.now.map.entries readers }
-        ensures { IfOk result (λ lines. (readers : List NamedReader) → AreReaders R.reads self.now.map.entries readers → lines ≡ shown_of (reader_in readers name.now) key.now) }
+        ensures { IfOk result (λ lines. (readers : List NamedReader) → AreReaders R.reads self.now.map.entries readers → lines ≡ reader_shown (reader_in readers name.now) key.now) }
     {
         match self.map.get(name.bytes()) {
             Some(kept) => tget_from(self.alloc, kept, key),
@@ -69,7 +69,7 @@ impl<R: Reading> Readers<R> {
 /// What is kept under a name takes a stream, where it is a reader.
 fn tgive_to<R: Reading>(alloc: Global, kept: &mut Option<R>, stream: &[u8]) -> Result<Bytes, Memory>
     requires { (made : Option Reader) × IsMade R.reads kept.old made }
-    ensures lines { IfOk result (λ lines. (made : Option Reader) → IsMade R.reads kept.old made → lines ≡ told_of made stream.now) }
+    ensures lines { IfOk result (λ lines. (made : Option Reader) → IsMade R.reads kept.old made → lines ≡ reader_lines made stream.now) }
     ensures goes_on { OnOk result ((made : Option Reader) → IsMade R.reads kept.old made → IsMade R.reads kept.new (gone_on made stream.now)) }
 {
     match kept {
@@ -81,7 +81,7 @@ fn tgive_to<R: Reading>(alloc: Global, kept: &mut Option<R>, stream: &[u8]) -> R
 /// What is kept under a name reads a key, where it is a reader.
 fn tget_from<R: Reading>(alloc: Global, kept: &Option<R>, key: &Key) -> Result<Bytes, Memory>
     requires { (made : Option Reader) × IsMade R.reads kept.now made }
-    ensures { IfOk result (λ lines. (made : Option Reader) → IsMade R.reads kept.now made → lines ≡ shown_of made key.now) }
+    ensures { IfOk result (λ lines. (made : Option Reader) → IsMade R.reads kept.now made → lines ≡ reader_shown made key.now) }
 {
     match kept {
         Some(reader) => reader.tget(key),

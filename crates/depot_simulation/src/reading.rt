@@ -2,7 +2,7 @@
 ghost use Rattle.std.specs.Prelude.{◌≡◌, Some, IfOk, OnOk};
 ghost use Rattle.depot_model.specs.ReaderFeeds.{reader_feed_of};
 ghost use Rattle.depot_model.specs.Readers.{Reader};
-ghost use Rattle.depot_simulation.specs.Readers.{shown_of, told_of};
+ghost use Rattle.depot_simulation.specs.Readers.{reader_shown, reader_lines};
 
 use depot_base::{Bytes, Key, Memory};
 
@@ -14,13 +14,13 @@ pub trait Reading: Drop {
     /// It takes a stream. The lines are those from the arrow on. After Memory it isn't a reader any more.
     fn tgive(&mut self, stream: &[u8]) -> Result<Bytes, Memory>
         requires { (r : Reader) × reads r self.old }
-        ensures lines { (r : Reader) → reads r self.old → IfOk result (λ lines. lines ≡ told_of (Some r) stream.now) }
+        ensures lines { (r : Reader) → reads r self.old → IfOk result (λ lines. lines ≡ reader_lines (Some r) stream.now) }
         ensures goes_on { (r : Reader) → reads r self.old → OnOk result (reads (reader_feed_of r stream.now).reader self.new) };
 
     /// It reads a key. The lines are those from the arrow on.
     fn tget(&self, key: &Key) -> Result<Bytes, Memory>
         requires { (r : Reader) × reads r self.now }
-        ensures { (r : Reader) → reads r self.now → IfOk result (λ lines. lines ≡ shown_of (Some r) key.now) };
+        ensures { (r : Reader) → reads r self.now → IfOk result (λ lines. lines ≡ reader_shown (Some r) key.now) };
 }
 
 /// What a node answered where a reader was to be made of it.

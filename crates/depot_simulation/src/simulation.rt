@@ -1,8 +1,8 @@
 //! A run of a schedule at work.
 ghost use Rattle.std.specs.Prelude.{◌≡◌, option_copied, option_and_then};
-ghost use Rattle.depot_world.specs.Run.{bytes_of, own_update, plain_referred, referred, signed_of, host_in};
+ghost use Rattle.depot_world.specs.Run.{bytes_of_label, own_update, plain_referred, referred, signed_of, host_in};
 ghost use Rattle.depot_simulation.specs.EachRun.{OfEachRun};
-ghost use Rattle.depot_simulation.specs.Doing.{place_in};
+ghost use Rattle.depot_simulation.specs.Doing.{place_of_node};
 
 use crate::actor::Actor;
 use crate::participant::Participant;
@@ -27,14 +27,14 @@ pub struct Simulation<A: Actor> {
 impl<A: Actor> Simulation<A> {
     /// The place of the first node with this number, from 0. It takes no memory.
     pub fn place_of(&self, node: NodeId) -> Option<usize>
-        ensures { result ≡ place_in A.view node self.now.participants.items }
+        ensures { result ≡ place_of_node A.view node self.now.participants.items }
     {
         place_of(self.participants.as_slice(), node)
     }
 
     /// The bytes of a label. It takes no memory.
     pub fn bytes_of(&self, label: &Label) -> &[u8]
-        ensures { OfEachRun A.view A.Reader.reads self.now (λ setup run. result.now ≡ bytes_of run label.now) }
+        ensures { OfEachRun A.view A.Reader.reads self.now (λ setup run. result.now ≡ bytes_of_label run label.now) }
     {
         self.labels.bytes(label)
     }

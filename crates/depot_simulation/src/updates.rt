@@ -10,6 +10,7 @@ ghost use Rattle.depot_world.specs.FaultySigning.{update_text};
 ghost use Rattle.depot_world.specs.Setups.{signs_on};
 ghost use Rattle.depot_world.specs.Transcript.{done};
 ghost use Rattle.depot_scenario.specs.Scenarios.{IsSomeScenario, MayHappen};
+ghost use Rattle.depot_simulation.specs.Asking.{asks};
 ghost use Rattle.depot_simulation.specs.Doing.{is_signing, signed_text, signing_by, update_by, with_update};
 ghost use Rattle.depot_simulation.specs.Drafts.{HasLeaf, IsNumbered};
 ghost use Rattle.depot_simulation.specs.Playing.{IsPlayed, WereSeen};
@@ -20,9 +21,8 @@ ghost use Rattle.depot_simulation.specs.EachRun.{GoesTo, MakesOn, OfEachSetupOn,
 use crate::actor::Actor;
 use crate::simulation::Simulation;
 use depot_base::{Bytes, Change, Changes, Memory, NodeId, Update};
-use depot_graph::Graph;
 use depot_lines::Label;
-use depot_model::{Past, Scheme, Signer};
+use depot_model::{Scheme, Signer};
 use depot_scenario::texts::Text;
 use depot_scenario::{Scenario, texts};
 use depot_schedule::Event;
@@ -41,7 +41,9 @@ impl<A: Actor> Simulation<A> {
         requires scenario { IsSomeScenario S.verifies G.key_of G.signature_of scenario.now }
         requires may { MayHappen scenario.now.height scenario.now.members.now event.now }
         requires played { IsPlayed A.view A.Reader.reads self.old }
-        ensures { IfOk result (λ lines. SimulatesOn S.verifies G.key_of G.signature_of scenario.now A.view A.Reader.reads self.old (λ setup run. done setup run event.now) lines self.new) }
+        requires asked { asks event.now ≡ true → self.old.seen.asked ≡ true }
+        ensures lines { IfOk result (λ lines. SimulatesOn S.verifies G.key_of G.signature_of scenario.now A.view A.Reader.reads self.old (λ setup run. done setup run event.now) lines self.new) }
+        ensures asked { self.new.seen.asked ≡ self.old.seen.asked }
     {
         let text = self.signed(scenario, event)?;
         let lines = self.labels.give(label, text)?;
@@ -58,10 +60,12 @@ impl<A: Actor> Simulation<A> {
         requires scenario { IsSomeScenario S.verifies G.key_of G.signature_of scenario.now }
         requires may { MayHappen scenario.now.height scenario.now.members.now event.now }
         requires played { IsPlayed A.view A.Reader.reads self.old }
+        requires asked { asks event.now ≡ true → self.old.seen.asked ≡ true }
         ensures is { IfOk result (λ text. MakesOn S.verifies G.key_of G.signature_of scenario.now A.view A.Reader.reads self.old (λ setup run. signing_by setup run event.now) text) }
         ensures at { OnOk result (GoesTo A.view A.Reader.reads self.old (λ setup run. with_update run (update_by setup run event.now)) self.new) }
         ensures fits { IfOk result (λ text. IfSome text.signed IsSigned) }
-        ensures were { IfOk result (λ text. IfSome text.signed (λ s. WereSeen (⟦<Graph as Past>⟧.updates self.new.seen.graph) (update_in s.statement))) }
+        ensures were { IfOk result (λ text. IfSome text.signed (λ s. WereSeen self.new.seen.listed.updates (update_in s.statement))) }
+        ensures asked { self.new.seen.asked ≡ self.old.seen.asked }
     {
         match event {
             Event::Update {
@@ -122,14 +126,15 @@ impl<A: Actor> Simulation<A> {
         changes: &[Change],
     ) -> Result<Text, Memory>
         requires text { IfSome made (λ u. IsUpdate u) }
-        requires parents { IfSome made (λ u. HasSeenParents (⟦<Graph as Past>⟧.updates self.old.seen.graph) u) }
+        requires parents { IfSome made (λ u. HasSeenParents self.old.seen.listed.updates u) }
         requires numbered { IfSome made (λ u. IsNumbered writer seq u) }
         requires leaf { HasLeaf scenario.now.height scenario.now.members.now writer seq }
         requires scenario { IsSomeScenario S.verifies G.key_of G.signature_of scenario.now }
         ensures is { IfOk result (λ text. OfEachSetupOn S.verifies G.key_of G.signature_of scenario.now (λ setup. IsText text (signed_text (signs_on setup writer) changes.now made))) }
         ensures at { OnOk result (GoesTo A.view A.Reader.reads self.old (λ setup run. with_update run made) self.new) }
         ensures fits { IfOk result (λ text. IfSome text.signed IsSigned) }
-        ensures were { IfOk result (λ text. IfSome text.signed (λ s. WereSeen (⟦<Graph as Past>⟧.updates self.new.seen.graph) (update_in s.statement))) }
+        ensures were { IfOk result (λ text. IfSome text.signed (λ s. WereSeen self.new.seen.listed.updates (update_in s.statement))) }
+        ensures asked { self.new.seen.asked ≡ self.old.seen.asked }
     {
         match made {
             Some(update) => self.sign(scenario, update, changes),
@@ -145,7 +150,7 @@ impl<A: Actor> Simulation<A> {
         changes: &[Change],
     ) -> Result<Text, Memory>
         requires text { IsUpdate update }
-        requires parents { HasSeenParents (⟦<Graph as Past>⟧.updates self.old.seen.graph) update }
+        requires parents { HasSeenParents self.old.seen.listed.updates update }
         requires declared { is_declared scenario.now.members.now update.writer ≡ true }
         requires leaf { update.seq < 2 ^ scenario.now.height }
         requires scenario { IsSomeScenario S.verifies G.key_of G.signature_of scenario.now }
@@ -153,9 +158,10 @@ impl<A: Actor> Simulation<A> {
         ensures participants { self.new.participants ≡ self.old.participants }
         ensures labels { self.new.labels ≡ self.old.labels }
         ensures readers { self.new.readers ≡ self.old.readers }
-        ensures seen { OnOk result (⟦<Graph as Past>⟧.updates self.new.seen.graph ≡ seen_with (⟦<Graph as Past>⟧.updates self.old.seen.graph) (update ∷ [])) }
+        ensures seen { OnOk result (self.new.seen.listed.updates ≡ seen_with self.old.seen.listed.updates (update ∷ [])) }
         ensures fits { IfOk result (λ text. IfSome text.signed IsSigned) }
-        ensures were { IfOk result (λ text. IfSome text.signed (λ s. WereSeen (⟦<Graph as Past>⟧.updates self.new.seen.graph) (update_in s.statement))) }
+        ensures were { IfOk result (λ text. IfSome text.signed (λ s. WereSeen self.new.seen.listed.updates (update_in s.statement))) }
+        ensures asked { self.new.seen.asked ≡ self.old.seen.asked }
     {
         let id = id_of(self.alloc, &update)?;
         self.seen.add(&update, &id)?;

@@ -6,6 +6,7 @@ use depot_audit::{
     look_at,
 };
 use depot_base::{Bytes, Hash32, Items, Key, Texts, Value};
+use depot_local::LocalNode;
 use depot_model::Replica;
 use depot_node::Node;
 use depot_outside::MemDisk;
@@ -15,10 +16,10 @@ use std::process::Abort;
 use std::test::Fail;
 
 /// A node over a disk in memory.
-type Plain = Node<MemDisk, PlainScheme, PlainSigner>;
+type AuditedNode = Node<MemDisk, PlainScheme, PlainSigner>;
 
 /// Node 1, started on a new disk.
-fn started(alloc: Global) -> Result<Plain, Fail> {
+fn started(alloc: Global) -> Result<AuditedNode, Fail> {
     let disk = MemDisk::new(Bytes::new(alloc), Items::new(alloc));
     let signer = PlainSigner::from_seed(alloc, &Hash32::new([1; 32]), 2);
     match Node::start(alloc, disk, roster(alloc)?, PlainScheme, signer, node(1)?) {
@@ -28,7 +29,7 @@ fn started(alloc: Global) -> Result<Plain, Fail> {
 }
 
 /// The texts of its records.
-fn texts_of(alloc: Global, node: &Plain) -> Result<Texts, Fail> {
+fn texts_of(alloc: Global, node: &AuditedNode) -> Result<Texts, Fail> {
     let mut texts = Texts::new(alloc);
     for place in 0..node.record_count() {
         texts.push(Bytes::from_slice(alloc, node.record_text(place))?)?;
@@ -51,7 +52,7 @@ fn read(alloc: Global) -> Result<ReadTrace, Fail> {
 }
 
 /// The trace of a node with this read.
-fn trace_of(alloc: Global, node: &Plain, read: ReadTrace) -> Result<Trace, Fail> {
+fn trace_of(alloc: Global, node: &AuditedNode, read: ReadTrace) -> Result<Trace, Fail> {
     let mut reads = Reads::new(alloc);
     reads.push(read)?;
     Ok(Trace {
@@ -82,7 +83,7 @@ fn is_right(found: &NodeAnswer) -> bool {
 }
 
 /// What a node keeps behind a put is lawful, and its read is right.
-fn audit_goes(rt: &impl Abort, alloc: Global, node: &mut Plain) -> Result<(), Fail> {
+fn audit_goes(rt: &impl Abort, alloc: Global, node: &mut AuditedNode) -> Result<(), Fail> {
     let done = node.put(Key::new(alloc, b"k")?, Value::new(alloc, b"a")?)?;
     assert!(rt; done.id == hash(A)?);
     let trace = trace_of(alloc, node, read(alloc)?)?;

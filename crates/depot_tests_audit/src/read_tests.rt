@@ -154,7 +154,7 @@ fn trace(alloc: Global, number: u16, journal: &[&str], told: &[Read]) -> Result<
 
 /// What is found of nodes.
 #[derive(Clone, Copy, Debug, PartialEq, Eq)]
-enum Found {
+enum FoundReads {
     Right,
     /// The record of a node at a place isn't lawful.
     Record(u16, u32, Told),
@@ -164,7 +164,7 @@ enum Found {
 }
 
 /// What is found of two nodes of the roster, the lower one first.
-fn found_of(alloc: Global, one: &Trace, two: &Trace) -> Result<Found, Fail> {
+fn found_of(alloc: Global, one: &Trace, two: &Trace) -> Result<FoundReads, Fail> {
     if one.reads.as_slice().len() > MOST_READS as usize {
         return Err(Fail::from("too many reads"));
     }
@@ -173,49 +173,49 @@ fn found_of(alloc: Global, one: &Trace, two: &Trace) -> Result<Found, Fail> {
     }
     let found = look_at_all(alloc, &roster(alloc)?, &PlainScheme, &[one, two])?;
     match &found {
-        None => Ok(Found::Right),
+        None => Ok(FoundReads::Right),
         Some(Finding::Unlawful { node, place, fault }) => {
-            Ok(Found::Record(node.number(), *place, bare(fault)))
+            Ok(FoundReads::Record(node.number(), *place, bare(fault)))
         }
-        Some(Finding::Answer { node, place }) => Ok(Found::Read(node.number(), *place)),
-        Some(_) => Ok(Found::Other),
+        Some(Finding::Answer { node, place }) => Ok(FoundReads::Read(node.number(), *place)),
+        Some(_) => Ok(FoundReads::Other),
     }
 }
 
 /// What is found where the second node has these reads, and all else is right.
-fn found_with(alloc: Global, told: &[Read]) -> Result<Found, Fail> {
+fn found_with(alloc: Global, told: &[Read]) -> Result<FoundReads, Fail> {
     let one = trace(alloc, 1, &ONE, &OF_ONE)?;
     let two = trace(alloc, 2, &TWO, told)?;
     found_of(alloc, &one, &two)
 }
 
 /// What is found of node 2 alone, where it has these reads.
-fn found_alone(alloc: Global, told: &[Read]) -> Result<Found, Fail> {
+fn found_alone(alloc: Global, told: &[Read]) -> Result<FoundReads, Fail> {
     let two = trace(alloc, 2, &TWO, told)?;
     if two.reads.as_slice().len() > MOST_READS as usize {
         return Err(Fail::from("too many reads"));
     }
     match look_at(alloc, &roster(alloc)?, &PlainScheme, &two)? {
         NodeAnswer::Unlawful(PlaceFault { place, fault }) => {
-            Ok(Found::Record(2, place, bare(&fault)))
+            Ok(FoundReads::Record(2, place, bare(&fault)))
         }
-        NodeAnswer::WrongRead(place) => Ok(Found::Read(2, place)),
-        NodeAnswer::Right => Ok(Found::Right),
+        NodeAnswer::WrongRead(place) => Ok(FoundReads::Read(2, place)),
+        NodeAnswer::Right => Ok(FoundReads::Right),
     }
 }
 
 #[test]
 fn right_reads_are_found_right(rt: HostRuntime) -> Result<(), Fail> {
-    assert!(rt; found_with(rt.alloc(), &OF_TWO)? == Found::Right);
-    assert!(rt; found_with(rt.alloc(), &[])? == Found::Right);
-    assert!(rt; found_alone(rt.alloc(), &OF_TWO)? == Found::Right);
+    assert!(rt; found_with(rt.alloc(), &OF_TWO)? == FoundReads::Right);
+    assert!(rt; found_with(rt.alloc(), &[])? == FoundReads::Right);
+    assert!(rt; found_alone(rt.alloc(), &OF_TWO)? == FoundReads::Right);
     Ok(())
 }
 
 #[test]
 fn the_first_wrong_read_is_found(rt: HostRuntime) -> Result<(), Fail> {
     for (name, told, place) in WRONG.iter() {
-        let right = Found::Read(2, *place);
+        let right = FoundReads::Read(2, *place);
         assert!(rt; found_with(rt.alloc(), *told)? == right, "{name}");
         assert!(rt; found_alone(rt.alloc(), *told)? == right, "{name}");
     }
@@ -223,7 +223,7 @@ fn the_first_wrong_read_is_found(rt: HostRuntime) -> Result<(), Fail> {
 }
 
 /// What is found where both nodes have a wrong read, and the second has these records.
-fn found_behind(alloc: Global, journal: &[&str]) -> Result<Found, Fail> {
+fn found_behind(alloc: Global, journal: &[&str]) -> Result<FoundReads, Fail> {
     let one = trace(alloc, 1, &ONE, &[(2, b"k", &[])])?;
     let two = trace(alloc, 2, journal, &[(2, b"k", &[])])?;
     found_of(alloc, &one, &two)
@@ -231,9 +231,9 @@ fn found_behind(alloc: Global, journal: &[&str]) -> Result<Found, Fail> {
 
 #[test]
 fn records_are_looked_at_before_reads(rt: HostRuntime) -> Result<(), Fail> {
-    assert!(rt; found_behind(rt.alloc(), &TWO)? == Found::Read(1, 0));
+    assert!(rt; found_behind(rt.alloc(), &TWO)? == FoundReads::Read(1, 0));
     assert!(rt;
-        found_behind(rt.alloc(), &[PUT, FOREIGN, HELD])? == Found::Record(2, 0, Told::Birth)
+        found_behind(rt.alloc(), &[PUT, FOREIGN, HELD])? == FoundReads::Record(2, 0, Told::Birth)
     );
     Ok(())
 }

@@ -1,11 +1,12 @@
 //! A node makes a checkpoint and signs it, and signs no text that it can't open.
 
-use crate::members::{Plain, started};
+use crate::members::{CheckpointNode, started};
 use crate::messages::{
     B, CHECKPOINT, CHECKPOINT_HASH, OTHER, ROSTER_HASH, SIGNED_ONE, UNKNOWN, hash, node, roster,
     text,
 };
 use depot_base::{Bytes, Hash32, Key, Value};
+use depot_local::LocalNode;
 use depot_model::{HelloLeaf, PutDone, Replica};
 use depot_trim::{
     CheckpointError, MakeError, checkpoint_key, decode_checkpoint, encode_checkpoint,
@@ -16,7 +17,7 @@ use std::process::Abort;
 use std::test::Fail;
 
 /// The checkpoint that a node makes.
-fn made(alloc: Global, node: &Plain) -> Result<Result<Bytes, MakeError>, Fail> {
+fn made(alloc: Global, node: &CheckpointNode) -> Result<Result<Bytes, MakeError>, Fail> {
     if node.is_stopped() {
         return Err(Fail::from("the node is stopped"));
     }
@@ -26,19 +27,19 @@ fn made(alloc: Global, node: &Plain) -> Result<Result<Bytes, MakeError>, Fail> {
 /// What a node answers where it is to sign these digits.
 fn signed(
     alloc: Global,
-    node: &mut Plain,
+    node: &mut CheckpointNode,
     digits: &str,
 ) -> Result<Result<PutDone, CheckpointError>, Fail> {
     Ok(sign_checkpoint(alloc, node, text(alloc, digits)?.as_slice()))
 }
 
 /// Puts a value under `k`.
-fn put(alloc: Global, node: &mut Plain, value: &[u8]) -> Result<PutDone, Fail> {
+fn put(alloc: Global, node: &mut CheckpointNode, value: &[u8]) -> Result<PutDone, Fail> {
     Ok(node.put(Key::new(alloc, b"k")?, Value::new(alloc, value)?)?)
 }
 
 /// A node that accepted nothing has none; the text of the one that it makes is that of its leaf.
-fn making_goes(rt: &impl Abort, alloc: Global, one: &mut Plain) -> Result<(), Fail> {
+fn making_goes(rt: &impl Abort, alloc: Global, one: &mut CheckpointNode) -> Result<(), Fail> {
     assert!(rt; made(alloc, one)?.err() == Some(MakeError::Empty));
     put(alloc, one, b"a")?;
     put(alloc, one, b"b")?;
@@ -48,7 +49,7 @@ fn making_goes(rt: &impl Abort, alloc: Global, one: &mut Plain) -> Result<(), Fa
 }
 
 /// No text that isn't opened is signed, and the one that it made is.
-fn signing_goes(rt: &impl Abort, alloc: Global, one: &mut Plain) -> Result<(), Fail> {
+fn signing_goes(rt: &impl Abort, alloc: Global, one: &mut CheckpointNode) -> Result<(), Fail> {
     let mine = hash(ROSTER_HASH)?;
     let given = Hash32::zeros();
     let right = PutDone {
@@ -64,7 +65,7 @@ fn signing_goes(rt: &impl Abort, alloc: Global, one: &mut Plain) -> Result<(), F
 }
 
 /// A checkpoint is made, and signed.
-fn checkpoint_goes(rt: &impl Abort, alloc: Global, one: &mut Plain) -> Result<(), Fail> {
+fn checkpoint_goes(rt: &impl Abort, alloc: Global, one: &mut CheckpointNode) -> Result<(), Fail> {
     making_goes(rt, alloc, one)?;
     signing_goes(rt, alloc, one)
 }

@@ -11,11 +11,11 @@ use std::alloc::Global;
 use std::test::Fail;
 
 /// A node over a disk in memory.
-pub type Plain = Node<MemDisk, PlainScheme, PlainSigner>;
+pub type CheckpointNode = Node<MemDisk, PlainScheme, PlainSigner>;
 
 /// The node of this number, started on a new disk.
-pub fn started(alloc: Global, roster: &Roster, number: u8) -> Result<Plain, Fail>
-    ensures { IfOk result (λ n. (⟦<Plain as NodeState>⟧.stands n).listed ≡ roster.now) }
+pub fn started(alloc: Global, roster: &Roster, number: u8) -> Result<CheckpointNode, Fail>
+    ensures { IfOk result (λ n. (⟦<CheckpointNode as NodeState>⟧.stands n).listed ≡ roster.now) }
 {
     let disk = MemDisk::new(Bytes::new(alloc), Items::new(alloc));
     let signer = PlainSigner::from_seed(alloc, &Hash32::new([number; 32]), 4);

@@ -96,7 +96,6 @@ fn is_written(alloc: Global, item: &Record, text: &[u8]) -> bool
             Err(_) => false,
         },
         Record::OwnVoucher { voucher } => is_text(encode_own_voucher(alloc, voucher), text),
-        Record::Foreign { signed } => is_text(encode_foreign(alloc, signed), text),
         Record::Conviction { proof } => is_text(encode_conviction(alloc, proof), text),
         Record::Held { value } => is_text(encode_held(alloc, value), text),
         _ => true,

@@ -89,7 +89,7 @@ pub fn fault<V: Drop>(decoded: Result<V, DecodeError>) -> Option<u32> {
 
 /// What a text is read as.
 #[derive(Clone, Copy, Debug)]
-enum Kind {
+enum TextKind {
     Statement,
     Update,
     Signed,
@@ -97,12 +97,12 @@ enum Kind {
 }
 
 /// The offset at which a text goes wrong.
-fn fault_of(alloc: Global, kind: Kind, text: &[u8]) -> Option<u32> {
+fn fault_of(alloc: Global, kind: TextKind, text: &[u8]) -> Option<u32> {
     match kind {
-        Kind::Statement => fault(decode_statement(alloc, text)),
-        Kind::Update => fault(decode_update(alloc, text)),
-        Kind::Signed => fault(decode_signed(alloc, text)),
-        Kind::Proof => fault(decode_proof(alloc, text)),
+        TextKind::Statement => fault(decode_statement(alloc, text)),
+        TextKind::Update => fault(decode_update(alloc, text)),
+        TextKind::Signed => fault(decode_signed(alloc, text)),
+        TextKind::Proof => fault(decode_proof(alloc, text)),
     }
 }
 
@@ -126,7 +126,7 @@ pub fn cut_field(starts: &[u32], length: u32) -> u32 {
 }
 
 /// Whether a text whose fields start there goes wrong at the cut field, where it is cut to so many bytes.
-fn tells_cut(alloc: Global, kind: Kind, text: &[u8], starts: &[u32], length: u32) -> bool {
+fn tells_cut(alloc: Global, kind: TextKind, text: &[u8], starts: &[u32], length: u32) -> bool {
     match text.get(..length as usize) {
         Some(cut) => fault_of(alloc, kind, cut) == Some(cut_field(starts, length)),
         None => false,
@@ -138,7 +138,7 @@ fn a_body_goes_wrong_where_it_is_cut_or_goes_on(rt: HostRuntime) -> Result<(), F
     let mut body = bytes(rt.alloc(), UPDATE)?;
     assert!(rt; body.len() == 120);
     for n in 0..120 {
-        for kind in [Kind::Statement, Kind::Update] {
+        for kind in [TextKind::Statement, TextKind::Update] {
             assert!(rt;
                 tells_cut(rt.alloc(), kind, &body, &STARTS, n),
                 "{n} bytes of a {kind:?}"
@@ -146,7 +146,7 @@ fn a_body_goes_wrong_where_it_is_cut_or_goes_on(rt: HostRuntime) -> Result<(), F
         }
     }
     body.push(0)?;
-    assert!(rt; fault_of(rt.alloc(), Kind::Statement, &body) == Some(120));
+    assert!(rt; fault_of(rt.alloc(), TextKind::Statement, &body) == Some(120));
     Ok(())
 }
 
@@ -156,7 +156,7 @@ fn a_body_of_two_writes_goes_wrong_where_it_is_cut(rt: HostRuntime) -> Result<()
     assert!(rt; body.len() == 125);
     for n in 0..125 {
         assert!(rt;
-            tells_cut(rt.alloc(), Kind::Statement, &body, &STARTS_OF_TWO, n),
+            tells_cut(rt.alloc(), TextKind::Statement, &body, &STARTS_OF_TWO, n),
             "{n} bytes"
         );
     }
@@ -164,140 +164,140 @@ fn a_body_of_two_writes_goes_wrong_where_it_is_cut(rt: HostRuntime) -> Result<()
 }
 
 /// Texts with another byte at one place, and the offset at which each goes wrong.
-static FAULTS: [(Kind, &str, usize, u8, u32); 127] = [
-    (Kind::Statement, JOINING, 0, 3, 0),
-    (Kind::Statement, JOINING, 0, 2, 157),
-    (Kind::Statement, UPDATE, 0, 2, 50),
-    (Kind::Statement, JOINING, 1, 0, 1),
-    (Kind::Statement, JOINING, 1, 3, 1),
-    (Kind::Statement, JOINING, 3, 0, 2),
-    (Kind::Statement, JOINING, 15, 0, 8),
-    (Kind::Statement, JOINING, 48, 0, 48),
-    (Kind::Statement, JOINING, 83, 1, 82),
-    (Kind::Statement, JOINING, 86, 5, 86),
-    (Kind::Statement, JOINING, 89, 0, 88),
-    (Kind::Statement, JOINING, 89, 1, 88),
-    (Kind::Statement, JOINING, 89, 3, 130),
-    (Kind::Statement, JOINING, 131, 1, 130),
-    (Kind::Statement, JOINING, 171, 0x11, 130),
-    (Kind::Statement, JOINING, 171, 0x10, 130),
-    (Kind::Statement, JOINING, 87, 3, 182),
-    (Kind::Update, JOINING, 0, 0, 0),
-    (Kind::Update, JOINING, 0, 3, 0),
-    (Kind::Update, JOINING, 0, 2, 157),
-    (Kind::Update, UPDATE, 0, 2, 50),
-    (Kind::Update, JOINING, 1, 0, 1),
-    (Kind::Update, JOINING, 1, 3, 1),
-    (Kind::Update, JOINING, 3, 0, 2),
-    (Kind::Update, JOINING, 15, 0, 8),
-    (Kind::Update, JOINING, 48, 0, 48),
-    (Kind::Update, JOINING, 83, 1, 82),
-    (Kind::Update, JOINING, 86, 5, 86),
-    (Kind::Update, JOINING, 89, 0, 88),
-    (Kind::Update, JOINING, 89, 1, 88),
-    (Kind::Update, JOINING, 89, 3, 130),
-    (Kind::Update, JOINING, 131, 1, 130),
-    (Kind::Update, JOINING, 171, 0x11, 130),
-    (Kind::Update, JOINING, 171, 0x10, 130),
-    (Kind::Update, JOINING, 87, 3, 182),
-    (Kind::Update, JOINING, 87, 1, 162),
-    (Kind::Update, VOUCHER, 0, 1, 1),
-    (Kind::Update, VOUCHER, 0, 2, 1),
-    (Kind::Statement, JOINING, 87, 1, 162),
-    (Kind::Statement, VOUCHER, 0, 0, 0),
-    (Kind::Statement, VOUCHER, 0, 2, 1),
-    (Kind::Statement, VOUCHER, 0, 3, 0),
-    (Kind::Statement, VOUCHER, 1, 3, 1),
-    (Kind::Statement, VOUCHER, 3, 0, 2),
-    (Kind::Statement, VOUCHER, 9, 0, 8),
-    (Kind::Statement, VOUCHER, 8, 1, 8),
-    (Kind::Statement, VOUCHER, 9, 1, 42),
-    (Kind::Statement, VOUCHER, 9, 3, 74),
-    (Kind::Statement, VOUCHER, 73, 0x33, 42),
-    (Kind::Statement, VOUCHER, 73, 0x32, 42),
-    (Kind::Signed, SIGNED, 1, 1, 0),
-    (Kind::Signed, SIGNED, 2, 1, 4),
-    (Kind::Signed, SIGNED, 3, 43, 46),
-    (Kind::Signed, SIGNED, 3, 41, 14),
-    (Kind::Signed, SIGNED, 4, 2, 5),
-    (Kind::Signed, SIGNED, 4, 3, 4),
-    (Kind::Signed, SIGNED, 5, 3, 5),
-    (Kind::Signed, SIGNED, 7, 0, 6),
-    (Kind::Signed, SIGNED, 13, 0, 12),
-    (Kind::Signed, SIGNED, 47, 1, 46),
-    (Kind::Signed, SIGNED, 49, 3, 50),
-    (Kind::Signed, SIGNED, 49, 1, 51),
-    (Kind::Proof, PROOF, 0, 2, 0),
-    (Kind::Proof, PROOF, 1, 0, 1),
-    (Kind::Proof, PROOF, 1, 4, 100),
-    (Kind::Proof, PROOF, 1, 5, 1),
-    (Kind::Proof, PROOF, 6, 2, 7),
-    (Kind::Proof, PROOF, 3, 1, 2),
-    (Kind::Proof, PROOF, 4, 1, 6),
-    (Kind::Proof, PROOF, 9, 0, 8),
-    (Kind::Proof, PROOF, 49, 1, 48),
-    (Kind::Proof, PROOF, 55, 1, 54),
-    (Kind::Proof, PROOF, 56, 1, 58),
-    (Kind::Proof, PROOF, 59, 3, 59),
-    (Kind::Proof, PROOF, 103, 3, 104),
-    (Kind::Proof, PROOF, 103, 1, 105),
-    (Kind::Statement, SEVERAL, 0, 3, 0),
-    (Kind::Statement, SEVERAL, 1, 2, 1),
-    (Kind::Statement, SEVERAL, 48, 0, 48),
-    (Kind::Statement, SEVERAL, 48, 1, 51),
-    (Kind::Statement, SEVERAL, 48, 3, 91),
-    (Kind::Statement, SEVERAL, 48, 17, 48),
-    (Kind::Statement, SEVERAL, 49, 0, 49),
-    (Kind::Statement, SEVERAL, 49, 2, 52),
-    (Kind::Statement, SEVERAL, 51, 0, 53),
-    (Kind::Statement, SEVERAL, 51, 2, 51),
-    (Kind::Statement, SEVERAL, 85, 1, 84),
-    (Kind::Statement, SEVERAL, 88, 0, 88),
-    (Kind::Statement, SEVERAL, 89, 0x6b, 88),
-    (Kind::Statement, SEVERAL, 89, 0x6a, 88),
-    (Kind::Statement, SEVERAL, 90, 1, 123),
-    (Kind::Statement, SEVERAL, 90, 2, 90),
-    (Kind::Statement, SEVERAL, 91, 5, 91),
-    (Kind::Statement, DELETION, 0, 1, 82),
-    (Kind::Statement, DELETION, 48, 2, 52),
-    (Kind::Statement, DELETION, 51, 1, 51),
-    (Kind::Statement, DELETION, 51, 2, 51),
-    (Kind::Update, SEVERAL, 0, 3, 0),
-    (Kind::Update, SEVERAL, 1, 2, 1),
-    (Kind::Update, SEVERAL, 48, 0, 48),
-    (Kind::Update, SEVERAL, 48, 1, 51),
-    (Kind::Update, SEVERAL, 48, 3, 91),
-    (Kind::Update, SEVERAL, 48, 17, 48),
-    (Kind::Update, SEVERAL, 49, 0, 49),
-    (Kind::Update, SEVERAL, 49, 2, 52),
-    (Kind::Update, SEVERAL, 51, 0, 53),
-    (Kind::Update, SEVERAL, 51, 2, 51),
-    (Kind::Update, SEVERAL, 85, 1, 84),
-    (Kind::Update, SEVERAL, 88, 0, 88),
-    (Kind::Update, SEVERAL, 89, 0x6b, 88),
-    (Kind::Update, SEVERAL, 89, 0x6a, 88),
-    (Kind::Update, SEVERAL, 90, 1, 123),
-    (Kind::Update, SEVERAL, 90, 2, 90),
-    (Kind::Update, SEVERAL, 91, 5, 91),
-    (Kind::Update, DELETION, 0, 1, 82),
-    (Kind::Update, DELETION, 48, 2, 52),
-    (Kind::Update, DELETION, 51, 1, 51),
-    (Kind::Update, DELETION, 51, 2, 51),
-    (Kind::Proof, HOLLOW, 0, 2, 0),
-    (Kind::Proof, HOLLOW, 1, 0, 1),
-    (Kind::Proof, HOLLOW, 1, 2, 58),
-    (Kind::Proof, HOLLOW, 1, 5, 1),
-    (Kind::Proof, HOLLOW, 4, 1, 6),
-    (Kind::Proof, HOLLOW, 7, 3, 7),
-    (Kind::Proof, HOLLOW, 55, 1, 54),
-    (Kind::Proof, HOLLOW, 57, 2, 60),
-    (Kind::Proof, HOLLOW, 57, 4, 58),
+static FAULTS: [(TextKind, &str, usize, u8, u32); 127] = [
+    (TextKind::Statement, JOINING, 0, 3, 0),
+    (TextKind::Statement, JOINING, 0, 2, 157),
+    (TextKind::Statement, UPDATE, 0, 2, 50),
+    (TextKind::Statement, JOINING, 1, 0, 1),
+    (TextKind::Statement, JOINING, 1, 3, 1),
+    (TextKind::Statement, JOINING, 3, 0, 2),
+    (TextKind::Statement, JOINING, 15, 0, 8),
+    (TextKind::Statement, JOINING, 48, 0, 48),
+    (TextKind::Statement, JOINING, 83, 1, 82),
+    (TextKind::Statement, JOINING, 86, 5, 86),
+    (TextKind::Statement, JOINING, 89, 0, 88),
+    (TextKind::Statement, JOINING, 89, 1, 88),
+    (TextKind::Statement, JOINING, 89, 3, 130),
+    (TextKind::Statement, JOINING, 131, 1, 130),
+    (TextKind::Statement, JOINING, 171, 0x11, 130),
+    (TextKind::Statement, JOINING, 171, 0x10, 130),
+    (TextKind::Statement, JOINING, 87, 3, 182),
+    (TextKind::Update, JOINING, 0, 0, 0),
+    (TextKind::Update, JOINING, 0, 3, 0),
+    (TextKind::Update, JOINING, 0, 2, 157),
+    (TextKind::Update, UPDATE, 0, 2, 50),
+    (TextKind::Update, JOINING, 1, 0, 1),
+    (TextKind::Update, JOINING, 1, 3, 1),
+    (TextKind::Update, JOINING, 3, 0, 2),
+    (TextKind::Update, JOINING, 15, 0, 8),
+    (TextKind::Update, JOINING, 48, 0, 48),
+    (TextKind::Update, JOINING, 83, 1, 82),
+    (TextKind::Update, JOINING, 86, 5, 86),
+    (TextKind::Update, JOINING, 89, 0, 88),
+    (TextKind::Update, JOINING, 89, 1, 88),
+    (TextKind::Update, JOINING, 89, 3, 130),
+    (TextKind::Update, JOINING, 131, 1, 130),
+    (TextKind::Update, JOINING, 171, 0x11, 130),
+    (TextKind::Update, JOINING, 171, 0x10, 130),
+    (TextKind::Update, JOINING, 87, 3, 182),
+    (TextKind::Update, JOINING, 87, 1, 162),
+    (TextKind::Update, VOUCHER, 0, 1, 1),
+    (TextKind::Update, VOUCHER, 0, 2, 1),
+    (TextKind::Statement, JOINING, 87, 1, 162),
+    (TextKind::Statement, VOUCHER, 0, 0, 0),
+    (TextKind::Statement, VOUCHER, 0, 2, 1),
+    (TextKind::Statement, VOUCHER, 0, 3, 0),
+    (TextKind::Statement, VOUCHER, 1, 3, 1),
+    (TextKind::Statement, VOUCHER, 3, 0, 2),
+    (TextKind::Statement, VOUCHER, 9, 0, 8),
+    (TextKind::Statement, VOUCHER, 8, 1, 8),
+    (TextKind::Statement, VOUCHER, 9, 1, 42),
+    (TextKind::Statement, VOUCHER, 9, 3, 74),
+    (TextKind::Statement, VOUCHER, 73, 0x33, 42),
+    (TextKind::Statement, VOUCHER, 73, 0x32, 42),
+    (TextKind::Signed, SIGNED, 1, 1, 0),
+    (TextKind::Signed, SIGNED, 2, 1, 4),
+    (TextKind::Signed, SIGNED, 3, 43, 46),
+    (TextKind::Signed, SIGNED, 3, 41, 14),
+    (TextKind::Signed, SIGNED, 4, 2, 5),
+    (TextKind::Signed, SIGNED, 4, 3, 4),
+    (TextKind::Signed, SIGNED, 5, 3, 5),
+    (TextKind::Signed, SIGNED, 7, 0, 6),
+    (TextKind::Signed, SIGNED, 13, 0, 12),
+    (TextKind::Signed, SIGNED, 47, 1, 46),
+    (TextKind::Signed, SIGNED, 49, 3, 50),
+    (TextKind::Signed, SIGNED, 49, 1, 51),
+    (TextKind::Proof, PROOF, 0, 2, 0),
+    (TextKind::Proof, PROOF, 1, 0, 1),
+    (TextKind::Proof, PROOF, 1, 4, 100),
+    (TextKind::Proof, PROOF, 1, 5, 1),
+    (TextKind::Proof, PROOF, 6, 2, 7),
+    (TextKind::Proof, PROOF, 3, 1, 2),
+    (TextKind::Proof, PROOF, 4, 1, 6),
+    (TextKind::Proof, PROOF, 9, 0, 8),
+    (TextKind::Proof, PROOF, 49, 1, 48),
+    (TextKind::Proof, PROOF, 55, 1, 54),
+    (TextKind::Proof, PROOF, 56, 1, 58),
+    (TextKind::Proof, PROOF, 59, 3, 59),
+    (TextKind::Proof, PROOF, 103, 3, 104),
+    (TextKind::Proof, PROOF, 103, 1, 105),
+    (TextKind::Statement, SEVERAL, 0, 3, 0),
+    (TextKind::Statement, SEVERAL, 1, 2, 1),
+    (TextKind::Statement, SEVERAL, 48, 0, 48),
+    (TextKind::Statement, SEVERAL, 48, 1, 51),
+    (TextKind::Statement, SEVERAL, 48, 3, 91),
+    (TextKind::Statement, SEVERAL, 48, 17, 48),
+    (TextKind::Statement, SEVERAL, 49, 0, 49),
+    (TextKind::Statement, SEVERAL, 49, 2, 52),
+    (TextKind::Statement, SEVERAL, 51, 0, 53),
+    (TextKind::Statement, SEVERAL, 51, 2, 51),
+    (TextKind::Statement, SEVERAL, 85, 1, 84),
+    (TextKind::Statement, SEVERAL, 88, 0, 88),
+    (TextKind::Statement, SEVERAL, 89, 0x6b, 88),
+    (TextKind::Statement, SEVERAL, 89, 0x6a, 88),
+    (TextKind::Statement, SEVERAL, 90, 1, 123),
+    (TextKind::Statement, SEVERAL, 90, 2, 90),
+    (TextKind::Statement, SEVERAL, 91, 5, 91),
+    (TextKind::Statement, DELETION, 0, 1, 82),
+    (TextKind::Statement, DELETION, 48, 2, 52),
+    (TextKind::Statement, DELETION, 51, 1, 51),
+    (TextKind::Statement, DELETION, 51, 2, 51),
+    (TextKind::Update, SEVERAL, 0, 3, 0),
+    (TextKind::Update, SEVERAL, 1, 2, 1),
+    (TextKind::Update, SEVERAL, 48, 0, 48),
+    (TextKind::Update, SEVERAL, 48, 1, 51),
+    (TextKind::Update, SEVERAL, 48, 3, 91),
+    (TextKind::Update, SEVERAL, 48, 17, 48),
+    (TextKind::Update, SEVERAL, 49, 0, 49),
+    (TextKind::Update, SEVERAL, 49, 2, 52),
+    (TextKind::Update, SEVERAL, 51, 0, 53),
+    (TextKind::Update, SEVERAL, 51, 2, 51),
+    (TextKind::Update, SEVERAL, 85, 1, 84),
+    (TextKind::Update, SEVERAL, 88, 0, 88),
+    (TextKind::Update, SEVERAL, 89, 0x6b, 88),
+    (TextKind::Update, SEVERAL, 89, 0x6a, 88),
+    (TextKind::Update, SEVERAL, 90, 1, 123),
+    (TextKind::Update, SEVERAL, 90, 2, 90),
+    (TextKind::Update, SEVERAL, 91, 5, 91),
+    (TextKind::Update, DELETION, 0, 1, 82),
+    (TextKind::Update, DELETION, 48, 2, 52),
+    (TextKind::Update, DELETION, 51, 1, 51),
+    (TextKind::Update, DELETION, 51, 2, 51),
+    (TextKind::Proof, HOLLOW, 0, 2, 0),
+    (TextKind::Proof, HOLLOW, 1, 0, 1),
+    (TextKind::Proof, HOLLOW, 1, 2, 58),
+    (TextKind::Proof, HOLLOW, 1, 5, 1),
+    (TextKind::Proof, HOLLOW, 4, 1, 6),
+    (TextKind::Proof, HOLLOW, 7, 3, 7),
+    (TextKind::Proof, HOLLOW, 55, 1, 54),
+    (TextKind::Proof, HOLLOW, 57, 2, 60),
+    (TextKind::Proof, HOLLOW, 57, 4, 58),
 ];
 
 /// The offset at which a text goes wrong, with this byte at this place.
 fn fault_at(
     alloc: Global,
-    kind: Kind,
+    kind: TextKind,
     hex: &str,
     place: usize,
     byte: u8,
@@ -324,21 +324,21 @@ pub fn is_text(written: Result<Bytes, Memory>, text: &[u8]) -> bool {
 }
 
 /// Whether a text is read, and written with the same bytes.
-fn is_kept(alloc: Global, kind: Kind, text: &[u8]) -> bool {
+fn is_kept(alloc: Global, kind: TextKind, text: &[u8]) -> bool {
     match kind {
-        Kind::Statement => match decode_statement(alloc, text) {
+        TextKind::Statement => match decode_statement(alloc, text) {
             Ok(statement) => is_text(encode_statement(alloc, &statement), text),
             Err(_) => false,
         },
-        Kind::Update => match decode_update(alloc, text) {
+        TextKind::Update => match decode_update(alloc, text) {
             Ok(update) => is_text(encode_update(alloc, &update), text),
             Err(_) => false,
         },
-        Kind::Signed => match decode_signed(alloc, text) {
+        TextKind::Signed => match decode_signed(alloc, text) {
             Ok(signed) => is_text(encode_signed(alloc, &signed), text),
             Err(_) => false,
         },
-        Kind::Proof => match decode_proof(alloc, text) {
+        TextKind::Proof => match decode_proof(alloc, text) {
             Ok(proof) => {
                 let is_same = is_text(encode_proof(alloc, &proof), text);
                 drop(proof);
@@ -350,21 +350,21 @@ fn is_kept(alloc: Global, kind: Kind, text: &[u8]) -> bool {
 }
 
 /// Texts that are read and written.
-static KEPT: [(Kind, &str); 14] = [
-    (Kind::Statement, UPDATE),
-    (Kind::Statement, JOINING),
-    (Kind::Statement, VOUCHER),
-    (Kind::Statement, SEVERAL),
-    (Kind::Statement, TWO_VALUES),
-    (Kind::Statement, DELETION),
-    (Kind::Update, UPDATE),
-    (Kind::Update, JOINING),
-    (Kind::Update, SEVERAL),
-    (Kind::Update, TWO_VALUES),
-    (Kind::Update, DELETION),
-    (Kind::Signed, SIGNED),
-    (Kind::Proof, PROOF),
-    (Kind::Proof, HOLLOW),
+static KEPT: [(TextKind, &str); 14] = [
+    (TextKind::Statement, UPDATE),
+    (TextKind::Statement, JOINING),
+    (TextKind::Statement, VOUCHER),
+    (TextKind::Statement, SEVERAL),
+    (TextKind::Statement, TWO_VALUES),
+    (TextKind::Statement, DELETION),
+    (TextKind::Update, UPDATE),
+    (TextKind::Update, JOINING),
+    (TextKind::Update, SEVERAL),
+    (TextKind::Update, TWO_VALUES),
+    (TextKind::Update, DELETION),
+    (TextKind::Signed, SIGNED),
+    (TextKind::Proof, PROOF),
+    (TextKind::Proof, HOLLOW),
 ];
 
 #[test]
@@ -435,7 +435,7 @@ fn the_longest_bodies_are_read_and_written(rt: HostRuntime) -> Result<(), Fail> 
     for (version, length) in [(1, 43_382), (2, 47_779)] {
         let text = longest(rt.alloc(), version)?;
         assert!(rt; text.as_slice().len() == length);
-        assert!(rt; is_kept(rt.alloc(), Kind::Update, text.as_slice()));
+        assert!(rt; is_kept(rt.alloc(), TextKind::Update, text.as_slice()));
     }
     Ok(())
 }

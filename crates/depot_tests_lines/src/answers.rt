@@ -18,7 +18,7 @@ use std::test::Fail;
 
 /// What is answered, and what else is printed with it.
 #[derive(Clone, Copy)]
-enum Answer {
+enum PrintedAnswer {
     Check(Check),
     Refusal(Refusal),
     Full(Full),
@@ -113,36 +113,40 @@ fn print_report(alloc: Global, out: &mut Bytes, ending: Ending, closing: Option<
 }
 
 /// Prints an answer, where memory is found.
-fn print(alloc: Global, out: &mut Bytes, answer: &Answer) -> bool {
+fn print(alloc: Global, out: &mut Bytes, answer: &PrintedAnswer) -> bool {
     match answer {
-        Answer::Check(failed) => check(alloc, out, failed).is_ok(),
-        Answer::Refusal(refused) => refusal(alloc, out, refused).is_ok(),
-        Answer::Full(what) => full(alloc, out, what).is_ok(),
-        Answer::Spent(count) => spent(alloc, out, *count).is_ok(),
-        Answer::Tips(count) => tips(alloc, out, *count).is_ok(),
-        Answer::Collides => collides(out).is_ok(),
-        Answer::Put(seq, clock) => put(alloc, out, *seq, *clock).is_ok(),
-        Answer::Write(writer, seen) => { write(alloc, out, &update(alloc, *writer), *seen).is_ok() }
-        Answer::Records(count) => records(alloc, out, *count).is_ok(),
-        Answer::RecordFault(fault) => record_fault(alloc, out, fault).is_ok(),
-        Answer::Named(node) => print_hello(alloc, out, *node),
-        Answer::Counts(found, more) => counts(alloc, out, found, *more).is_ok(),
-        Answer::Report(ending, closing) => print_report(alloc, out, *ending, *closing),
-        Answer::FaultyLine(number, fault) => faulty_line(alloc, out, *number, *fault).is_ok(),
-        Answer::Point(failed) => point(alloc, out, failed).is_ok(),
-        Answer::Verdict(found) => verdict(alloc, out, found).is_ok(),
-        Answer::RosterError(error) => roster_error(alloc, out, error).is_ok(),
-        Answer::Numbered(name, n) => numbered(alloc, out, name, *n).is_ok(),
-        Answer::Empty => empty(out).is_ok(),
-        Answer::Many(count) => many(alloc, out, *count).is_ok(),
-        Answer::Unsigned(node) => unsigned(alloc, out, *node).is_ok(),
-        Answer::Kept(left, all) => kept(alloc, out, *left, *all).is_ok(),
-        Answer::ReaderFeed(found, met) => reader_feed(alloc, out, *found, *met).is_ok(),
+        PrintedAnswer::Check(failed) => check(alloc, out, failed).is_ok(),
+        PrintedAnswer::Refusal(refused) => refusal(alloc, out, refused).is_ok(),
+        PrintedAnswer::Full(what) => full(alloc, out, what).is_ok(),
+        PrintedAnswer::Spent(count) => spent(alloc, out, *count).is_ok(),
+        PrintedAnswer::Tips(count) => tips(alloc, out, *count).is_ok(),
+        PrintedAnswer::Collides => collides(out).is_ok(),
+        PrintedAnswer::Put(seq, clock) => put(alloc, out, *seq, *clock).is_ok(),
+        PrintedAnswer::Write(writer, seen) => {
+            write(alloc, out, &update(alloc, *writer), *seen).is_ok()
+        }
+        PrintedAnswer::Records(count) => records(alloc, out, *count).is_ok(),
+        PrintedAnswer::RecordFault(fault) => record_fault(alloc, out, fault).is_ok(),
+        PrintedAnswer::Named(node) => print_hello(alloc, out, *node),
+        PrintedAnswer::Counts(found, more) => counts(alloc, out, found, *more).is_ok(),
+        PrintedAnswer::Report(ending, closing) => print_report(alloc, out, *ending, *closing),
+        PrintedAnswer::FaultyLine(number, fault) => faulty_line(
+            alloc, out, *number, *fault,
+        ).is_ok(),
+        PrintedAnswer::Point(failed) => point(alloc, out, failed).is_ok(),
+        PrintedAnswer::Verdict(found) => verdict(alloc, out, found).is_ok(),
+        PrintedAnswer::RosterError(error) => roster_error(alloc, out, error).is_ok(),
+        PrintedAnswer::Numbered(name, n) => numbered(alloc, out, name, *n).is_ok(),
+        PrintedAnswer::Empty => empty(out).is_ok(),
+        PrintedAnswer::Many(count) => many(alloc, out, *count).is_ok(),
+        PrintedAnswer::Unsigned(node) => unsigned(alloc, out, *node).is_ok(),
+        PrintedAnswer::Kept(left, all) => kept(alloc, out, *left, *all).is_ok(),
+        PrintedAnswer::ReaderFeed(found, met) => reader_feed(alloc, out, *found, *met).is_ok(),
     }
 }
 
 /// Whether this is the text of an answer.
-fn has_text(alloc: Global, answer: &Answer, text: &str) -> bool {
+fn has_text(alloc: Global, answer: &PrintedAnswer, text: &str) -> bool {
     let mut out = Bytes::new(alloc);
     print(alloc, &mut out, answer) && out.as_slice() == text.as_bytes()
 }
@@ -179,80 +183,95 @@ fn each_answer_has_its_text(rt: HostRuntime) -> Result<(), Fail> {
         check: Check::Missing(hash),
     };
     let rows = [
-        (Answer::Check(Check::BadSignature(node)), "4 BadSignature 9"),
-        (Answer::Check(Check::ClockFar(0)), "9 ClockFar 0"),
-        (Answer::FaultyLine(2, LineFault::Number), "line 2 Number"),
-        (Answer::Check(forked), "11 Forked SamePrev"),
-        (Answer::Check(Check::AgainstMe), "16 AgainstMe"),
-        (Answer::Refusal(refused), " refused 1 5 Missing"),
-        (Answer::Full(what), "full records 131072"),
-        (Answer::Spent(4), "Spent 4"),
-        (Answer::Tips(1025), "Tips 1025"),
-        (Answer::Collides, "Collides"),
-        (Answer::Put(0, 1), "0/1"),
-        (Answer::Write(one, Seen::Held(b"\x0f\xab")), "1/0/2=0fab"),
-        (Answer::Write(one, Seen::Held(b"")), "1/0/2="),
-        (Answer::Write(one, Seen::NotHeld), "1/0/2=?"),
-        (Answer::Write(one, Seen::Gone), "1/0/2!"),
-        (Answer::Records(2), "records 2"),
-        (Answer::RecordFault(RecordFault::Ill(3)), "Ill 3"),
         (
-            Answer::RecordFault(RecordFault::Refused(Check::BadSignature(node))),
+            PrintedAnswer::Check(Check::BadSignature(node)),
             "4 BadSignature 9",
         ),
-        (Answer::Named(node), "convicted 1 leaves 2 wanted 0"),
+        (PrintedAnswer::Check(Check::ClockFar(0)), "9 ClockFar 0"),
         (
-            Answer::Counts(sent, true),
+            PrintedAnswer::FaultyLine(2, LineFault::Number),
+            "line 2 Number",
+        ),
+        (PrintedAnswer::Check(forked), "11 Forked SamePrev"),
+        (PrintedAnswer::Check(Check::AgainstMe), "16 AgainstMe"),
+        (PrintedAnswer::Refusal(refused), " refused 1 5 Missing"),
+        (PrintedAnswer::Full(what), "full records 131072"),
+        (PrintedAnswer::Spent(4), "Spent 4"),
+        (PrintedAnswer::Tips(1025), "Tips 1025"),
+        (PrintedAnswer::Collides, "Collides"),
+        (PrintedAnswer::Put(0, 1), "0/1"),
+        (
+            PrintedAnswer::Write(one, Seen::Held(b"\x0f\xab")),
+            "1/0/2=0fab",
+        ),
+        (PrintedAnswer::Write(one, Seen::Held(b"")), "1/0/2="),
+        (PrintedAnswer::Write(one, Seen::NotHeld), "1/0/2=?"),
+        (PrintedAnswer::Write(one, Seen::Gone), "1/0/2!"),
+        (PrintedAnswer::Records(2), "records 2"),
+        (PrintedAnswer::RecordFault(RecordFault::Ill(3)), "Ill 3"),
+        (
+            PrintedAnswer::RecordFault(RecordFault::Refused(Check::BadSignature(node))),
+            "4 BadSignature 9",
+        ),
+        (PrintedAnswer::Named(node), "convicted 1 leaves 2 wanted 0"),
+        (
+            PrintedAnswer::Counts(sent, true),
             "proofs 1 vouchers 2 updates 3 values 4 more",
         ),
         (
-            Answer::Report(Ending::Cut(3), None),
+            PrintedAnswer::Report(Ending::Cut(3), None),
             "accepted 2 known 0 refused 1 cut 3",
         ),
         (
-            Answer::Report(Ending::Closed, Some(Closing::IllFormed(7))),
+            PrintedAnswer::Report(Ending::Closed, Some(Closing::IllFormed(7))),
             "accepted 2 known 0 refused 1 ill-formed 7",
         ),
         (
-            Answer::Report(Ending::Closed, Some(Closing::Full(what))),
+            PrintedAnswer::Report(Ending::Closed, Some(Closing::Full(what))),
             "accepted 2 known 0 refused 1 full records 131072",
         ),
         (
-            Answer::Point(JudgeError::BadSignature(Half::First)),
+            PrintedAnswer::Point(JudgeError::BadSignature(Half::First)),
             "BadSignature first",
         ),
         (
-            Answer::Point(JudgeError::TwoWriters(node, node)),
+            PrintedAnswer::Point(JudgeError::TwoWriters(node, node)),
             "TwoWriters 9 9",
         ),
         (
-            Answer::Point(JudgeError::NotContradictory(kind)),
+            PrintedAnswer::Point(JudgeError::NotContradictory(kind)),
             "NotContradictory SamePrev",
         ),
         (
-            Answer::Point(JudgeError::NotContradictory(Kind::NotUpdate)),
+            PrintedAnswer::Point(JudgeError::NotContradictory(Kind::NotUpdate)),
             "NotContradictory NotUpdate",
         ),
-        (Answer::Verdict(Verdict { node, kind }), "9 SamePrev"),
+        (PrintedAnswer::Verdict(Verdict { node, kind }), "9 SamePrev"),
         (
-            Answer::Verdict(Verdict {
+            PrintedAnswer::Verdict(Verdict {
                 node,
                 kind: Kind::NotUpdate,
             }),
             "9 NotUpdate",
         ),
-        (Answer::RosterError(RosterError::TwiceNode(node)), "twice 9"),
-        (Answer::Numbered("stopped records", 2), "stopped records 2"),
-        (Answer::Empty, "Empty"),
-        (Answer::Many(1025), "Many 1025"),
-        (Answer::Unsigned(node), "Unsigned 9"),
-        (Answer::Kept(3, 4), "kept 3 of 4"),
         (
-            Answer::ReaderFeed(taken, None),
+            PrintedAnswer::RosterError(RosterError::TwiceNode(node)),
+            "twice 9",
+        ),
+        (
+            PrintedAnswer::Numbered("stopped records", 2),
+            "stopped records 2",
+        ),
+        (PrintedAnswer::Empty, "Empty"),
+        (PrintedAnswer::Many(1025), "Many 1025"),
+        (PrintedAnswer::Unsigned(node), "Unsigned 9"),
+        (PrintedAnswer::Kept(3, 4), "kept 3 of 4"),
+        (
+            PrintedAnswer::ReaderFeed(taken, None),
             "accepted 1 known 2 refused 3 below 4",
         ),
         (
-            Answer::ReaderFeed(taken, Some(what)),
+            PrintedAnswer::ReaderFeed(taken, Some(what)),
             "accepted 1 known 2 refused 3 below 4 full records 131072",
         ),
     ];

@@ -43,7 +43,7 @@ impl Precedes for ByParity {
 }
 
 /// An item that is added, and the latest items of its key then.
-type Written<'a> = (u32, &'a [u32]);
+type WrittenItem<'a> = (u32, &'a [u32]);
 
 /// Adds an item of a key, and says whether these are its latest items then.
 fn writes<L: Ledger>(
@@ -62,7 +62,7 @@ fn write_all<L: Ledger>(
     rt: &impl Abort,
     index: &mut KeyIndex,
     key: &Key,
-    items: &[Written],
+    items: &[WrittenItem],
     steps: &mut Steps<L>,
 ) -> Result<(), Fail> {
     for (item, latest) in items {

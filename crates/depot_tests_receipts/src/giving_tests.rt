@@ -2,6 +2,7 @@
 
 use crate::one_node::{Plain, put, started};
 use depot_base::{Hash32, Ids, NodeId};
+use depot_local::LocalNode;
 use depot_model::Replica;
 use depot_node::PutDone;
 use depot_receipts::{Book, GiveError, give, receipt_key};

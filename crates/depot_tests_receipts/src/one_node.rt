@@ -2,6 +2,7 @@
 ghost use Rattle.std.specs.Prelude.{◌≡◌};
 
 use depot_base::{Bytes, Change, Changes, Hash32, Items, Key, LengthError, NodeId, Value};
+use depot_local::LocalNode;
 use depot_model::Signer;
 use depot_node::{Node, PutDone};
 use depot_outside::MemDisk;

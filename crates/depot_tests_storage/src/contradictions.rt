@@ -19,7 +19,11 @@ fn empty_voucher(alloc: Global) -> Result<Signed, Fail> {
 }
 
 /// Finds room for a statement among those that were seen, of which there are none.
-fn reserve_and_find(rt: &impl Abort, seen: &mut Seen, signed: &Signed) -> Result<(), Fail> {
+fn reserve_and_find(
+    rt: &impl Abort,
+    seen: &mut SeenStatements,
+    signed: &Signed,
+) -> Result<(), Fail> {
     seen.reserve(signed)?;
     assert!(rt; seen.find(&Hash32::zeros()).is_none());
     Ok(())
@@ -30,6 +34,6 @@ fn reserve_and_find(rt: &impl Abort, seen: &mut Seen, signed: &Signed) -> Result
 #[test]
 fn nothing_is_found_where_nothing_is_kept(rt: HostRuntime) -> Result<(), Fail> {
     let signed = empty_voucher(rt.alloc())?;
-    let mut seen = Seen::new(rt.alloc());
+    let mut seen = SeenStatements::new(rt.alloc());
     reserve_and_find(&rt, &mut seen, &signed)
 }

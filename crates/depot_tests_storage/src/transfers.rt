@@ -10,7 +10,7 @@ const TEXT: &[u8] = b"transferred";
 
 /// What one read or write of a broken device does.
 #[derive(Clone, Copy, Debug, PartialEq, Eq)]
-enum Turn {
+enum TransferTurn {
     /// It moves at most so many bytes.
     Move(usize),
     Interrupted,
@@ -20,13 +20,13 @@ enum Turn {
 /// A reader of some bytes and a writer to others, which goes by its turns and then moves nothing.
 #[derive(Drop)]
 struct Device<'a> {
-    turns: &'a [Turn],
+    turns: &'a [TransferTurn],
     left: &'a [u8],
     taken: Bytes,
 }
 
 impl<'a> Device<'a> {
-    fn new(alloc: Global, turns: &'a [Turn], left: &'a [u8]) -> Device<'a> {
+    fn new(alloc: Global, turns: &'a [TransferTurn], left: &'a [u8]) -> Device<'a> {
         Device {
             turns,
             left,
@@ -40,9 +40,9 @@ impl<'a> Device<'a> {
         };
         self.turns = turns;
         match *turn {
-            Turn::Move(most) => Ok(most),
-            Turn::Interrupted => Err(ErrorKind::Interrupted.into()),
-            Turn::Broken => Err(ErrorKind::Other.into()),
+            TransferTurn::Move(most) => Ok(most),
+            TransferTurn::Interrupted => Err(ErrorKind::Interrupted.into()),
+            TransferTurn::Broken => Err(ErrorKind::Other.into()),
         }
     }
 }
@@ -74,19 +74,31 @@ impl Write for Device<'_> {
 }
 
 /// Turns, how many bytes they move, and whether the device breaks then.
-static CASES: [(&[Turn], usize, bool); 4] = [
+static CASES: [(&[TransferTurn], usize, bool); 4] = [
     (
-        &[Turn::Move(4), Turn::Interrupted, Turn::Move(99)],
+        &[
+            TransferTurn::Move(4),
+            TransferTurn::Interrupted,
+            TransferTurn::Move(99),
+        ],
         11,
         false,
     ),
-    (&[Turn::Move(4)], 4, false),
-    (&[Turn::Move(4), Turn::Broken, Turn::Move(7)], 4, true),
-    (&[Turn::Broken], 0, true),
+    (&[TransferTurn::Move(4)], 4, false),
+    (
+        &[
+            TransferTurn::Move(4),
+            TransferTurn::Broken,
+            TransferTurn::Move(7),
+        ],
+        4,
+        true,
+    ),
+    (&[TransferTurn::Broken], 0, true),
 ];
 
 /// Whether so many bytes are read to the end of a device, or a fault is told.
-fn is_read(alloc: Global, turns: &[Turn], moved: usize, breaks: bool) -> bool {
+fn is_read(alloc: Global, turns: &[TransferTurn], moved: usize, breaks: bool) -> bool {
     let mut device = Device::new(alloc, turns, TEXT);
     match read_whole(alloc, 11, &mut device) {
         Ok(bytes) => !breaks && TEXT.get(..moved) == Some(bytes.as_slice()),
@@ -95,7 +107,7 @@ fn is_read(alloc: Global, turns: &[Turn], moved: usize, breaks: bool) -> bool {
 }
 
 /// Whether so many bytes are written to a device, and less than all is a fault.
-fn is_written(alloc: Global, turns: &[Turn], moved: usize) -> bool {
+fn is_written(alloc: Global, turns: &[TransferTurn], moved: usize) -> bool {
     let mut device = Device::new(alloc, turns, b"");
     let is_whole = write_whole(&mut device, TEXT).is_ok();
     is_whole == (moved == 11) && TEXT.get(..moved) == Some(device.taken.as_slice())
@@ -103,7 +115,7 @@ fn is_written(alloc: Global, turns: &[Turn], moved: usize) -> bool {
 
 /// Whether bytes past the most that may be read are a fault.
 fn is_too_long(alloc: Global) -> bool {
-    let mut device = Device::new(alloc, &[Turn::Move(5), Turn::Move(6)], TEXT);
+    let mut device = Device::new(alloc, &[TransferTurn::Move(5), TransferTurn::Move(6)], TEXT);
     read_whole(alloc, 10, &mut device).is_err()
 }
 

@@ -4,9 +4,9 @@ use Rattle.std.proofs.lemmas.Bool.{eqb-true, eq-eqb, leb-true, leb-false, cond-f
 use Rattle.std.proofs.lemmas.List.{append-nil}
 use Rattle.depot_model.specs.Lists.{IsIn}
 use Rattle.depot_model.specs.World.{Read}
-use Rattle.depot_world.specs.Run.{PendingStop, Host, Made, Run, host_in, put_host, with_label, with_host}
-use Rattle.depot_world.specs.ScheduleStops.{Effect, EventResult, result_by, stopped_with, result_pending, left_of, event_result}
-use Rattle.depot_world.specs.Transcript.{Done, done_by_node, by_node, pending_at}
+use Rattle.depot_world.specs.Run.{PendingStop, Host, Labelled, Run, host_in, put_host, with_label, with_host}
+use Rattle.depot_world.specs.ScheduleStops.{Effect, EventResult, result_by, stopped_with, result_pending, journal_left, event_result}
+use Rattle.depot_world.specs.Transcript.{Done, done_by_node, done_at_node, pending_at}
 use Rattle.depot_world.proofs.GoodRuns.{numbers_of, found_is, from_put_host, same_numbers}
 
 -- the keys of the reads of a node
@@ -62,7 +62,7 @@ goes_by s d more waits reads quiet = by_pending s.pending waits where
     nothing_read : leb a.call d.calls ≡ true → more ≡ []
     nothing_read early = elim quiet [ inl none ↦ none | inr no_calls ↦ absurd (omega (arith, leb-true a.call d.calls early, no_calls, is a refl)) ]
 
-    falls : (b : Bool) → leb a.call d.calls ≡ b → Goes s (cond b (stopped_with s (left_of s.correct.journal d.journal a)) (result_by s (Some (record { call = a.call - d.calls; image = a.image })) d)) more
+    falls : (b : Bool) → leb a.call d.calls ≡ b → Goes s (cond b (stopped_with s (journal_left s.correct.journal d.journal a)) (result_by s (Some (record { call = a.call - d.calls; image = a.image })) d)) more
     falls true early = record { node = refl; keys = sym (append-nil (keys_of s)) ∙ ap (λ (ks : List (List ℕ)). keys_of s ++ ks) (sym (nothing_read early)); waits = λ x e. absurd cc }
     falls false late = record { node = refl; keys = reads; waits = λ x e. (let here : a.call - d.calls ≡ x.call = ap call_of e in omega (arith, here, leb-false a.call d.calls late)) } where
       call_of : Option PendingStop → ℕ
@@ -119,13 +119,13 @@ placed run node s w more found same keys waits = record {
     are = has.are ∙ sym (append-nil ks);
   }
 
-labelled : (run next : Run) (node : ℕ) (more : List (List ℕ)) (m : Made) → Follows run next node more → Follows run (with_label next m) node more
+labelled : (run next : Run) (node : ℕ) (more : List (List ℕ)) (m : Labelled) → Follows run next node more → Follows run (with_label next m) node more
 labelled run next node more m f = record { numbers = f.numbers; waits = f.waits; reads = f.reads }
 
 -- an event of a node, in which it reads these keys
 pub node_follows : (run : Run) (node : ℕ) (label : Option (List ℕ)) (effect : Host → Effect) (more : List (List ℕ)) → ((s : Host) → IsIn s run.hosts → Waits s) → ((s : Host) → map (λ (r : Read). r.key) (effect s).reads ≡ keys_of s ++ more) → ((s : Host) → (more ≡ []) ⊎ ((effect s).calls ≡ 0))
-    → Follows run (by_node run node label effect).run node more
-unfolding by_node
+    → Follows run (done_at_node run node label effect).run node more
+unfolding done_at_node
 node_follows run node label effect more all reads quiet = by_host (host_in run.hosts node) refl where
   by_label : (l : Option (List ℕ)) (s : Host) → host_in run.hosts node ≡ Some s → Follows run (done_by_node run l (event_result s (effect s))).run node more
   by_label l s found =

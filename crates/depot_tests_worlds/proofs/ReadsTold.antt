@@ -29,10 +29,10 @@ use Rattle.depot_schedule.specs.declared.schedule.Schedule.{Schedule}
 use Rattle.depot_tests_worlds.specs.Asked.{key_read, keys_read, verdict_on, verdicts_on}
 use Rattle.depot_world.specs.Effects.{put_by, get_by, receipt_by, settled_by, checkpoint_by, sign_by, hello_by, bundle_by, give_by, restart_by}
 use Rattle.depot_world.specs.FaultySigning.{all_referred, updated, proof_in}
-use Rattle.depot_world.specs.Run.{Run, Host, fresh_host, run_of, world_by, host_in, bytes_of, reader_in, referred, with_host}
+use Rattle.depot_world.specs.Run.{Run, Host, fresh_host, run_of, world_by, host_in, bytes_of_label, reader_in, referred, with_host}
 use Rattle.depot_world.specs.ScheduleStops.{Effect, event_result}
 use Rattle.depot_world.specs.Setups.{Setup, setup_of, stands_on, signs_on}
-use Rattle.depot_world.specs.Transcript.{Done, done_by_node, by_node, pending_at, receipt_for, settled_for, trimmed_with, trim_at, reader_told, tgive_by, done_by_update, judged_with, done, run_after, world_of}
+use Rattle.depot_world.specs.Transcript.{Done, done_by_node, done_at_node, pending_at, receipt_for, settled_for, trimmed_with, trim_at, reader_told, tgive_by, done_by_update, judged_with, done, run_after, world_of}
 use Rattle.depot_world.proofs.GoodRuns.{numbers_of}
 use Rattle.depot_world.proofs.GoodWorlds.{schedule_makes_world}
 use Rattle.depot_world.proofs.ReadCounts.{put_keeps, receipt_keeps, settled_keeps, checkpoint_keeps, sign_keeps, bundle_keeps}
@@ -169,15 +169,15 @@ event_follows setup run (event.Put node key value) all later = node_follows run 
 event_follows setup run (event.Puts node changes) all later = node_follows run node None (λ s. put_by (stands_on setup node) s.correct changes) [] all (λ s. silent s _ (put_keeps (stands_on setup node) s.correct changes)) (λ s. inl refl)
 event_follows setup run (event.Get node key) all later = node_follows run node None (λ s. get_by s.correct key) (key ∷ []) all (λ s. get_reads s key) (λ s. inr (get_calls s key))
 event_follows setup run (event.Hello node label) all later = node_follows run node (Some label) (λ s. hello_by (stands_on setup node) s.correct) [] all (λ s. hello_silent (stands_on setup node) s) (λ s. inl refl)
-event_follows setup run (event.Bundle node hello label) all later = node_follows run node (Some label) (λ s. bundle_by (stands_on setup node) (signs_on setup node) s.correct (bytes_of run hello)) [] all (λ s. silent s _ (bundle_keeps (stands_on setup node) (signs_on setup node) s.correct (bytes_of run hello))) (λ s. inl refl)
-event_follows setup run (event.Give node label size) all later = node_follows run node None (λ s. give_by (stands_on setup node) s.correct (bytes_of run label)) [] all (λ s. give_silent (stands_on setup node) s (bytes_of run label)) (λ s. inl refl)
+event_follows setup run (event.Bundle node hello label) all later = node_follows run node (Some label) (λ s. bundle_by (stands_on setup node) (signs_on setup node) s.correct (bytes_of_label run hello)) [] all (λ s. silent s _ (bundle_keeps (stands_on setup node) (signs_on setup node) s.correct (bytes_of_label run hello))) (λ s. inl refl)
+event_follows setup run (event.Give node label size) all later = node_follows run node None (λ s. give_by (stands_on setup node) s.correct (bytes_of_label run label)) [] all (λ s. give_silent (stands_on setup node) s (bytes_of_label run label)) (λ s. inl refl)
 event_follows setup run (event.Restart node) all later = node_follows run node None (λ s. restart_by s.correct) [] all (λ s. restart_silent s) (λ s. inl refl)
 event_follows setup run (event.Update label writer seq clock prev key value deps history) all later = stays run _ 0 (update_stays (signs_on setup writer) run label _ (updated (signs_on setup writer) run writer seq clock prev (one_change key value) deps history))
 event_follows setup run (event.Updates label writer seq clock prev changes deps history) all later = stays run _ 0 (update_stays (signs_on setup writer) run label _ (updated (signs_on setup writer) run writer seq clock prev changes deps history))
 event_follows setup run (event.Voucher label writer seq refs) all later = stays run _ 0 refl
 event_follows setup run (event.Proof label kind first second) all later = stays run _ 0 refl
 event_follows setup run (event.Hollow label voucher plain) all later = stays run _ 0 refl
-event_follows setup run (event.Judge label) all later = stays run _ 0 (judge_stays setup run (proof_in (bytes_of run label)))
+event_follows setup run (event.Judge label) all later = stays run _ 0 (judge_stays setup run (proof_in (bytes_of_label run label)))
 event_follows setup run (event.Raw label bytes) all later = stays run _ 0 refl
 event_follows setup run (event.Cut label source start count) all later = stays run _ 0 refl
 event_follows setup run (event.Flip label source place) all later = stays run _ 0 refl
@@ -187,9 +187,9 @@ event_follows setup run (event.Receipt node refs) all later = receipts_follow se
 event_follows setup run (event.Settled node reference k) all later = settled_follows run node k (referred run reference) all
 event_follows setup run event.Audit all later = stays run _ 0 refl
 event_follows setup run (event.Checkpoint node label) all later = node_follows run node (Some label) (λ s. checkpoint_by (stands_on setup node) s.correct) [] all (λ s. silent s _ (checkpoint_keeps (stands_on setup node) s.correct)) (λ s. inl refl)
-event_follows setup run (event.Sign node label) all later = node_follows run node None (λ s. sign_by (stands_on setup node) s.correct (bytes_of run label)) [] all (λ s. silent s _ (sign_keeps (stands_on setup node) s.correct (bytes_of run label))) (λ s. inl refl)
-event_follows setup run (event.Trim node label name) all later = stays run _ node (trim_stays setup run node (bytes_of run label) name)
-event_follows setup run (event.Tgive name label) all later = stays run _ 0 (tgive_stays run name (bytes_of run label))
+event_follows setup run (event.Sign node label) all later = node_follows run node None (λ s. sign_by (stands_on setup node) s.correct (bytes_of_label run label)) [] all (λ s. silent s _ (sign_keeps (stands_on setup node) s.correct (bytes_of_label run label))) (λ s. inl refl)
+event_follows setup run (event.Trim node label name) all later = stays run _ node (trim_stays setup run node (bytes_of_label run label) name)
+event_follows setup run (event.Tgive name label) all later = stays run _ 0 (tgive_stays run name (bytes_of_label run label))
 event_follows setup run (event.Tget name key) all later = stays run _ 0 refl
 
 -- ---- all events
@@ -314,8 +314,8 @@ reads_are_gets s c is on =
 
 -- ---- verdicts
 
-node_judged : (run : Run) (node : ℕ) (label : Option (List ℕ)) (effect : Host → Effect) → (by_node run node label effect).run.judged ≡ run.judged ++ []
-unfolding by_node with_host
+node_judged : (run : Run) (node : ℕ) (label : Option (List ℕ)) (effect : Host → Effect) → (done_at_node run node label effect).run.judged ≡ run.judged ++ []
+unfolding done_at_node with_host
 node_judged run node label effect = by_host (host_in run.hosts node) where
   by_label : (l : Option (List ℕ)) (s : Host) → (done_by_node run l (event_result s (effect s))).run.judged ≡ run.judged ++ []
   by_label None s = sym (append-nil run.judged)
@@ -381,7 +381,7 @@ event_judges setup run (event.Updates label writer seq clock prev changes deps h
 event_judges setup run (event.Voucher label writer seq refs) = sym (append-nil run.judged)
 event_judges setup run (event.Proof label kind first second) = sym (append-nil run.judged)
 event_judges setup run (event.Hollow label voucher plain) = sym (append-nil run.judged)
-event_judges setup run (event.Judge label) = judge_judged setup run (proof_in (bytes_of run label))
+event_judges setup run (event.Judge label) = judge_judged setup run (proof_in (bytes_of_label run label))
 event_judges setup run (event.Raw label bytes) = sym (append-nil run.judged)
 event_judges setup run (event.Cut label source start count) = sym (append-nil run.judged)
 event_judges setup run (event.Flip label source place) = sym (append-nil run.judged)
@@ -392,8 +392,8 @@ event_judges setup run (event.Settled node reference k) = settled_judged run nod
 event_judges setup run event.Audit = sym (append-nil run.judged)
 event_judges setup run (event.Checkpoint node label) = node_judged run node (Some label) _
 event_judges setup run (event.Sign node label) = node_judged run node None _
-event_judges setup run (event.Trim node label name) = trim_judged setup run node (bytes_of run label) name
-event_judges setup run (event.Tgive name label) = tgive_judged run name (bytes_of run label)
+event_judges setup run (event.Trim node label name) = trim_judged setup run node (bytes_of_label run label) name
+event_judges setup run (event.Tgive name label) = tgive_judged run name (bytes_of_label run label)
 event_judges setup run (event.Tget name key) = sym (append-nil run.judged)
 
 events_judge : (setup : Setup) (run : Run) (es : List Event) → (run_after setup run es).judged ≡ run.judged ++ verdicts_on setup run es

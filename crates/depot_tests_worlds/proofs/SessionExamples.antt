@@ -53,8 +53,8 @@ use Rattle.depot_outside.specs.Told.{Disks, Shelves, Sinks, Wrote}
 use Rattle.depot_script.specs.Commands.{put_form as put_command, puts_form as puts_command, get_form as get_command, hello_form as hello_command, bundle_form as bundle_command, take_form as take_command, receipt_form as receipt_command, settled_form as settled_command, export_form as export_command}
 use Rattle.depot_script.specs.declared.command.Command.{Command}
 use Rattle.depot_script.specs.declared.command.Command.TheVariants as command
-use Rattle.depot_session.specs.declared.ending.Ending.{Ending}
-use Rattle.depot_session.specs.declared.ending.Ending.TheVariants as ending
+use Rattle.depot_session.specs.declared.ending.ScriptEnding.{ScriptEnding}
+use Rattle.depot_session.specs.declared.ending.ScriptEnding.TheVariants as ending
 use Rattle.depot_session.specs.SessionRuns.{GoesShort, IsCutBy, IsLast, IsToBeWritten, LeavesFront, pending_for, pending_in, world_at}
 use Rattle.depot_session.specs.Sessions.{Answers, Files, Session, answers_of, ending_of_take, export_by, session_from, step_of}
 
@@ -299,11 +299,11 @@ disk before after faults = record { tells = true; file = before; file_after = af
 abbrev wrote : List ℕ → ℕ → Sinks
 wrote text faults = record { tells = true; before = []; after = text; faults_before = 0; faults_after = faults }
 
-abbrev Short : Disks → Sinks → Ending → Type 0
+abbrev Short : Disks → Sinks → ScriptEnding → Type 0
 Short d w ends = GoesShort (node 2) no_signature (newborn 2) second (one_put ∷ []) d (shelf 0) w ends
 
 -- nothing of the put is on the disk, and nothing of its line was told
-cut_before : (image : List ℕ) (faults : ℕ) (w : Sinks) (ends : Ending) (last : List ℕ) → IsCutBy (0 < faults) (shelf 0) w ends → IsLast (pending_in (node 2) no_signature second (one_put ∷ []) (λ i. i ≡ image) (0 < faults) (shelf 0)) ends last → Wrote w last → Short (disk image image faults) w ends
+cut_before : (image : List ℕ) (faults : ℕ) (w : Sinks) (ends : ScriptEnding) (last : List ℕ) → IsCutBy (0 < faults) (shelf 0) w ends → IsLast (pending_in (node 2) no_signature second (one_put ∷ []) (λ i. i ≡ image) (0 < faults) (shelf 0)) ends last → Wrote w last → Short (disk image image faults) w ends
 unfolding answers_of
 cut_before image faults w ends last cut is told = record {
   cut = cut;

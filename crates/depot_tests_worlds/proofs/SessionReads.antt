@@ -10,7 +10,7 @@ use Rattle.depot_model.specs.Readers.{Reader}
 use Rattle.depot_model.specs.World.{Read}
 use Rattle.depot_script.specs.declared.command.Command.{Command}
 use Rattle.depot_script.specs.declared.command.Command.TheVariants as command
-use Rattle.depot_session.specs.declared.ending.Ending.{Ending}
+use Rattle.depot_session.specs.declared.ending.ScriptEnding.{ScriptEnding}
 use Rattle.depot_session.specs.Sessions.{Session, Step, Answers, step_of, followed_by, bundle_step, bundle_to, checkpoint_put, checkpoint_step, export_by, shown_by_last, sign_from, take_from, tgive_from, tgive_to, trim_from, answers_of}
 use Rattle.depot_world.specs.Effects.{get_by, bundle_by, checkpoint_by, checkpoint_changes, give_by, hello_by}
 use Rattle.depot_world.specs.ScheduleStops.{Effect}
@@ -102,7 +102,7 @@ step_reads here sign s (command.Tget key) = tget_keeps s key s.reader
 
 -- ---- a script
 
-followed : (before : List (List ℕ)) (c : Command) (more : List Command) (step : Step) (rest : Answers) (o : Option Ending) → keys_at step.session ≡ before ++ key_got c → keys_at rest.session ≡ keys_at step.session ++ keys_got more
+followed : (before : List (List ℕ)) (c : Command) (more : List Command) (step : Step) (rest : Answers) (o : Option ScriptEnding) → keys_at step.session ≡ before ++ key_got c → keys_at rest.session ≡ keys_at step.session ++ keys_got more
     → keys_at (followed_by o step rest).session ≡ before ++ keys_got (c ∷ going_on o more)
 followed before c more step rest (Some ends) one all = one ∙ ap (λ (ks : List (List ℕ)). before ++ ks) (sym (append-nil (key_got c)))
 followed before c more step rest None one all = all ∙ ap (λ (ks : List (List ℕ)). ks ++ keys_got more) one ∙ append_assoc before (key_got c) (keys_got more)

@@ -6,7 +6,7 @@ use Rattle.depot_model.specs.Judgement.{first_failed_point}
 use Rattle.depot_schedule.specs.declared.event.Event.{Event}
 use Rattle.depot_schedule.specs.declared.event.Event.TheVariants as event
 use Rattle.depot_world.specs.FaultySigning.{proof_in}
-use Rattle.depot_world.specs.Run.{Run, bytes_of}
+use Rattle.depot_world.specs.Run.{Run, bytes_of_label}
 use Rattle.depot_world.specs.Setups.{Setup}
 use Rattle.depot_world.specs.Transcript.{done}
 
@@ -21,7 +21,7 @@ keys_read node es = flat_map (key_read node) es
 
 -- the proof that an event has a verdict on, where the run is this one
 abbrev pub verdict_on : Setup → Run → Event → List Proof
-verdict_on setup run (event.Judge label) = elim (proof_in (bytes_of run label)) [
+verdict_on setup run (event.Judge label) = elim (proof_in (bytes_of_label run label)) [
   | Err at ↦ []
   | Ok p ↦ elim (first_failed_point setup.suite.verifies setup.listed p) [ Some point ↦ [] | None ↦ p ∷ [] ]
 ]

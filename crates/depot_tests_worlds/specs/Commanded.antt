@@ -6,7 +6,7 @@ use Rattle.depot_model.specs.Checks.{Setting}
 use Rattle.depot_model.specs.World.{Read}
 use Rattle.depot_script.specs.declared.command.Command.{Command}
 use Rattle.depot_script.specs.declared.command.Command.TheVariants as command
-use Rattle.depot_session.specs.declared.ending.Ending.{Ending}
+use Rattle.depot_session.specs.declared.ending.ScriptEnding.{ScriptEnding}
 use Rattle.depot_session.specs.Sessions.{Session, step_of}
 
 -- the key that a command reads
@@ -19,11 +19,11 @@ abbrev pub keys_got : List Command → List (List ℕ)
 keys_got cs = flat_map key_got cs
 
 -- Behind the reads that the node had made in the one session it has made those of these keys in the other.
-abbrev pub ReadsMore : Session → Session → List (List ℕ) → Type 0
-ReadsMore before after keys = map (λ (r : Read). r.key) after.correct.reads ≡ map (λ (r : Read). r.key) before.correct.reads ++ keys
+abbrev pub ReadsFurther : Session → Session → List (List ℕ) → Type 0
+ReadsFurther before after keys = map (λ (r : Read). r.key) after.correct.reads ≡ map (λ (r : Read). r.key) before.correct.reads ++ keys
 
 -- what is carried out behind a command that ends the run, or doesn't
-abbrev pub going_on : Option Ending → List Command → List Command
+abbrev pub going_on : Option ScriptEnding → List Command → List Command
 going_on (Some ends) rest = []
 going_on None rest = rest
 

@@ -12,7 +12,7 @@ ghost use Rattle.depot_world.specs.Run.{run_of};
 ghost use Rattle.depot_world.specs.Setups.{setup_of};
 ghost use Rattle.depot_world.specs.Transcript.{world_of};
 ghost use Rattle.depot_tests_worlds.specs.Asked.{keys_read, verdicts_on};
-ghost use Rattle.depot_tests_worlds.specs.Commanded.{ReadsMore, carried_out_of, keys_got};
+ghost use Rattle.depot_tests_worlds.specs.Commanded.{ReadsFurther, carried_out_of, keys_got};
 
 /// A node's reads in the world of a schedule are those of its `get` events, each in its turn: none is lost where the node stops or
 /// is started again. The judged proofs are those that `judge` events have a verdict on, each in its turn.
@@ -24,5 +24,5 @@ pub fn worlds_have_all_reads_and_verdicts()
 /// What a script adds to a node's reads are those of its `get` commands, each in its turn, up to the command that ends the run. So
 /// over sessions one after another they are those of all their `get` commands.
 pub fn sessions_have_all_reads()
-    ensures { (here : Setting) (sign : Signs) (s : Session) (commands : List Command) → ReadsMore s (answers_of here sign s commands).session (keys_got (carried_out_of here sign s commands)) }
+    ensures { (here : Setting) (sign : Signs) (s : Session) (commands : List Command) → ReadsFurther s (answers_of here sign s commands).session (keys_got (carried_out_of here sign s commands)) }
 {}

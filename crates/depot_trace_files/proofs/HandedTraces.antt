@@ -1,5 +1,5 @@
 -- Traces that are handed in one after the other.
-use Rattle.std.proofs.Common.{◌≡◌, ℕ, suc, ◌+◌, ◌<◌, List, [], ◌∷◌, ◌++◌, length, take, get_or, Bool, true, false, eqb, ◌||◌, IsTrue, Option, Some, refl, sym, ap, subst, ◌∙◌, append_assoc, append-nil}
+use Rattle.std.proofs.Common.{◌≡◌, ℕ, suc, ◌+◌, ◌<◌, List, [], ◌∷◌, ◌++◌, length, take, get_or, Bool, true, false, eqb, ◌||◌, IsTrue, Option, Some, refl, sym, ap, subst, ◌∙◌, append_assoc}
 use Rattle.std.specs.List.{AllByRecursion, list_any}
 use Rattle.std.proofs.lemmas.Bool.{eq-eqb}
 use Rattle.std.proofs.lemmas.Option.{slice_get-get_or}
@@ -67,18 +67,6 @@ pub record AreSoFar {F : Type 0} (g : Ghosts F) (listed : List RosterEntry) (old
   pub calm : g.faults now ≡ g.faults old
   pub handed : AreHanded (g.tells old) (g.file old) names ts
   pub audited : AreForAudit listed ts
-
--- before the first
-pub none_so_far : {F : Type 0} (g : Ghosts F) (listed : List RosterEntry) (old : F) → AreSoFar g listed old old [] []
-none_so_far g listed old = record {
-  loads = sym (append-nil (g.loads old));
-  stores = refl;
-  files = refl;
-  tells = refl;
-  calm = refl;
-  handed = tt;
-  audited = record { fit = tt; members = tt; distinct = tt };
-}
 
 -- and with one more
 pub one_more : {F : Type 0} (g : Ghosts F) (listed : List RosterEntry) (old mid now : F) (names : List (List ℕ)) (ts : List Trace) (name : List ℕ) (t : Trace)

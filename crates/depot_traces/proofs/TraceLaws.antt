@@ -3,13 +3,13 @@ use Rattle.std.proofs.Common.{◌≡◌, ℕ, ◌+◌, ◌*◌, ◌≤◌, Bool,
 use Rattle.std.proofs.lemmas.Bool.Decides.{nat_tests}
 use Rattle.std.specs.Int.{w8, w16, w32}
 use Rattle.std.specs.List.{AllByRecursion}
-use Rattle.depot_base.specs.Format.{Format, Follows, number, bytes_of, field, made, choose, list_of}
+use Rattle.depot_base.specs.Format.{Format, Follows, number, bytes_of, field, made_of_fields, choose, list_of}
 use Rattle.depot_base.proofs.FormatLaws.{Lawful, weaken}
 use Rattle.depot_base.proofs.Numbers.{one_number, number_within}
 use Rattle.depot_base.proofs.Combined.{bytes_lawful, bytes_count, made_lawful, field_lawful, choose_lawful}
 use Rattle.depot_base.proofs.EntryLists.{list_lawful, list_count}
 use Rattle.depot_base.proofs.PartLaws.{u8_lawful, u16_lawful, u32_lawful, constant_lawful, node_lawful, digest_lawful}
-use Rattle.depot_traces.specs.TraceTexts.{any_follows, record_piece, mark_of, value_in, behind_mark, answered_text, read_text, trace_text, IsTrace}
+use Rattle.depot_traces.specs.TraceTexts.{any_follows, record_piece, shown_mark, shown_bytes, behind_mark, answered_text, read_text, trace_text, IsTrace}
 use Rattle.depot_traces.specs.declared.trace.Answered.{Answered}
 use Rattle.depot_traces.specs.declared.trace.ReadTrace.{ReadTrace}
 use Rattle.depot_traces.specs.declared.trace.Shown.TheVariants.{NotHeld, Held, Gone}
@@ -40,29 +40,29 @@ record_piece_lawful =
 -- behind a mark, a write has this id, and the mark is its own
 abbrev behind : Bool → Bool → List ℕ → Format Answered
 behind none gone id =
-    choose none (made (record { id = id; shown = NotHeld }))
-    (choose gone (made (record { id = id; shown = Gone }))
-    (field (number w32 0 65536) (λ a. length (value_in a.shown)) λ size.
-    field (bytes_of size) (λ a. value_in a.shown) λ value.
-    made (record { id = id; shown = Held value })))
+    choose none (made_of_fields (record { id = id; shown = NotHeld }))
+    (choose gone (made_of_fields (record { id = id; shown = Gone }))
+    (field (number w32 0 65536) (λ a. length (shown_bytes a.shown)) λ size.
+    field (bytes_of size) (λ a. shown_bytes a.shown) λ value.
+    made_of_fields (record { id = id; shown = Held value })))
 
 id_behind : (none gone : Bool) (id : List ℕ) (a : Answered) → (behind none gone id).fits a → a.id ≡ id
 id_behind true gone id a h = ap (λ (x : Answered). x.id) h
 id_behind false true id a h = ap (λ (x : Answered). x.id) h
 id_behind false false id a h = ap (λ (x : Answered). x.id) h.1.1
 
-mark_behind : (none gone : Bool) (id : List ℕ) (a : Answered) → (behind none gone id).fits a → mark_of a.shown ≡ cond none 0 (cond gone 2 1)
-mark_behind true gone id a h = ap (λ (x : Answered). mark_of x.shown) h
-mark_behind false true id a h = ap (λ (x : Answered). mark_of x.shown) h
-mark_behind false false id a h = ap (λ (x : Answered). mark_of x.shown) h.1.1
+mark_behind : (none gone : Bool) (id : List ℕ) (a : Answered) → (behind none gone id).fits a → shown_mark a.shown ≡ cond none 0 (cond gone 2 1)
+mark_behind true gone id a h = ap (λ (x : Answered). shown_mark x.shown) h
+mark_behind false true id a h = ap (λ (x : Answered). shown_mark x.shown) h
+mark_behind false false id a h = ap (λ (x : Answered). shown_mark x.shown) h.1.1
 
 none_or_one_or_two : (mark : ℕ) → mark ≤ 2 → cond (eqb mark 0) 0 (cond (eqb mark 2) 2 1) ≡ mark
 none_or_one_or_two mark high = grind (arith, nat_tests)
 
-held_lawful : (id : List ℕ) → Lawful {V = Answered} (field (number w32 0 65536) (λ a. length (value_in a.shown)) λ size. field (bytes_of size) (λ a. value_in a.shown) λ value. made (record { id = id; shown = Held value })) 65540
+held_lawful : (id : List ℕ) → Lawful {V = Answered} (field (number w32 0 65536) (λ a. length (shown_bytes a.shown)) λ size. field (bytes_of size) (λ a. shown_bytes a.shown) λ value. made_of_fields (record { id = id; shown = Held value })) 65540
 held_lawful id =
-    field_lawful _ _ _ 4 _ (u32_lawful 0 65536 (omega arith)) (λ size a f h. bytes_count size (value_in a.shown) h.0) λ size range.
-    field_lawful _ _ _ 65536 0 (weaken _ size 65536 (let r = number_within w32 0 65536 size range in omega arith) (bytes_lawful size)) (λ value a f h. ap (λ (x : Answered). value_in x.shown) h) λ value _.
+    field_lawful _ _ _ 4 _ (u32_lawful 0 65536 (omega arith)) (λ size a f h. bytes_count size (shown_bytes a.shown) h.0) λ size range.
+    field_lawful _ _ _ 65536 0 (weaken _ size 65536 (let r = number_within w32 0 65536 size range in omega arith) (bytes_lawful size)) (λ value a f h. ap (λ (x : Answered). shown_bytes x.shown) h) λ value _.
     made_lawful _
 
 pub behind_mark_lawful : (id : List ℕ) (mark : ℕ) → Lawful (behind_mark id mark) 65540
@@ -73,7 +73,7 @@ id_of_marked : (id : List ℕ) (mark : ℕ) (a : Answered) → (behind_mark id m
 unfolding behind_mark
 id_of_marked id mark a h = id_behind (eqb mark 0) (eqb mark 2) id a h
 
-mark_of_marked : (id : List ℕ) (mark : ℕ) (a : Answered) → mark ≤ 2 → (behind_mark id mark).fits a → mark_of a.shown ≡ mark
+mark_of_marked : (id : List ℕ) (mark : ℕ) (a : Answered) → mark ≤ 2 → (behind_mark id mark).fits a → shown_mark a.shown ≡ mark
 unfolding behind_mark
 mark_of_marked id mark a high h = mark_behind (eqb mark 0) (eqb mark 2) id a h ∙ none_or_one_or_two mark high
 

@@ -32,17 +32,17 @@ trace_of t = record { node = t.node; texts = t.texts; reads = map read_of t.read
 
 -- ---- findings
 
-abbrev pub op_of : Op → audits.Op
-op_of (op.Write node place) = the_write node place
-op_of (op.Read node place) = the_read node place
+abbrev pub op_of_trace : Op → audits.Op
+op_of_trace (op.Write node place) = the_write node place
+op_of_trace (op.Read node place) = the_read node place
 
 abbrev pub finding_of : Finding → audits.Finding
 finding_of finding.Yes = yes_found
 finding_of (finding.Unlawful node place fault) = unlawful node place fault
 finding_of (finding.Answer node place) = answer_found node place
-finding_of (finding.Circle o) = circle_found (op_of o)
-finding_of (finding.Unordered a b) = unordered_found (op_of a) (op_of b)
-finding_of (finding.Unseen a b) = unseen_found (op_of a) (op_of b)
+finding_of (finding.Circle o) = circle_found (op_of_trace o)
+finding_of (finding.Unordered a b) = unordered_found (op_of_trace a) (op_of_trace b)
+finding_of (finding.Unseen a b) = unseen_found (op_of_trace a) (op_of_trace b)
 finding_of (finding.Wrong node place) = wrong_found node place
 finding_of (finding.Split node place) = split_found node place
 finding_of (finding.Named node place) = named_found node place

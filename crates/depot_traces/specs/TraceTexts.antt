@@ -2,7 +2,7 @@
 use Rattle.std.specs.Prelude.{ℕ, List, [], length, Bool, true, Option, ◌==◌}
 use Rattle.std.specs.Int.{w8, w16, w32}
 use Rattle.depot_base.specs.declared.limits.TheConstants.{MOST_KEY, MOST_LEAVES, MOST_RECORDS, MOST_VALUE}
-use Rattle.depot_base.specs.Format.{Format, number, constant, bytes_of, field, made, choose, list_of}
+use Rattle.depot_base.specs.Format.{Format, number, constant, bytes_of, field, made_of_fields, choose, list_of}
 use Rattle.depot_base.specs.Parts.{node_number, digest}
 use Rattle.depot_traces.specs.declared.trace.TheConstants.{MOST_READS}
 use Rattle.depot_traces.specs.declared.trace.Answered.{Answered}
@@ -22,36 +22,36 @@ unfoldable pub record_piece : Format (List ℕ)
 record_piece =
     field (number w32 0 4294967295) (λ text. length text) λ size.
     field (bytes_of size) (λ text. text) λ text.
-    made text
+    made_of_fields text
 
 -- ---- reads
 
 -- the mark of what is shown
-abbrev pub mark_of : Shown → ℕ
-mark_of NotHeld = 0
-mark_of (Held value) = 1
-mark_of Gone = 2
+abbrev pub shown_mark : Shown → ℕ
+shown_mark NotHeld = 0
+shown_mark (Held value) = 1
+shown_mark Gone = 2
 
 -- the value that is shown; where none is, no bytes
-abbrev pub value_in : Shown → List ℕ
-value_in NotHeld = []
-value_in (Held value) = value
-value_in Gone = []
+abbrev pub shown_bytes : Shown → List ℕ
+shown_bytes NotHeld = []
+shown_bytes (Held value) = value
+shown_bytes Gone = []
 
 -- what follows the mark of a write of this id: behind 1 the value's length and the value, and nothing behind 0 and 2
 unfoldable pub behind_mark : List ℕ → ℕ → Format Answered
 behind_mark id mark =
-    choose (mark == 0) (made (record { id = id; shown = NotHeld }))
-    (choose (mark == 2) (made (record { id = id; shown = Gone }))
-    (field (number w32 0 MOST_VALUE) (λ a. length (value_in a.shown)) λ size.
-    field (bytes_of size) (λ a. value_in a.shown) λ value.
-    made (record { id = id; shown = Held value })))
+    choose (mark == 0) (made_of_fields (record { id = id; shown = NotHeld }))
+    (choose (mark == 2) (made_of_fields (record { id = id; shown = Gone }))
+    (field (number w32 0 MOST_VALUE) (λ a. length (shown_bytes a.shown)) λ size.
+    field (bytes_of size) (λ a. shown_bytes a.shown) λ value.
+    made_of_fields (record { id = id; shown = Held value })))
 
 -- a write that a read listed: its id, a mark, and what the mark calls for
 unfoldable pub answered_text : Format Answered
 answered_text =
     field digest (λ a. a.id) λ id.
-    field (number w8 0 2) (λ a. mark_of a.shown) λ mark.
+    field (number w8 0 2) (λ a. shown_mark a.shown) λ mark.
     behind_mark id mark
 
 -- a read: the number of records then, the key behind its length, and the writes that it listed behind their number
@@ -62,7 +62,7 @@ read_text =
     field (bytes_of key_length) (λ r. r.key) λ key.
     field (number w16 0 MOST_LEAVES) (λ r. length r.answer) λ count.
     field (list_of count answered_text any_follows) (λ r. r.answer) λ answer.
-    made (record { length = records; key = key; answer = answer })
+    made_of_fields (record { length = records; key = key; answer = answer })
 
 -- ---- traces
 
@@ -76,7 +76,7 @@ trace_text =
     field (list_of record_count record_piece any_follows) (λ t. t.texts) λ texts.
     field (number w32 0 MOST_READS) (λ t. length t.reads) λ read_count.
     field (list_of read_count read_text any_follows) (λ t. t.reads) λ reads.
-    made (record { node = node; texts = texts; reads = reads })
+    made_of_fields (record { node = node; texts = texts; reads = reads })
 
 -- which traces have a text, and that text
 abbrev pub IsTrace : Trace → Type 0

@@ -1,5 +1,5 @@
 -- A reader's state is filled with one record more.
-use Rattle.std.proofs.Common.{◌≡◌, ◌∙◌, ℕ, ◌+◌, ◌<◌, Bool, cond, List, [], ◌∷◌, ◌++◌, length, map, take, drop, Some, refl, sym, ap, subst, arith, inl}
+use Rattle.std.proofs.Common.{◌≡◌, ◌∙◌, ℕ, ◌+◌, ◌<◌, ◌≤◌, Bool, cond, List, [], ◌∷◌, ◌++◌, length, map, take, drop, Some, refl, sym, ap, subst, arith, inl}
 use Rattle.std.specs.Prelude.{slice_get}
 use Rattle.std.proofs.lemmas.Grind.{flat_map-append}
 use Rattle.std.proofs.lemmas.List.{length-map, map-append}
@@ -56,7 +56,7 @@ module _ {S : Type 0} (verifies : Verifies) (us : List Update) (flags : List Boo
   pub few : length v.accepted < 4294967295
   few = few_updates (setting verifies v) J r v.accepted f.lawful known
 
-  pub few_foreign : length v.foreign < 4294967295
+  pub few_foreign : length v.foreign ≤ 131072
   few_foreign =
       let all = few_statements (setting verifies v) J r (foreign J) f.lawful refl in
       let left = ap length (sym f.state.foreign ∙ foreign_left ts J) in

@@ -23,23 +23,23 @@ use Rattle.depot_model.specs.Lists.{IsIn, is_among, when}
 use Rattle.depot_model.specs.Readers.{is_named_by}
 use Rattle.depot_model.proofs.Members.{among-append}
 use Rattle.depot_laws.proofs.WantedValues.{value_fits}
-use Rattle.depot_readings.specs.Named.{is_named}
+use Rattle.depot_readings.specs.Named.{is_value_named}
 use Rattle.depot_trim.specs.Trimmings.{held_of, kept_of}
 
 -- ---- one name more
 
 module _ (held : List (List ℕ)) (n : NamedValue) (wants : List ℕ → ℕ → Bool) where
   abbrev more : List ℕ → ℕ → Bool
-  more h size = wants h size || is_named n h size
+  more h size = wants h size || is_value_named n h size
 
   -- what isn't of the name is kept as before
-  same_where : (h : List ℕ) → ((v : List ℕ) → value_with h held ≡ Some v → is_named n h (length v) ≡ false) → kept_of held more h ≡ kept_of held wants h
+  same_where : (h : List ℕ) → ((v : List ℕ) → value_with h held ≡ Some v → is_value_named n h (length v) ≡ false) → kept_of held more h ≡ kept_of held wants h
   same_where h never = by_value (value_with h held) never where
-    by_value : (o : Option (List ℕ)) → ((v : List ℕ) → o ≡ Some v → is_named n h (length v) ≡ false) → option_and_then (λ v. when (wants h (length v) || is_named n h (length v)) v) o ≡ option_and_then (λ v. when (wants h (length v)) v) o
+    by_value : (o : Option (List ℕ)) → ((v : List ℕ) → o ≡ Some v → is_value_named n h (length v) ≡ false) → option_and_then (λ v. when (wants h (length v) || is_value_named n h (length v)) v) o ≡ option_and_then (λ v. when (wants h (length v)) v) o
     by_value None apart = refl
     by_value (Some v) apart = ap (λ (b : Bool). when (wants h (length v) || b) v) (apart v refl) ∙ ap (λ (b : Bool). when b v) (sym (or_none (wants h (length v))))
 
-  named_is : (h v : List ℕ) → value_with h held ≡ Some v → is_named n h (length v) ≡ true → held_of held n ≡ Some v
+  named_is : (h v : List ℕ) → value_with h held ≡ Some v → is_value_named n h (length v) ≡ true → held_of held n ≡ Some v
   named_is h v found e =
       let p = and_parts (bytes_eq n.hash h) (eqb n.size (length v)) e in
       let hash : n.hash ≡ h = (bytes_eq-Decides n.hash h).0 p.0 in
@@ -48,7 +48,7 @@ module _ (held : List (List ℕ)) (n : NamedValue) (wants : List ℕ → ℕ →
 
   -- where no value of the name is held, nothing more is kept
   pub none_more : held_of held n ≡ None → (h : List ℕ) → kept_of held more h ≡ kept_of held wants h
-  none_more none h = same_where h (λ v found. false_from_ne_true (is_named n h (length v)) (λ e. let hit = sym (named_is h v found e) ∙ none in absurd cc))
+  none_more none h = same_where h (λ v found. false_from_ne_true (is_value_named n h (length v)) (λ e. let hit = sym (named_is h v found e) ∙ none in absurd cc))
 
   -- what is held of the name has its hash and its length
   pub held_is_of : (v : List ℕ) → held_of held n ≡ Some v → (value_with n.hash held ≡ Some v) × (length v ≡ n.size)
@@ -68,8 +68,8 @@ module _ (held : List (List ℕ)) (n : NamedValue) (wants : List ℕ → ℕ →
   pub one_more : (v : List ℕ) → held_of held n ≡ Some v → kept_of held more n.hash ≡ Some v
   one_more v e =
       let is = held_is_of v e in
-      let named : is_named n n.hash (length v) ≡ true = and_from (bytes_eq n.hash n.hash) (eqb n.size (length v)) (same_bytes n.hash) (eq-eqb n.size (length v) (sym is.1)) in
-      ap (option_and_then (λ w. when (wants n.hash (length w) || is_named n n.hash (length w)) w)) is.0 ∙ ap (λ (b : Bool). when b v) (or_right (wants n.hash (length v)) (is_named n n.hash (length v)) named)
+      let named : is_value_named n n.hash (length v) ≡ true = and_from (bytes_eq n.hash n.hash) (eqb n.size (length v)) (same_bytes n.hash) (eq-eqb n.size (length v) (sym is.1)) in
+      ap (option_and_then (λ w. when (wants n.hash (length w) || is_value_named n n.hash (length w)) w)) is.0 ∙ ap (λ (b : Bool). when b v) (or_right (wants n.hash (length v)) (is_value_named n n.hash (length v)) named)
 
   -- of this hash nothing else was kept
   pub was_kept : (v w : List ℕ) → held_of held n ≡ Some v → kept_of held wants n.hash ≡ Some w → w ≡ v
@@ -80,7 +80,7 @@ module _ (held : List (List ℕ)) (n : NamedValue) (wants : List ℕ → ℕ →
 
   -- and of other hashes what was
   pub others_same : (h : List ℕ) → (h ≡ n.hash → ⊥) → kept_of held more h ≡ kept_of held wants h
-  others_same h other = same_where h (λ v found. false_from_ne_true (is_named n h (length v)) (λ e. other (sym ((bytes_eq-Decides n.hash h).0 (and_parts (bytes_eq n.hash h) (eqb n.size (length v)) e).0))))
+  others_same h other = same_where h (λ v found. false_from_ne_true (is_value_named n h (length v)) (λ e. other (sym ((bytes_eq-Decides n.hash h).0 (and_parts (bytes_eq n.hash h) (eqb n.size (length v)) e).0))))
 
 -- once the value of a name is added, whether it was new or known, what is kept is wanted by one name more
 pub one_added : {E : Type 0} (held : List (List ℕ)) (n : NamedValue) (wants : List ℕ → ℕ → Bool) (v : List ℕ) (old new : List ℕ → Option (List ℕ)) (r : Result Taken E) → held_of held n ≡ Some v

@@ -57,7 +57,7 @@ is_reading here J text ids is found = trim_from here J text (opened ids) is ∙ 
 
 pub made : {S : Type 0} (verifies : Verifies) (here : Setting) (J : List Record) (ids : List (List ℕ)) (t : Trimmed S) → IsLawful here J → is_empty J ≡ false
     → IsStateOf (pruned (trimmed J ids) J) t.state → setting verifies t.state ≡ here
-    → ((hash : List ℕ) → values.held t.values hash ≡ value_with hash (filter (is_named_by (left_of (trimmed J ids) (accepted J))) (held J)))
+    → ((hash : List ℕ) → values.held_in t.values hash ≡ value_with hash (filter (is_named_by (left_of (trimmed J ids) (accepted J))) (held J)))
     → AreNamed (left_of (trimmed J ids) (accepted J)) t.named → AreCountsOf here.me J t.counts → t.marks.list.items ≡ map mark_of (trimmed J ids) → IsReaderOf verifies (reader_of here J ids) t
 unfolding reader_of kept
 made verifies here J ids t lawful some state stands values named counts marks = record {

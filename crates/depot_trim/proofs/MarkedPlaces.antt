@@ -23,7 +23,7 @@ use Rattle.depot_model.specs.Lists.{when, is_among}
 use Rattle.depot_model.specs.Order.{prevs, parents}
 use Rattle.depot_model.specs.Texts.{id_of_update}
 use Rattle.depot_model.specs.Trimming.{names}
-use Rattle.depot_trim.specs.declared.marks.Mark.{Mark}
+use Rattle.depot_trim.specs.declared.marks.UpdateMark.{UpdateMark}
 use Rattle.depot_trim.specs.declared.marks.Name.{Name}
 use Rattle.depot_trim.specs.declared.marks.Name.TheVariants as name
 use Rattle.depot_trim.specs.MarkedNames.{name_cmp, same_name, has_name, first_place, earlier_of}
@@ -124,10 +124,10 @@ place_behind test (y ∷ ys) x = by_test (test y) (place_behind test ys x) where
   by_test true rest = refl
   by_test false rest = ap (option_map suc) rest ∙ later (first_place test ys) (test x) (length ys)
 
-pub firsts_more : (ms : List Mark) (i : ℕ) (m : Mark) (old new : Firsts) → i < length ms → m ≡ get_or ms i m → ((n : Name) → get name_cmp old n ≡ first_place (λ k. has_name k n) (take i ms))
+pub firsts_more : (ms : List UpdateMark) (i : ℕ) (m : UpdateMark) (old new : Firsts) → i < length ms → m ≡ get_or ms i m → ((n : Name) → get name_cmp old n ≡ first_place (λ k. has_name k n) (take i ms))
     → ((n : Name) → get name_cmp new n ≡ option_or (get name_cmp old n) (when (has_name m n) i)) → (n : Name) → get name_cmp new n ≡ first_place (λ k. has_name k n) (take (i + 1) ms)
 firsts_more ms i m old new low is so_far one n =
-    let test : Mark → Bool = λ k. has_name k n in
+    let test : UpdateMark → Bool = λ k. has_name k n in
     one n ∙ ap (λ (o : Option ℕ). option_or o (when (has_name m n) i)) (so_far n)
     ∙ ap (λ (k : ℕ). option_or (first_place test (take i ms)) (when (has_name m n) k)) (sym (length-take-le i ms (omega (arith, low))))
     ∙ sym (place_behind test (take i ms) m) ∙ ap (first_place test) (sym (take_next ms i m low is))
@@ -203,14 +203,14 @@ or_false true = refl
 or_false false = refl
 
 -- a mark by its id
-by_id : (h : List ℕ) (m : Mark) → has_name m (name.Id h) ≡ bytes_eq m.id h
+by_id : (h : List ℕ) (m : UpdateMark) → has_name m (name.Id h) ≡ bytes_eq m.id h
 by_id h m = same_either_way (name.Id h) (name.Id m.id)
 
-pub has_of_id : (ms : List Mark) (h : List ℕ) → is_some (first_place (λ m. has_name m (name.Id h)) ms) ≡ list_any (λ m. bytes_eq m.id h) ms
-has_of_id ms h = ap (λ (o : Option ℕ). is_some o) (place_alike (λ m. has_name m (name.Id h)) (λ m. bytes_eq m.id h) (by_id h) ms) ∙ some_place (λ (m : Mark). bytes_eq m.id h) ms
+pub has_of_id : (ms : List UpdateMark) (h : List ℕ) → is_some (first_place (λ m. has_name m (name.Id h)) ms) ≡ list_any (λ m. bytes_eq m.id h) ms
+has_of_id ms h = ap (λ (o : Option ℕ). is_some o) (place_alike (λ m. has_name m (name.Id h)) (λ m. bytes_eq m.id h) (by_id h) ms) ∙ some_place (λ (m : UpdateMark). bytes_eq m.id h) ms
 
 -- of a writer, by a seq or by a prev
-pub of_numbers : (w s : ℕ) (h : List ℕ) (ms : List Mark) → earlier_of (first_place (λ m. has_name m (name.Number w s)) ms) (first_place (λ m. has_name m (name.Prev w h)) ms) ≡ first_place (λ m. eqb w m.writer && (eqb s m.seq || bytes_eq h m.prev)) ms
+pub of_numbers : (w s : ℕ) (h : List ℕ) (ms : List UpdateMark) → earlier_of (first_place (λ m. has_name m (name.Number w s)) ms) (first_place (λ m. has_name m (name.Prev w h)) ms) ≡ first_place (λ m. eqb w m.writer && (eqb s m.seq || bytes_eq h m.prev)) ms
 of_numbers w s h ms = either_place (λ m. has_name m (name.Number w s)) (λ m. has_name m (name.Prev w h)) ms ∙ place_alike _ (λ m. eqb w m.writer && (eqb s m.seq || bytes_eq h m.prev)) (λ m. by_tests (eqb w m.writer) (eqb s m.seq) (bytes_eq h m.prev)) ms where
   by_tests : (a b c : Bool) → ((((a && b) || false) || false) || ((false || (a && c)) || false)) ≡ (a && (b || c))
   by_tests true true c = refl
@@ -219,7 +219,7 @@ of_numbers w s h ms = either_place (λ m. has_name m (name.Number w s)) (λ m. h
   by_tests false b c = refl
 
 -- a voucher, by its writer and its seq
-pub of_voucher : (v : Voucher) (ms : List Mark) → first_place (λ m. has_name m (name.Number v.node v.seq)) ms ≡ first_place (names_mark (statement.Voucher v)) ms
+pub of_voucher : (v : Voucher) (ms : List UpdateMark) → first_place (λ m. has_name m (name.Number v.node v.seq)) ms ≡ first_place (names_mark (statement.Voucher v)) ms
 unfolding names_mark
 of_voucher v ms = place_alike (λ m. has_name m (name.Number v.node v.seq)) (names_mark (statement.Voucher v)) (λ m. by_tests (eqb v.node m.writer) (eqb v.seq m.seq)) ms where
   by_tests : (a b : Bool) → (((a && b) || false) || false) ≡ (a && (b || false))
@@ -227,39 +227,39 @@ of_voucher v ms = place_alike (λ m. has_name m (name.Number v.node v.seq)) (nam
   by_tests true false = refl
   by_tests false b = refl
 
-pub of_update : (u : Update) (ms : List Mark) → earlier_of (first_place (λ m. is_among m.id (parents u)) ms) (first_place (λ m. eqb u.writer m.writer && (eqb u.seq m.seq || bytes_eq u.prev m.prev)) ms) ≡ first_place (names_mark (statement.Update u)) ms
+pub of_update : (u : Update) (ms : List UpdateMark) → earlier_of (first_place (λ m. is_among m.id (parents u)) ms) (first_place (λ m. eqb u.writer m.writer && (eqb u.seq m.seq || bytes_eq u.prev m.prev)) ms) ≡ first_place (names_mark (statement.Update u)) ms
 unfolding names_mark
-of_update u ms = either_place (λ (m : Mark). is_among m.id (parents u)) (λ m. eqb u.writer m.writer && (eqb u.seq m.seq || bytes_eq u.prev m.prev)) ms
+of_update u ms = either_place (λ (m : UpdateMark). is_among m.id (parents u)) (λ m. eqb u.writer m.writer && (eqb u.seq m.seq || bytes_eq u.prev m.prev)) ms
 
-pub of_parents : (u : Update) (ms : List Mark) → earlier_of (first_place (λ m. is_among m.id (prevs u)) ms) (first_place (λ m. is_among m.id (map (λ d. d.id) u.deps)) ms) ≡ first_place (λ m. is_among m.id (parents u)) ms
-of_parents u ms = either_place (λ (m : Mark). is_among m.id (prevs u)) (λ m. is_among m.id (map (λ d. d.id) u.deps)) ms ∙ place_alike _ (λ m. is_among m.id (parents u)) (λ m. parent_is m.id u) ms
+pub of_parents : (u : Update) (ms : List UpdateMark) → earlier_of (first_place (λ m. is_among m.id (prevs u)) ms) (first_place (λ m. is_among m.id (map (λ d. d.id) u.deps)) ms) ≡ first_place (λ m. is_among m.id (parents u)) ms
+of_parents u ms = either_place (λ (m : UpdateMark). is_among m.id (prevs u)) (λ m. is_among m.id (map (λ d. d.id) u.deps)) ms ∙ place_alike _ (λ m. is_among m.id (parents u)) (λ m. parent_is m.id u) ms
 
 -- no id names nothing, and one names its mark
-pub none_of : (ms : List Mark) → None ≡ first_place (λ m. is_among m.id []) ms
+pub none_of : (ms : List UpdateMark) → None ≡ first_place (λ m. is_among m.id []) ms
 unfolding first_place
 none_of [] = refl
 none_of (m ∷ ms) = ap (option_map suc) (none_of ms)
 
-pub of_none : (hs : List (List ℕ)) (ms : List Mark) → hs ≡ [] → None ≡ first_place (λ m. is_among m.id hs) ms
-of_none hs ms none = none_of ms ∙ ap (λ (xs : List (List ℕ)). first_place (λ (m : Mark). is_among m.id xs) ms) (sym none)
+pub of_none : (hs : List (List ℕ)) (ms : List UpdateMark) → hs ≡ [] → None ≡ first_place (λ m. is_among m.id hs) ms
+of_none hs ms none = none_of ms ∙ ap (λ (xs : List (List ℕ)). first_place (λ (m : UpdateMark). is_among m.id xs) ms) (sym none)
 
-pub of_one : (h : List ℕ) (hs : List (List ℕ)) (ms : List Mark) → hs ≡ h ∷ [] → first_place (λ m. has_name m (name.Id h)) ms ≡ first_place (λ m. is_among m.id hs) ms
+pub of_one : (h : List ℕ) (hs : List (List ℕ)) (ms : List UpdateMark) → hs ≡ h ∷ [] → first_place (λ m. has_name m (name.Id h)) ms ≡ first_place (λ m. is_among m.id hs) ms
 of_one h hs ms one =
-    place_alike (λ m. has_name m (name.Id h)) (λ m. is_among m.id (h ∷ [])) (λ m. by_id h m ∙ sym (or_false (bytes_eq m.id h))) ms ∙ ap (λ (xs : List (List ℕ)). first_place (λ (m : Mark). is_among m.id xs) ms) (sym one)
+    place_alike (λ m. has_name m (name.Id h)) (λ m. is_among m.id (h ∷ [])) (λ m. by_id h m ∙ sym (or_false (bytes_eq m.id h))) ms ∙ ap (λ (xs : List (List ℕ)). first_place (λ (m : UpdateMark). is_among m.id xs) ms) (sym one)
 
 -- and of one entry more
-pub of_more : (ds : List Dep) (i : ℕ) (d : Dep) (ms : List Mark) (old new : Option ℕ) → i < length ds → d ≡ get_or ds i d → old ≡ first_place (λ m. is_among m.id (map (λ x. x.id) (take i ds))) ms
+pub of_more : (ds : List Dep) (i : ℕ) (d : Dep) (ms : List UpdateMark) (old new : Option ℕ) → i < length ds → d ≡ get_or ds i d → old ≡ first_place (λ m. is_among m.id (map (λ x. x.id) (take i ds))) ms
     → new ≡ earlier_of old (first_place (λ m. has_name m (name.Id d.id)) ms) → new ≡ first_place (λ m. is_among m.id (map (λ x. x.id) (take (i + 1) ds))) ms
 of_more ds i d ms old new low is so_far one =
     let front : List (List ℕ) = map (λ x. x.id) (take i ds) in
     one ∙ ap (λ (o : Option ℕ). earlier_of o (first_place (λ m. has_name m (name.Id d.id)) ms)) so_far
-    ∙ either_place (λ (m : Mark). is_among m.id front) (λ m. has_name m (name.Id d.id)) ms
+    ∙ either_place (λ (m : UpdateMark). is_among m.id front) (λ m. has_name m (name.Id d.id)) ms
     ∙ place_alike _ (λ m. is_among m.id (front ++ d.id ∷ [])) (λ m. ap (λ (b : Bool). is_among m.id front || b) (by_id d.id m ∙ sym (or_false (bytes_eq m.id d.id))) ∙ sym (list_any-append (bytes_eq m.id) front (d.id ∷ []))) ms
     ∙ ap (λ (hs : List (List ℕ)). first_place (λ m. is_among m.id hs) ms) (sym (ap (map (λ x. x.id)) (take_next ds i d low is) ∙ map-append (λ (x : Dep). x.id) (take i ds) (d ∷ [])))
 
 -- the id of the first mark is that of the first update
-pub named_at : (s : Statement) (ms : List Mark) (ts : List Update) (place : Option ℕ) (found : Option (List ℕ)) → found ≡ option_map (λ m. m.id) (option_and_then (λ n. slice_get ms n) place) → place ≡ first_place (names_mark s) ms → ms ≡ map mark_of ts
+pub named_at : (s : Statement) (ms : List UpdateMark) (ts : List Update) (place : Option ℕ) (found : Option (List ℕ)) → found ≡ option_map (λ m. m.id) (option_and_then (λ n. slice_get ms n) place) → place ≡ first_place (names_mark s) ms → ms ≡ map mark_of ts
     → found ≡ option_map id_of_update (find (names s) ts)
 named_at s ms ts place found is first are =
-    is ∙ ap (λ (o : Option ℕ). option_map (λ (m : Mark). m.id) (option_and_then (λ n. slice_get ms n) o)) first ∙ ap (option_map (λ (m : Mark). m.id)) (sym (found_at (names_mark s) ms))
-    ∙ ap (λ (xs : List Mark). option_map (λ (m : Mark). m.id) (find (names_mark s) xs)) are ∙ first_is s ts
+    is ∙ ap (λ (o : Option ℕ). option_map (λ (m : UpdateMark). m.id) (option_and_then (λ n. slice_get ms n) o)) first ∙ ap (option_map (λ (m : UpdateMark). m.id)) (sym (found_at (names_mark s) ms))
+    ∙ ap (λ (xs : List UpdateMark). option_map (λ (m : UpdateMark). m.id) (find (names_mark s) xs)) are ∙ first_is s ts

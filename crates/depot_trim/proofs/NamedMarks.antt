@@ -10,7 +10,7 @@ use Rattle.depot_model.specs.Texts.{id_of_update}
 use Rattle.depot_model.specs.Lists.{is_among}
 use Rattle.depot_model.specs.Order.{prevs, parents}
 use Rattle.depot_model.specs.Trimming.{names}
-use Rattle.depot_trim.specs.declared.marks.Mark.{Mark}
+use Rattle.depot_trim.specs.declared.marks.UpdateMark.{UpdateMark}
 use Rattle.depot_trim.specs.ReaderView.{mark_of}
 use Rattle.depot_trim.specs.Naming.{names_mark}
 
@@ -20,7 +20,7 @@ mark_is_named (statement.Update u) t = refl
 mark_is_named (statement.Voucher v) t = refl
 
 -- the id of the first one that is named
-abbrev first_mark : Statement → List Mark → Option (List ℕ)
+abbrev first_mark : Statement → List UpdateMark → Option (List ℕ)
 first_mark s ms = option_map (λ m. m.id) (find (names_mark s) ms)
 
 pub first_is : (s : Statement) (ts : List Update) → option_map (λ m. m.id) (find (names_mark s) (map mark_of ts)) ≡ option_map id_of_update (find (names s) ts)

@@ -14,7 +14,7 @@ use Rattle.depot_model.specs.Opening.{unknown_leaf, ids_of, Opened, ill_at, of_r
 use Rattle.depot_model.specs.Taking.{at_start}
 use Rattle.depot_model.specs.Texts.{hash_of_roster}
 use Rattle.depot_model.proofs.CheckpointLaws.{checkpoint_lawful}
-use Rattle.depot_trim.specs.Opens.{Opens, IsOfOther, IsRead}
+use Rattle.depot_trim.specs.Opens.{Opens, IsOfOther, IsCheckpointRead}
 use Rattle.depot_trim.specs.declared.opening.OpenError.{OpenError}
 use Rattle.depot_trim.specs.declared.opening.OpenError.TheVariants as failed
 
@@ -62,7 +62,7 @@ module _ (here : Setting) (J : List Record) (text : List ℕ) where
       read_by c given mine true fits is own kept same ∙ ap (opened_unless (ids_of c)) (sym (found ∙ ap (λ (x : List Update). unknown_leaf x leaves) all ∙ ap (unknown_leaf (accepted J)) listed))
 
   -- what isn't read isn't opened
-  pub not_read : (e : OpenError) → IsRead text (Err e) → Opens here J text (Err e)
+  pub not_read : (e : OpenError) → IsCheckpointRead text (Err e) → Opens here J text (Err e)
   not_read failed.Memory r = tt
   not_read (failed.IllFormed at) r = ill_is at r
   not_read (failed.OtherRoster given mine) r = absurd r

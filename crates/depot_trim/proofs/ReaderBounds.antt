@@ -27,5 +27,5 @@ foreign_few (r ∷ J) = let one = one_foreign r in let more = foreign_few J in o
 pub few_updates : (here : Setting) (J : List Record) → IsLawful here J → length (accepted J) < 4294967295
 few_updates here J l = omega (arith, lawful_is_short here J l, few_accepted J)
 
-pub few_left : (here : Setting) (J : List Record) (T : List Update) → IsLawful here J → length (foreign (pruned T J)) < 4294967295
+pub few_left : (here : Setting) (J : List Record) (T : List Update) → IsLawful here J → length (foreign (pruned T J)) ≤ 131072
 few_left here J T l = omega (arith, lawful_is_short here J l, foreign_few J, filter_short (is_left T) (foreign J), ap length (foreign_left T J))

@@ -33,7 +33,7 @@ use Rattle.depot_laws.proofs.PrunedReadings.{accepted_same, filter_both}
 use Rattle.depot_laws.proofs.Splits.{flat_gives}
 use Rattle.depot_trim.specs.ReaderView.{mark_of, WasTrimmed, IsReaderOf}
 use Rattle.depot_trim.specs.ReaderAnswers.{IsKeptItem}
-use Rattle.depot_trim.specs.declared.marks.Mark.{Mark}
+use Rattle.depot_trim.specs.declared.marks.UpdateMark.{UpdateMark}
 use Rattle.depot_trim.specs.declared.trimmed.Trimmed.{Trimmed}
 use Rattle.depot_trim.proofs.ReaderGrowth.{trimmed_within}
 
@@ -126,7 +126,7 @@ kept_count R lawful w =
 -- ---- by an id
 
 -- a mark has the id of what was trimmed
-pub marked : (ts : List Update) (h : List ℕ) → list_any (λ (m : Mark). bytes_eq m.id h) (map mark_of ts) ≡ has_id ts h
+pub marked : (ts : List Update) (h : List ℕ) → list_any (λ (m : UpdateMark). bytes_eq m.id h) (map mark_of ts) ≡ has_id ts h
 unfolding has_id
 marked [] h = refl
 marked (t ∷ ts) h = ap (λ (b : Bool). bytes_eq (id_of_update t) h || b) (marked ts h)

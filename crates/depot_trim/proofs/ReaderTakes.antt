@@ -132,8 +132,8 @@ module _ {S : Type 0} (verifies : Verifies) (R : Reader) (t : Trimmed S) (is : I
   pub few_accepted : length t.state.accepted < 4294967295
   few_accepted = subst (λ (us : List Update). length us < 4294967295) (accepted_is verifies R t is) (few_updates R.here R.journal is.lawful)
 
-  pub few_foreign : length t.state.foreign < 4294967295
-  few_foreign = subst (λ (fs : List Signed). length fs < 4294967295) is.state.foreign (few_left R.here R.journal R.trimmed is.lawful)
+  pub few_foreign : length t.state.foreign ≤ 131072
+  few_foreign = subst (λ (fs : List Signed). length fs ≤ 131072) is.state.foreign (few_left R.here R.journal R.trimmed is.lawful)
 
   pub leaves_are_few : t.counts.leaves ≤ 131072
   leaves_are_few = omega (arith, is.counts.leaves, few_leaves R.here R.journal is.lawful)
@@ -147,7 +147,7 @@ module _ {S : Type 0} (verifies : Verifies) (R : Reader) (t : Trimmed S) (is : I
     below = trimmed_still R new is.below;
     state = subst (λ (K : List Record). IsStateOf K u.state) (sym grows) state;
     stands = stands ∙ is.stands;
-    values = λ h. ap (λ (v : Values). values.held v h) same ∙ is.values h;
+    values = λ h. ap (λ (v : Values). values.held_in v h) same ∙ is.values h;
     named = subst (λ (us : List Update). AreNamed us u.named) (sym brings) named;
     counts = counts;
     marks = marks ∙ is.marks;
@@ -165,7 +165,7 @@ module _ {S : Type 0} (verifies : Verifies) (R : Reader) (t : Trimmed S) (is : I
   some_copied (Some x) = refl
 
   -- whether a value of a hash is held, as it was looked up
-  pub hash_is_held : (v h : List ℕ) (found : Option (Bor (List ℕ))) (tells is_held : Bool) → h ≡ sha256 v → option_copied found ≡ values.held t.values h → tells ≡ is_some found → tells ≡ is_held → has_value R (sha256 v) ≡ is_held
+  pub hash_is_held : (v h : List ℕ) (found : Option (Bor (List ℕ))) (tells is_held : Bool) → h ≡ sha256 v → option_copied found ≡ values.held_in t.values h → tells ≡ is_some found → tells ≡ is_held → has_value R (sha256 v) ≡ is_held
   hash_is_held v h found tells is_held hash e some answer =
       ap (has_value R) (sym hash) ∙ ap (λ (o : Option (List ℕ)). is_some o) (sym (is.values h)) ∙ ap (λ (o : Option (List ℕ)). is_some o) (sym e) ∙ some_copied found ∙ sym some ∙ answer
 

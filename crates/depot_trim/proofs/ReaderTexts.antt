@@ -8,7 +8,7 @@ use Rattle.depot_base.specs.declared.proof.Proof.{Proof}
 use Rattle.depot_base.specs.declared.statement.Signed.{Signed}
 use Rattle.depot_base.proofs.ClosedLaws.{LawfulClosed, closing_lawful, rest_lawful}
 use Rattle.depot_model.specs.Checks.{Given, given_statement, given_proof, given_value}
-use Rattle.depot_model.specs.Readers.{Reader, told, told_as, told_of, reader_takes}
+use Rattle.depot_model.specs.Readers.{Reader, told, told_as, reader_outcome, reader_takes}
 use Rattle.depot_model.specs.Taking.{at_start, as_statement, as_proof, as_value, given_as}
 use Rattle.depot_model.specs.Texts.{signed, proof, IsSigned, IsProof, text_of_signed, text_of_proof}
 use Rattle.depot_model.proofs.TextLaws.{signed_lawful, proof_lawful}
@@ -24,7 +24,7 @@ gives_fault : {V : Type 0} (f : Closed V) (m : ℕ) → LawfulClosed f m → (gi
 gives_fault f m l give text at fault = ap (λ r. r >>= λ x. Ok (give x)) (l.stops 0 text at fault) ∙ ap (λ n. Err n) (omega arith)
 
 module _ (R : Reader) where
-  pub statement_read : (text : List ℕ) (s : Signed) → IsSigned s → text ≡ text_of_signed s → reader_takes R as_statement text ≡ told_of R (given_statement s)
+  pub statement_read : (text : List ℕ) (s : Signed) → IsSigned s → text ≡ text_of_signed s → reader_takes R as_statement text ≡ reader_outcome R (given_statement s)
   unfolding reader_takes given_as
   statement_read text s fits is = ap (told_as R) (gives_value (closing signed) _ (closing_lawful signed _ signed_lawful) (λ x. given_statement x) text s fits is)
 
@@ -32,7 +32,7 @@ module _ (R : Reader) where
   unfolding reader_takes given_as
   statement_unread text at fault = ap (told_as R) (gives_fault (closing signed) _ (closing_lawful signed _ signed_lawful) (λ x. given_statement x) text at fault)
 
-  pub proof_read : (text : List ℕ) (p : Proof) → IsProof p → text ≡ text_of_proof p → reader_takes R as_proof text ≡ told_of R (given_proof p)
+  pub proof_read : (text : List ℕ) (p : Proof) → IsProof p → text ≡ text_of_proof p → reader_takes R as_proof text ≡ reader_outcome R (given_proof p)
   unfolding reader_takes given_as
   proof_read text p fits is = ap (told_as R) (gives_value (closing proof) _ (closing_lawful proof _ proof_lawful) (λ x. given_proof x) text p fits is)
 
@@ -40,7 +40,7 @@ module _ (R : Reader) where
   unfolding reader_takes given_as
   proof_unread text at fault = ap (told_as R) (gives_fault (closing proof) _ (closing_lawful proof _ proof_lawful) (λ x. given_proof x) text at fault)
 
-  pub value_read : (v : List ℕ) → IsValue v → reader_takes R as_value v ≡ told_of R (given_value v)
+  pub value_read : (v : List ℕ) → IsValue v → reader_takes R as_value v ≡ reader_outcome R (given_value v)
   unfolding reader_takes given_as rest_of
   value_read v fits = ap (told_as R) (gives_value (rest_of 65536) _ (rest_lawful 65536) (λ x. given_value x) v v fits refl)
 

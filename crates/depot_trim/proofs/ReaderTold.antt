@@ -17,7 +17,7 @@ use Rattle.depot_model.specs.Journal.{is_wanted}
 use Rattle.depot_model.specs.Lawful.{IsLawful}
 use Rattle.depot_model.specs.Lists.{first}
 use Rattle.depot_model.specs.Pruning.{pruned, checks_to_signature, below_of, AnswersAlike}
-use Rattle.depot_model.specs.Readers.{Reader, kept, has_value, with_more, told_unless, told_as_node, told_above, told_of_value, told_of, stands_below, too_full, told}
+use Rattle.depot_model.specs.Readers.{Reader, kept, has_value, with_more, told_unless, told_as_node, told_above, told_of_value, reader_outcome, stands_below, too_full, told}
 use Rattle.depot_model.specs.Room.{full_by}
 use Rattle.depot_model.specs.Roster.{has_node}
 use Rattle.depot_model.specs.Texts.{id_of_update}
@@ -54,12 +54,12 @@ below_is here J T s new passed = below_by here J T s false false (sym (known_ali
 
 -- ---- what is told
 
-pub told_below : (R : Reader) (s : Signed) (id : List ℕ) → below_of R.here R.journal R.trimmed s ≡ Some id → told_of R (given_statement s) ≡ stands_below id
-unfolding told_of
+pub told_below : (R : Reader) (s : Signed) (id : List ℕ) → below_of R.here R.journal R.trimmed s ≡ Some id → reader_outcome R (given_statement s) ≡ stands_below id
+unfolding reader_outcome
 told_below R s id e = ap (told_above R s) e
 
-pub told_here : (R : Reader) (s : Signed) → below_of R.here R.journal R.trimmed s ≡ None → told_of R (given_statement s) ≡ told_as_node R (given_statement s)
-unfolding told_of
+pub told_here : (R : Reader) (s : Signed) → below_of R.here R.journal R.trimmed s ≡ None → reader_outcome R (given_statement s) ≡ told_as_node R (given_statement s)
+unfolding reader_outcome
 told_here R s e = ap (told_above R s) e
 
 -- where there is room for the growth
@@ -91,7 +91,7 @@ module _ (R : Reader) (l : IsLawful R.here R.journal) (w : WasTrimmed R) where
   alike_above s above = statements_alike R.here R.journal R.trimmed l (trimmed_within R w) s above
 
   -- one that is here
-  pub told_known : (s : Signed) → is_known R.here (pruned R.trimmed R.journal) (given_statement s) ≡ true → answer_to R.here (pruned R.trimmed R.journal) (given_statement s) ≡ Ok Known → told_of R (given_statement s) ≡ told (Ok Known) R
+  pub told_known : (s : Signed) → is_known R.here (pruned R.trimmed R.journal) (given_statement s) ≡ true → answer_to R.here (pruned R.trimmed R.journal) (given_statement s) ≡ Ok Known → reader_outcome R (given_statement s) ≡ told (Ok Known) R
   told_known s known answer =
       let above = known_above R.here R.journal R.trimmed s known in
       let alike = alike_above s above in
@@ -99,27 +99,27 @@ module _ (R : Reader) (l : IsLawful R.here R.journal) (w : WasTrimmed R) where
 
   -- one that fails the checks up to the signature
   pub told_early : (s : Signed) (c : Check) → is_known R.here (pruned R.trimmed R.journal) (given_statement s) ≡ false → first (checks_to_signature R.here s) ≡ Some c → answer_to R.here (pruned R.trimmed R.journal) (given_statement s) ≡ Err c → growth R.here (pruned R.trimmed R.journal) (given_statement s) ≡ []
-      → told_of R (given_statement s) ≡ told (Err c) R
+      → reader_outcome R (given_statement s) ≡ told (Err c) R
   told_early s c new failed answer none =
       let above = early_above R.here R.journal R.trimmed s c new failed in
       let alike = alike_above s above in
       told_here R s above ∙ told_plainly R (given_statement s) (Err c) (sym alike.answer ∙ answer) (sym alike.growth ∙ none)
 
 -- a proof is told as by a node
-pub told_proof : (R : Reader) (p : Proof) → told_of R (given_proof p) ≡ told_as_node R (given_proof p)
-unfolding told_of
+pub told_proof : (R : Reader) (p : Proof) → reader_outcome R (given_proof p) ≡ told_as_node R (given_proof p)
+unfolding reader_outcome
 told_proof R p = refl
 
 -- ---- values
 
-pub told_held : (R : Reader) (v : List ℕ) → has_value R (sha256 v) ≡ true → told_of R (given_value v) ≡ told (Ok Known) R
-unfolding told_of told_of_value
+pub told_held : (R : Reader) (v : List ℕ) → has_value R (sha256 v) ≡ true → reader_outcome R (given_value v) ≡ told (Ok Known) R
+unfolding reader_outcome told_of_value
 told_held R v e = rw e refl
 
-pub told_new : (R : Reader) (v : List ℕ) → has_value R (sha256 v) ≡ false → is_wanted (kept R) (sha256 v) (length v) ≡ true → told_of R (given_value v) ≡ told (Ok New) (record R { held = R.held ++ v ∷ [] })
-unfolding told_of told_of_value
+pub told_new : (R : Reader) (v : List ℕ) → has_value R (sha256 v) ≡ false → is_wanted (kept R) (sha256 v) (length v) ≡ true → reader_outcome R (given_value v) ≡ told (Ok New) (record R { held = R.held ++ v ∷ [] })
+unfolding reader_outcome told_of_value
 told_new R v e wanted = rw (e, wanted) refl
 
-pub told_unwanted : (R : Reader) (v : List ℕ) → has_value R (sha256 v) ≡ false → is_wanted (kept R) (sha256 v) (length v) ≡ false → told_of R (given_value v) ≡ told (Err (check.Unwanted (sha256 v))) R
-unfolding told_of told_of_value
+pub told_unwanted : (R : Reader) (v : List ℕ) → has_value R (sha256 v) ≡ false → is_wanted (kept R) (sha256 v) (length v) ≡ false → reader_outcome R (given_value v) ≡ told (Err (check.Unwanted (sha256 v))) R
+unfolding reader_outcome told_of_value
 told_unwanted R v e unwanted = rw (e, unwanted) refl

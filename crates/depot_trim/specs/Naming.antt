@@ -6,7 +6,7 @@ use Rattle.depot_base.specs.declared.statement.Statement.TheVariants as statemen
 use Rattle.depot_model.specs.Lists.{is_among}
 use Rattle.depot_model.specs.Order.{parents}
 use Rattle.depot_model.specs.Trimming.{has_prev}
-use Rattle.depot_trim.specs.declared.marks.Mark.{Mark}
+use Rattle.depot_trim.specs.declared.marks.UpdateMark.{UpdateMark}
 
 -- an id is that of a parent of it
 abbrev pub has_parent : Statement → List ℕ → Bool
@@ -14,5 +14,5 @@ has_parent (statement.Update u) h = is_among h (parents u)
 has_parent (statement.Voucher v) h = false
 
 -- it names the update of a mark
-unfoldable pub names_mark : Statement → Mark → Bool
+unfoldable pub names_mark : Statement → UpdateMark → Bool
 names_mark s m = has_parent s m.id || ((writer_of s == m.writer) && ((seq_of s == m.seq) || has_prev s m.prev))

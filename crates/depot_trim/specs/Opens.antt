@@ -24,8 +24,8 @@ Opens here J text (Err (failed.Unknown id)) = opened_text here J text ≡ with_u
 -- ---- on the way
 
 -- what a text is read as, before anything is asked of the node
-abbrev pub IsRead : List ℕ → Result Checkpoint OpenError → Type 0
-IsRead text (Ok c) = IsCheckpoint c × (text ≡ text_of_checkpoint c)
-IsRead text (Err failed.Memory) = Unit {0}
-IsRead text (Err (failed.IllFormed at)) = FirstFault checkpoint text at
-IsRead text (Err e) = ⊥
+abbrev pub IsCheckpointRead : List ℕ → Result Checkpoint OpenError → Type 0
+IsCheckpointRead text (Ok c) = IsCheckpoint c × (text ≡ text_of_checkpoint c)
+IsCheckpointRead text (Err failed.Memory) = Unit {0}
+IsCheckpointRead text (Err (failed.IllFormed at)) = FirstFault checkpoint text at
+IsCheckpointRead text (Err e) = ⊥

@@ -13,11 +13,11 @@ use Rattle.depot_accept.specs.StateView.{IsStateOf, setting}
 use Rattle.depot_readings.specs.Counts.{AreCountsOf}
 use Rattle.depot_readings.specs.Named.{AreNamed}
 use Rattle.depot_values.specs.Values as values
-use Rattle.depot_trim.specs.declared.marks.Mark.{Mark}
+use Rattle.depot_trim.specs.declared.marks.UpdateMark.{UpdateMark}
 use Rattle.depot_trim.specs.declared.trimmed.Trimmed.{Trimmed}
 
 -- an update that was trimmed, by what names it
-abbrev pub mark_of : Update → Mark
+abbrev pub mark_of : Update → UpdateMark
 mark_of u = record { writer = u.writer; seq = u.seq; prev = u.prev; id = id_of_update u }
 
 -- A front of the reader's journal was trimmed below these ids, and then the journal went on.
@@ -35,7 +35,7 @@ pub record IsReaderOf {S : Type 0} (verifies : Verifies) (R : Reader) (t : Trimm
   pub below : WasTrimmed R
   pub state : IsStateOf (pruned R.trimmed R.journal) t.state
   pub stands : setting verifies t.state ≡ R.here
-  pub values : (hash : List ℕ) → values.held t.values hash ≡ value_with hash R.held
+  pub values : (hash : List ℕ) → values.held_in t.values hash ≡ value_with hash R.held
   pub named : AreNamed (kept R) t.named
   pub counts : AreCountsOf R.here.me R.journal t.counts
   pub marks : t.marks.list.items ≡ map mark_of R.trimmed

@@ -28,27 +28,27 @@ abbrev pub signing_records : Setting → List Record → List ℕ → List Recor
 signing_records here J text = put_records here J (signing_changes text)
 
 -- the text is that of a checkpoint that the node may sign
-abbrev pub MaySign : Setting → List Record → List ℕ → Type 0
-MaySign here J text = (ids : List (List ℕ)) × (opened_text here J text ≡ opened ids)
+abbrev pub MaySignCheckpoint : Setting → List Record → List ℕ → Type 0
+MaySignCheckpoint here J text = (ids : List (List ℕ)) × (opened_text here J text ≡ opened ids)
 
 -- the node may sign it, and this is what the put comes to
 abbrev pub PutsCheckpoint : Setting → List Record → List ℕ → Result PutDone PutError → List Record → Type 0
-PutsCheckpoint here J text answer then = MaySign here J text × Puts here J (signing_changes text) answer then
+PutsCheckpoint here J text answer then = MaySignCheckpoint here J text × Puts here J (signing_changes text) answer then
 
 -- What a node answers where it is to sign this text, and the journal after it. Memory may stand in place of each answer, and then
 -- nothing is appended; nor is it by a stopped node.
-abbrev pub Signs : Setting → List Record → List ℕ → Result PutDone CheckpointError → List Record → Type 0
-Signs here J text (Ok done) then = PutsCheckpoint here J text (Ok done) then
-Signs here J text (Err sign.Memory) then = then ≡ J
-Signs here J text (Err sign.Disk) then = PutsCheckpoint here J text (Err put.Disk) then
-Signs here J text (Err sign.Stopped) then = then ≡ J
-Signs here J text (Err (sign.IllFormed at)) then = (opened_text here J text ≡ ill_at at) × (then ≡ J)
-Signs here J text (Err (sign.OtherRoster given mine)) then = IsOfOther here J text given mine × (then ≡ J)
-Signs here J text (Err (sign.Unknown id)) then = (opened_text here J text ≡ with_unknown id) × (then ≡ J)
-Signs here J text (Err (sign.Spent n)) then = PutsCheckpoint here J text (Err (put.Spent n)) then
-Signs here J text (Err (sign.Tips n)) then = PutsCheckpoint here J text (Err (put.Tips n)) then
-Signs here J text (Err (sign.Collides h)) then = PutsCheckpoint here J text (Err (put.Collides h)) then
-Signs here J text (Err (sign.Full what)) then = PutsCheckpoint here J text (Err (put.Full what)) then
+abbrev pub SignsCheckpoint : Setting → List Record → List ℕ → Result PutDone CheckpointError → List Record → Type 0
+SignsCheckpoint here J text (Ok done) then = PutsCheckpoint here J text (Ok done) then
+SignsCheckpoint here J text (Err sign.Memory) then = then ≡ J
+SignsCheckpoint here J text (Err sign.Disk) then = PutsCheckpoint here J text (Err put.Disk) then
+SignsCheckpoint here J text (Err sign.Stopped) then = then ≡ J
+SignsCheckpoint here J text (Err (sign.IllFormed at)) then = (opened_text here J text ≡ ill_at at) × (then ≡ J)
+SignsCheckpoint here J text (Err (sign.OtherRoster given mine)) then = IsOfOther here J text given mine × (then ≡ J)
+SignsCheckpoint here J text (Err (sign.Unknown id)) then = (opened_text here J text ≡ with_unknown id) × (then ≡ J)
+SignsCheckpoint here J text (Err (sign.Spent n)) then = PutsCheckpoint here J text (Err (put.Spent n)) then
+SignsCheckpoint here J text (Err (sign.Tips n)) then = PutsCheckpoint here J text (Err (put.Tips n)) then
+SignsCheckpoint here J text (Err (sign.Collides h)) then = PutsCheckpoint here J text (Err (put.Collides h)) then
+SignsCheckpoint here J text (Err (sign.Full what)) then = PutsCheckpoint here J text (Err (put.Full what)) then
 
 -- the call was to sign this text, and answered so; after each error but Disk nothing is appended
 abbrev pub IsSigningCall : {N : Type 0} → Ghosts N → N → N → List ℕ → Result PutDone CheckpointError → Type 0
@@ -60,7 +60,7 @@ IsSigningCall g old new text result =
 
 -- what is found before the put: the key and the value where the node may sign, or why it may not
 abbrev pub IsDue : Setting → List Record → List ℕ → Result SigningPut CheckpointError → Type 0
-IsDue here J text (Ok made) = MaySign here J text × ((made.key ≡ checkpoint_key text) × (made.value ≡ text))
+IsDue here J text (Ok made) = MaySignCheckpoint here J text × ((made.key ≡ checkpoint_key text) × (made.value ≡ text))
 IsDue here J text (Err sign.Memory) = Unit {0}
 IsDue here J text (Err (sign.IllFormed at)) = opened_text here J text ≡ ill_at at
 IsDue here J text (Err (sign.OtherRoster given mine)) = IsOfOther here J text given mine
@@ -74,15 +74,15 @@ as_unopened (open_error.IllFormed at) = sign.IllFormed at
 as_unopened (open_error.OtherRoster given mine) = sign.OtherRoster given mine
 as_unopened (open_error.Unknown id) = sign.Unknown id
 
-abbrev pub as_refusal : PutError → CheckpointError
-as_refusal put.Memory = sign.Memory
-as_refusal put.Disk = sign.Disk
-as_refusal put.Stopped = sign.Stopped
-as_refusal (put.Spent n) = sign.Spent n
-as_refusal (put.Tips n) = sign.Tips n
-as_refusal (put.Collides h) = sign.Collides h
-as_refusal (put.Full what) = sign.Full what
+abbrev pub as_checkpoint_error : PutError → CheckpointError
+as_checkpoint_error put.Memory = sign.Memory
+as_checkpoint_error put.Disk = sign.Disk
+as_checkpoint_error put.Stopped = sign.Stopped
+as_checkpoint_error (put.Spent n) = sign.Spent n
+as_checkpoint_error (put.Tips n) = sign.Tips n
+as_checkpoint_error (put.Collides h) = sign.Collides h
+as_checkpoint_error (put.Full what) = sign.Full what
 
 abbrev pub as_signed : Result PutDone PutError → Result PutDone CheckpointError
 as_signed (Ok done) = Ok done
-as_signed (Err e) = Err (as_refusal e)
+as_signed (Err e) = Err (as_checkpoint_error e)

@@ -12,13 +12,13 @@ use Rattle.depot_trim.specs.Trimmings.{given_up, kept_of}
 -- of whichever updates these flags tell that they are given up: the values are those held in the journal that the updates left name
 abbrev pub AreValuesLeft : List Record → List Bool → Values → Type 0
 AreValuesLeft J flags kept = (ts : List Update) (hash : List ℕ) → flags ≡ given_up ts (accepted J)
-    → values.held kept hash ≡ value_with hash (filter (is_named_by (left_of ts (accepted J))) (held J))
+    → values.held_in kept hash ≡ value_with hash (filter (is_named_by (left_of ts (accepted J))) (held J))
 
 -- ---- on the way
 
 -- the values are those of the held ones that are wanted
 abbrev pub AreWanted : List (List ℕ) → (List ℕ → ℕ → Bool) → Values → Type 0
-AreWanted held wants kept = (hash : List ℕ) → values.held kept hash ≡ kept_of held wants hash
+AreWanted held wants kept = (hash : List ℕ) → values.held_in kept hash ≡ kept_of held wants hash
 
 -- whichever of the held ones were kept, now those are that are wanted so, too
 abbrev pub KeepsMore : List (List ℕ) → (List ℕ → ℕ → Bool) → Values → Values → Type 0

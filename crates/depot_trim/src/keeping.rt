@@ -5,7 +5,7 @@ ghost use Rattle.depot_base.specs.declared.update.Update.{Update};
 ghost use Rattle.depot_model.specs.Contents.{names_value};
 ghost use Rattle.depot_model.specs.Journal.{accepted, held};
 ghost use Rattle.depot_model.specs.Readers.{left_of};
-ghost use Rattle.depot_readings.specs.Named.{is_named, AreNamed};
+ghost use Rattle.depot_readings.specs.Named.{is_value_named, AreNamed};
 ghost use Rattle.depot_trim.specs.Trimmings.{given_up, held_of};
 ghost use Rattle.depot_trim.specs.ValuesLeft.{AreValuesLeft, KeepsMore};
 
@@ -91,7 +91,7 @@ fn add_name<N: LocalNode>(
     name: &NamedValue,
 ) -> Result<(), Memory>
     requires { N.stopped node.now ≡ false }
-    ensures { OnOk result (KeepsMore (held (N.records node.now)) (is_named name.now) values.old values.new) }
+    ensures { OnOk result (KeepsMore (held (N.records node.now)) (is_value_named name.now) values.old values.new) }
 {
     match node.held_as(name) {
         Some(value) => add_value(alloc, values, name, value),
@@ -108,7 +108,7 @@ fn add_value(
 ) -> Result<(), Memory>
     requires sized { IsValue value.now }
     requires held { (held : List (List ℕ)) × (held_of held name.now ≡ Some value.now) }
-    ensures { OnOk result ((held : List (List ℕ)) → held_of held name.now ≡ Some value.now → KeepsMore held (is_named name.now) values.old values.new) }
+    ensures { OnOk result ((held : List (List ℕ)) → held_of held name.now ≡ Some value.now → KeepsMore held (is_value_named name.now) values.old values.new) }
 {
     let value = Value::from_bytes(Bytes::from_slice(alloc, value)?);
     values.add_hashed(name.hash, value)?;

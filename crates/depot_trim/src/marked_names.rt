@@ -8,7 +8,7 @@ ghost use Rattle.depot_model.specs.Lists.{when};
 ghost use Rattle.depot_trim.specs.declared.marks.Name.{Name};
 ghost use Rattle.depot_trim.specs.MarkedNames.{name_cmp, same_name, has_name, first_place, AreFirsts};
 
-use crate::marks::{Mark, Name};
+use crate::marks::{Name, UpdateMark};
 use depot_base::{Hash32, Memory};
 use std::alloc::Global;
 use std::collections::BTreeMap;
@@ -19,7 +19,7 @@ pub(crate) type Firsts = BTreeMap<Name, usize>;
 /// takes logarithmic time, whatever they are.
 #[derive(Drop)]
 pub struct Marks {
-    pub(crate) list: Vec<Mark>,
+    pub(crate) list: Vec<UpdateMark>,
     // Of each name the place of the first mark that has it.
     firsts: Firsts,
     ghost told: { AreFirsts list.items firsts },
@@ -27,7 +27,7 @@ pub struct Marks {
 
 impl Marks {
     /// The marks of a list.
-    pub(crate) fn new(alloc: Global, list: Vec<Mark>) -> Result<Marks, Memory>
+    pub(crate) fn new(alloc: Global, list: Vec<UpdateMark>) -> Result<Marks, Memory>
         ensures { IfOk result (λ marks. marks.list.items ≡ list.items) }
     {
         let firsts = firsts_of(alloc, list.as_slice())?;
@@ -50,7 +50,7 @@ impl Marks {
 }
 
 /// Of each name the place of the first of these marks that has it.
-fn firsts_of(alloc: Global, marks: &[Mark]) -> Result<Firsts, Memory>
+fn firsts_of(alloc: Global, marks: &[UpdateMark]) -> Result<Firsts, Memory>
     ensures { IfOk result (λ firsts. AreFirsts marks.now firsts) }
 {
     let mut firsts = BTreeMap::new(alloc);
@@ -61,7 +61,7 @@ fn firsts_of(alloc: Global, marks: &[Mark]) -> Result<Firsts, Memory>
 }
 
 /// Puts a place under each name of a mark that has none.
-fn add_names(firsts: &mut Firsts, mark: &Mark, place: usize) -> Result<(), Memory>
+fn add_names(firsts: &mut Firsts, mark: &UpdateMark, place: usize) -> Result<(), Memory>
     ensures { OnOk result ((name : Name) → get name_cmp firsts.new name ≡ option_or (get name_cmp firsts.old name) (when (has_name mark.now name) place)) }
 {
     add_name(firsts, Name::Number(mark.writer, mark.seq), place)?;

@@ -4,14 +4,18 @@ ghost use Rattle.depot_base.specs.declared.update.Update.{Update};
 ghost use Rattle.depot_trim.specs.ReaderView.{mark_of};
 
 use crate::flags::flag_at;
-use crate::marks::Mark;
+use crate::marks::UpdateMark;
 use depot_base::Memory;
 use depot_graph::Graph;
 use depot_model::Past;
 use std::alloc::Global;
 
 /// The marks of the items of a graph that are trimmed, in their order: of each item it is told whether it is.
-pub(crate) fn marks_of(alloc: Global, graph: &Graph, trimmed: &[bool]) -> Result<Vec<Mark>, Memory>
+pub(crate) fn marks_of(
+    alloc: Global,
+    graph: &Graph,
+    trimmed: &[bool],
+) -> Result<Vec<UpdateMark>, Memory>
     requires { length trimmed.now ≡ length (⟦<Graph as Past>⟧.updates graph.now) }
     ensures { IfOk result (λ marks. (test : Update → Bool) → trimmed.now ≡ map test (⟦<Graph as Past>⟧.updates graph.now) → marks.items ≡ map mark_of (filter test (⟦<Graph as Past>⟧.updates graph.now))) }
 {
@@ -25,12 +29,12 @@ pub(crate) fn marks_of(alloc: Global, graph: &Graph, trimmed: &[bool]) -> Result
 }
 
 /// The mark of an item.
-fn mark(graph: &Graph, item: u32) -> Mark
+fn mark(graph: &Graph, item: u32) -> UpdateMark
     requires { item < length (⟦<Graph as Past>⟧.updates graph.now) }
     ensures { (u : Update) → slice_get (⟦<Graph as Past>⟧.updates graph.now) item ≡ Some u → result ≡ mark_of u }
 {
     let update = graph.update(item);
-    Mark {
+    UpdateMark {
         writer: update.writer,
         seq: update.seq,
         prev: update.prev,

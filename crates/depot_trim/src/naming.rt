@@ -11,7 +11,7 @@ ghost use Rattle.depot_trim.specs.ReaderView.{mark_of};
 ghost use Rattle.depot_trim.specs.Naming.{names_mark};
 
 use crate::marked_names::Marks;
-use crate::marks::{Mark, Name};
+use crate::marks::{Name, UpdateMark};
 use depot_base::{Dep, Hash32, Statement, Update};
 
 /// The id of the first of these updates that a statement names: as a parent, or both are of one writer with one seq or one prev, 32 zero
@@ -23,7 +23,7 @@ pub(crate) fn first_named(marks: &Marks, statement: &Statement) -> Option<Hash32
 }
 
 /// The id of the mark at a place.
-fn id_at(marks: &[Mark], place: Option<usize>) -> Option<Hash32>
+fn id_at(marks: &[UpdateMark], place: Option<usize>) -> Option<Hash32>
     ensures { result ≡ option_map (λ m. m.id) (option_and_then (λ n. slice_get marks.now n) place) }
 {
     match place {

@@ -2,7 +2,7 @@
 ghost use Rattle.std.specs.Prelude.{◌≡◌, not};
 ghost use Rattle.depot_model.specs.Journal.{accepted};
 ghost use Rattle.depot_model.specs.Opening.{is_update_of, unknown_leaf};
-ghost use Rattle.depot_trim.specs.Opens.{Opens, IsRead};
+ghost use Rattle.depot_trim.specs.Opens.{Opens, IsCheckpointRead};
 
 use crate::checkpoint_text::{Checkpoint, decode_checkpoint};
 use depot_base::{DecodeError, Hash32};
@@ -52,7 +52,7 @@ pub(crate) fn opened<R: Replica>(
 
 /// The checkpoint of a text.
 fn read(alloc: Global, text: &[u8]) -> Result<Checkpoint, OpenError>
-    ensures { IsRead text.now result }
+    ensures { IsCheckpointRead text.now result }
 {
     match decode_checkpoint(alloc, text) {
         Ok(checkpoint) => Ok(checkpoint),

@@ -3,7 +3,7 @@ ghost use Rattle.std.specs.Prelude.{◌≡◌, IfOk};
 ghost use Rattle.depot_base.specs.Sized.{IsValue};
 ghost use Rattle.depot_model.specs.Journal.{accepted};
 ghost use Rattle.depot_model.specs.Checkpoints.{checkpoint_key};
-ghost use Rattle.depot_trim.specs.Signing.{IsDue, IsSigningCall, Signs, as_refusal, as_signed, as_unopened};
+ghost use Rattle.depot_trim.specs.Signing.{IsDue, IsSigningCall, SignsCheckpoint, as_checkpoint_error, as_signed, as_unopened};
 
 use crate::keys::checkpoint_key;
 use crate::opening::{OpenError, opened};
@@ -26,7 +26,7 @@ pub fn sign_checkpoint<N: LocalNode>(
     node: &mut N,
     text: &[u8],
 ) -> Result<PutDone, CheckpointError>
-    ensures signs { Signs (N.stands node.old) (N.records node.old) text.now result (N.records node.new) }
+    ensures signs { SignsCheckpoint (N.stands node.old) (N.records node.old) text.now result (N.records node.new) }
     ensures call { IsSigningCall N.NodeState node.old node.new text.now result }
 {
     if node.is_stopped() {
@@ -99,7 +99,7 @@ fn as_signed(answer: Result<PutDone, PutError>) -> Result<PutDone, CheckpointErr
 
 /// The refusal of a put as that of signing.
 fn as_refusal(refusal: PutError) -> CheckpointError
-    ensures { result ≡ as_refusal refusal }
+    ensures { result ≡ as_checkpoint_error refusal }
 {
     match refusal {
         PutError::Memory => CheckpointError::Memory,

@@ -3,7 +3,7 @@ ghost use Rattle.std.specs.Prelude.{◌≡◌};
 ghost use Rattle.depot_base.specs.Sized.{IsValue};
 ghost use Rattle.depot_model.specs.Checks.{given_statement, given_value};
 ghost use Rattle.depot_model.specs.Pruning.{pruned};
-ghost use Rattle.depot_model.specs.Readers.{Reader, told_of};
+ghost use Rattle.depot_model.specs.Readers.{Reader, reader_outcome};
 ghost use Rattle.depot_model.specs.Taking.{as_statement, as_proof, as_value};
 ghost use Rattle.depot_model.specs.Texts.{IsSigned, id_of_statement, text_of_signed};
 ghost use Rattle.depot_accept.specs.ToSignature.{PassesEarly};
@@ -41,7 +41,7 @@ impl<S: Scheme> Trimmed<S> {
         requires reader { (R : Reader) × IsReaderOf S.verifies R self.old }
         requires signed { IsSigned signed }
         requires text { text.now ≡ text_of_signed signed }
-        ensures { (R : Reader) → IsReaderOf S.verifies R self.old → Becomes S.verifies R (told_of R (given_statement signed)) result self.new }
+        ensures { (R : Reader) → IsReaderOf S.verifies R self.old → Becomes S.verifies R (reader_outcome R (given_statement signed)) result self.new }
     {
         let id = hash_of(signed.body.as_slice());
         match self.state.check_to_signature(&signed, &id) {
@@ -59,7 +59,7 @@ impl<S: Scheme> Trimmed<S> {
         requires text { text.now ≡ text_of_signed signed }
         requires id { id ≡ id_of_statement signed.statement }
         requires passed { (R : Reader) → IsReaderOf S.verifies R self.old → PassesEarly R.here (pruned R.trimmed R.journal) signed }
-        ensures { (R : Reader) → IsReaderOf S.verifies R self.old → Becomes S.verifies R (told_of R (given_statement signed)) result self.new }
+        ensures { (R : Reader) → IsReaderOf S.verifies R self.old → Becomes S.verifies R (reader_outcome R (given_statement signed)) result self.new }
     {
         if let Some(below) = first_named(&self.marks, &signed.statement) {
             return Err(TrimTake::BelowCheckpoint(below));
@@ -98,7 +98,7 @@ impl<S: Scheme> Trimmed<S> {
     /// The same of at most 65,536 bytes. They are hashed once.
     fn take_short(&mut self, bytes: &[u8]) -> Result<Taken, TrimTake>
         requires { IsValue bytes.now }
-        ensures { (R : Reader) → IsReaderOf S.verifies R self.old → Becomes S.verifies R (told_of R (given_value bytes.now)) result self.new }
+        ensures { (R : Reader) → IsReaderOf S.verifies R self.old → Becomes S.verifies R (reader_outcome R (given_value bytes.now)) result self.new }
     {
         let hash = hash_of(bytes);
         if self.values.get(&hash).is_some() {

@@ -6,7 +6,7 @@ ghost use Rattle.depot_model.specs.Journal.{accepted, named, value_with};
 ghost use Rattle.depot_model.specs.Contents.{Writes};
 ghost use Rattle.depot_model.specs.Order.{AreLatestIn};
 ghost use Rattle.depot_model.specs.Readers.{Reader, kept, seen_by_reader};
-ghost use Rattle.depot_values.specs.Values.{held as held_in};
+ghost use Rattle.depot_values.specs.Values.{held_in};
 ghost use Rattle.depot_local.specs.ShownValues.{value_seen};
 ghost use Rattle.depot_trim.specs.ReaderView.{IsReaderOf};
 ghost use Rattle.depot_trim.specs.ReaderAnswers.{IsKeptItem};
@@ -16,7 +16,7 @@ use crate::marked_names::Marks;
 use depot_accept::State;
 use depot_base::{Hash32, Key, NamedValue, Update};
 use depot_model::{Past, Scheme};
-use depot_readings::{Counts, NamedValues};
+use depot_readings::{JournalCounts, NamedValues};
 use depot_values::Values;
 use std::alloc::Global;
 
@@ -31,7 +31,7 @@ pub struct Trimmed<S: Scheme> {
     pub(crate) state: State<S>,
     pub(crate) values: Values,
     pub(crate) named: NamedValues,
-    pub(crate) counts: Counts,
+    pub(crate) counts: JournalCounts,
     pub(crate) marks: Marks,
 }
 

@@ -3,6 +3,7 @@ ghost use Rattle.std.specs.Prelude.{◌≡◌, false, OnOk};
 ghost use Rattle.depot_uses.specs.Noting.{HasNoted};
 
 use depot_base::{Key, Value};
+use depot_local::LocalNode;
 use depot_model::NodeState;
 use depot_node::{Node, PutError};
 use depot_outside::MemDisk;

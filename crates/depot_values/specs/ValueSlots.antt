@@ -14,12 +14,12 @@ abbrev pub has_slot : Slots → List ℕ → Bool
 has_slot slots hash = is_some (get bytes_eq slots hash)
 
 -- the value in the slot of this hash
-abbrev pub value_at : Slots → List ℕ → Option (List ℕ)
-value_at slots hash = option_and_then (λ slot. slot) (get bytes_eq slots hash)
+abbrev pub value_in_slot : Slots → List ℕ → Option (List ℕ)
+value_in_slot slots hash = option_and_then (λ slot. slot) (get bytes_eq slots hash)
 
 -- each value has the hash of its slot
-abbrev pub AreHashed : Slots → Type 0
-AreHashed slots = (hash value : List ℕ) → value_at slots hash ≡ Some value → sha256 value ≡ hash
+abbrev pub AreSlotsHashed : Slots → Type 0
+AreSlotsHashed slots = (hash value : List ℕ) → value_in_slot slots hash ≡ Some value → sha256 value ≡ hash
 
 -- the slot of this hash is this one, and the others stay
 pub record PutsSlot (old new : Slots) (hash : List ℕ) (slot : Option (List ℕ)) : Type 0 where

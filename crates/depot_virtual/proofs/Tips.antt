@@ -9,8 +9,8 @@ use Rattle.std.proofs.lemmas.Option.{slice_get_within}
 use Rattle.std.specs.List.{slice_get}
 use Rattle.depot_base.proofs.GeneralLaws.{from_pushed, to_pushed, same_at}
 use Rattle.depot_virtual.specs.declared.Spot.{Spot}
-use Rattle.depot_virtual.specs.Spots.{IsForest, is_item, has_child, chains_of, next_chain, place_behind, next_spot, spots, spots_behind, number_of_chains, IsTip}
-use Rattle.depot_virtual.specs.Numbered.{IsNumbered}
+use Rattle.depot_virtual.specs.Spots.{IsForest, is_item, has_child, chains_of, next_chain, place_behind, next_spot, spots, spots_behind, chains_in, IsTip}
+use Rattle.depot_virtual.specs.Numbered.{AreSpotsNumbered}
 use Rattle.depot_virtual.proofs.SpotPlaces.{at_pushed, at_set, beside_set}
 use Rattle.depot_virtual.proofs.Placing.{spot_at, Placed, Continues, Starts, next_cases, chains_start, chains_continue, all_placed, spots_next}
 
@@ -76,11 +76,11 @@ forest_next prevs prev forest earlier item p e = elim (from_pushed prevs prev it
 
 -- ---- sizes
 
-pub numbered_placed : (prevs : List (Option ℕ)) (placed : List Spot) (tips : List ℕ) → IsNumbered prevs placed tips → Placed prevs placed
+pub numbered_placed : (prevs : List (Option ℕ)) (placed : List Spot) (tips : List ℕ) → AreSpotsNumbered prevs placed tips → Placed prevs placed
 numbered_placed prevs placed tips n = subst (λ (l : List Spot). Placed prevs l) (sym n.same) (all_placed prevs)
 
 -- no more chains than items
-pub few_chains : (prevs : List (Option ℕ)) (placed : List Spot) (tips : List ℕ) → IsNumbered prevs placed tips → length tips ≤ length prevs
+pub few_chains : (prevs : List (Option ℕ)) (placed : List Spot) (tips : List ℕ) → AreSpotsNumbered prevs placed tips → length tips ≤ length prevs
 few_chains prevs placed tips n =
     let p = numbered_placed prevs placed tips n in
     let size : length placed ≡ length prevs = p.size in
@@ -122,8 +122,8 @@ written tips chain place item i low same e = let there : slice_get (set tips cha
 same_spot : (placed : List Spot) (i : ℕ) (s t : Spot) → slice_get placed i ≡ Some s → slice_get placed i ≡ Some t → s.chain ≡ t.chain
 same_spot placed i s t at also = let same : s ≡ t = cc in ap (λ (y : Spot). y.chain) same
 
-numbered_start : (prevs : List (Option ℕ)) (placed : List Spot) (tips : List ℕ) (prev : Option ℕ) → IsNumbered prevs placed tips → ((p : ℕ) → prev ≡ Some p → p < length prevs) → length prevs < 4294967295 →
-    next_spot prevs placed prev ≡ next_chain placed → ((p : ℕ) → prev ≡ Some p → has_child prevs p ≡ true) → IsNumbered (prevs ++ prev ∷ []) (placed ++ next_chain placed ∷ []) (tips ++ length prevs ∷ [])
+numbered_start : (prevs : List (Option ℕ)) (placed : List Spot) (tips : List ℕ) (prev : Option ℕ) → AreSpotsNumbered prevs placed tips → ((p : ℕ) → prev ≡ Some p → p < length prevs) → length prevs < 4294967295 →
+    next_spot prevs placed prev ≡ next_chain placed → ((p : ℕ) → prev ≡ Some p → has_child prevs p ≡ true) → AreSpotsNumbered (prevs ++ prev ∷ []) (placed ++ next_chain placed ∷ []) (tips ++ length prevs ∷ [])
 numbered_start prevs placed tips prev n earlier few next taken =
     let x : Spot = next_chain placed in
     let item : ℕ = length prevs in
@@ -161,9 +161,9 @@ numbered_start prevs placed tips prev n earlier few next taken =
       few = simp length-append (omega arith);
     }
 
-numbered_continue : (prevs : List (Option ℕ)) (placed : List Spot) (tips : List ℕ) (from : ℕ) (spot : Spot) → IsNumbered prevs placed tips → from < length prevs → length prevs < 4294967295 →
+numbered_continue : (prevs : List (Option ℕ)) (placed : List Spot) (tips : List ℕ) (from : ℕ) (spot : Spot) → AreSpotsNumbered prevs placed tips → from < length prevs → length prevs < 4294967295 →
     next_spot prevs placed (Some from) ≡ spot_at spot.chain (suc spot.place) → slice_get placed from ≡ Some spot → has_child prevs from ≡ false →
-    IsNumbered (prevs ++ Some from ∷ []) (placed ++ spot_at spot.chain (suc spot.place) ∷ []) (set tips spot.chain (length prevs))
+    AreSpotsNumbered (prevs ++ Some from ∷ []) (placed ++ spot_at spot.chain (suc spot.place) ∷ []) (set tips spot.chain (length prevs))
 numbered_continue prevs placed tips from spot n low few next at free =
     let x : Spot = spot_at spot.chain (suc spot.place) in
     let item : ℕ = length prevs in
@@ -222,7 +222,7 @@ there [] p low e = omega arith
 there (s ∷ rest) zero low e = cc
 there (s ∷ rest) (suc p) low e = there rest p (omega arith) e
 
-seen_child : (prevs : List (Option ℕ)) (placed : List Spot) (tips : List ℕ) (prev : Option ℕ) → IsNumbered prevs placed tips → ((p : ℕ) → prev ≡ Some p → p < length prevs) → Starts prevs placed prev (next_spot prevs placed prev) → (p : ℕ) → prev ≡ Some p → has_child prevs p ≡ true
+seen_child : (prevs : List (Option ℕ)) (placed : List Spot) (tips : List ℕ) (prev : Option ℕ) → AreSpotsNumbered prevs placed tips → ((p : ℕ) → prev ≡ Some p → p < length prevs) → Starts prevs placed prev (next_spot prevs placed prev) → (p : ℕ) → prev ≡ Some p → has_child prevs p ≡ true
 seen_child prevs placed tips prev n earlier s p is = elim (s.taken p is) [
   | inl child ↦ child
   | inr gone ↦
@@ -231,8 +231,8 @@ seen_child prevs placed tips prev n earlier s p is = elim (s.taken p is) [
       absurd (there placed p (omega arith) gone)
 ]
 
-going_on : (prevs : List (Option ℕ)) (placed : List Spot) (tips : List ℕ) (prev : Option ℕ) → IsNumbered prevs placed tips → ((p : ℕ) → prev ≡ Some p → p < length prevs) → length prevs < 4294967295 →
-    (c : Continues prevs placed prev (next_spot prevs placed prev)) → IsNumbered (prevs ++ prev ∷ []) (placed ++ spot_at c.spot.chain (suc c.spot.place) ∷ []) (cond (eqb (suc c.spot.place) 0) (tips ++ length prevs ∷ []) (set tips c.spot.chain (length prevs)))
+going_on : (prevs : List (Option ℕ)) (placed : List Spot) (tips : List ℕ) (prev : Option ℕ) → AreSpotsNumbered prevs placed tips → ((p : ℕ) → prev ≡ Some p → p < length prevs) → length prevs < 4294967295 →
+    (c : Continues prevs placed prev (next_spot prevs placed prev)) → AreSpotsNumbered (prevs ++ prev ∷ []) (placed ++ spot_at c.spot.chain (suc c.spot.place) ∷ []) (cond (eqb (suc c.spot.place) 0) (tips ++ length prevs ∷ []) (set tips c.spot.chain (length prevs)))
 going_on prevs placed tips prev n earlier few c =
     let later : eqb (suc c.spot.place) 0 ≡ false = grind (arith, nat_tests) in
     let next : next_spot prevs placed (Some c.item) ≡ spot_at c.spot.chain (suc c.spot.place) = ap (λ (o : Option ℕ). next_spot prevs placed o) (sym c.is) ∙ c.behind in
@@ -240,11 +240,11 @@ going_on prevs placed tips prev n earlier few c =
     rw (later, c.is) made
 
 -- what the fields keep with one item more
-pub numbered_next : (prevs : List (Option ℕ)) (placed : List Spot) (tips : List ℕ) (prev : Option ℕ) (x : Spot) → IsNumbered prevs placed tips → ((p : ℕ) → prev ≡ Some p → p < length prevs) → length prevs < 4294967295 →
-    x ≡ next_spot prevs (spots prevs) prev → IsNumbered (prevs ++ prev ∷ []) (placed ++ x ∷ []) (cond (eqb x.place 0) (tips ++ length prevs ∷ []) (set tips x.chain (length prevs)))
+pub numbered_next : (prevs : List (Option ℕ)) (placed : List Spot) (tips : List ℕ) (prev : Option ℕ) (x : Spot) → AreSpotsNumbered prevs placed tips → ((p : ℕ) → prev ≡ Some p → p < length prevs) → length prevs < 4294967295 →
+    x ≡ next_spot prevs (spots prevs) prev → AreSpotsNumbered (prevs ++ prev ∷ []) (placed ++ x ∷ []) (cond (eqb x.place 0) (tips ++ length prevs ∷ []) (set tips x.chain (length prevs)))
 numbered_next prevs placed tips prev x n earlier few is =
     let x_is : x ≡ next_spot prevs placed prev = is ∙ ap (λ (l : List Spot). next_spot prevs l prev) (sym n.same) in
-    let Goal : Spot → Type 0 = λ (y : Spot). IsNumbered (prevs ++ prev ∷ []) (placed ++ y ∷ []) (cond (eqb y.place 0) (tips ++ length prevs ∷ []) (set tips y.chain (length prevs))) in
+    let Goal : Spot → Type 0 = λ (y : Spot). AreSpotsNumbered (prevs ++ prev ∷ []) (placed ++ y ∷ []) (cond (eqb y.place 0) (tips ++ length prevs ∷ []) (set tips y.chain (length prevs))) in
     elim (next_cases prevs placed prev) [
       | inl s ↦ subst Goal (sym (x_is ∙ s.first)) (numbered_start prevs placed tips prev n earlier few s.first (seen_child prevs placed tips prev n earlier s))
       | inr c ↦ subst Goal (sym (x_is ∙ c.behind)) (going_on prevs placed tips prev n earlier few c)
@@ -257,22 +257,22 @@ by_free prevs placed item spot true free at = absurd cc
 by_free prevs placed item spot false free at = ap (λ (o : Option Spot). place_behind placed o) at
 
 -- the prev is its chain's tip: the chain goes on
-pub prev_free : (prevs : List (Option ℕ)) (placed : List Spot) (tips : List ℕ) (item : ℕ) (spot : Spot) → IsNumbered prevs placed tips → slice_get placed item ≡ Some spot → slice_get tips spot.chain ≡ Some item → next_spot prevs (spots prevs) (Some item) ≡ spot_at spot.chain (spot.place + 1)
+pub prev_free : (prevs : List (Option ℕ)) (placed : List Spot) (tips : List ℕ) (item : ℕ) (spot : Spot) → AreSpotsNumbered prevs placed tips → slice_get placed item ≡ Some spot → slice_get tips spot.chain ≡ Some item → next_spot prevs (spots prevs) (Some item) ≡ spot_at spot.chain (spot.place + 1)
 prev_free prevs placed tips item spot n at tip =
     subst (λ (l : List Spot). next_spot prevs l (Some item) ≡ spot_at spot.chain (spot.place + 1)) n.same (by_free prevs placed item spot (has_child prevs item) (n.childless item spot at tip) at)
 
-by_child : (prevs : List (Option ℕ)) (placed : List Spot) (tips : List ℕ) (item : ℕ) (spot : Spot) (other : ℕ) → IsNumbered prevs placed tips → slice_get placed item ≡ Some spot → slice_get tips spot.chain ≡ Some other → other ≢ item →
+by_child : (prevs : List (Option ℕ)) (placed : List Spot) (tips : List ℕ) (item : ℕ) (spot : Spot) (other : ℕ) → AreSpotsNumbered prevs placed tips → slice_get placed item ≡ Some spot → slice_get tips spot.chain ≡ Some other → other ≢ item →
     (b : Bool) → has_child prevs item ≡ b → cond b (next_chain placed) (place_behind placed (slice_get placed item)) ≡ next_chain placed
 by_child prevs placed tips item spot other n at tip differs true e = refl
 by_child prevs placed tips item spot other n at tip differs false e = let t : slice_get tips spot.chain ≡ Some item = n.tip item spot at e in let same : other ≡ item = cc in absurd (differs same)
 
 -- the prev isn't its chain's tip: a chain starts
-pub prev_taken : (prevs : List (Option ℕ)) (placed : List Spot) (tips : List ℕ) (item : ℕ) (spot : Spot) (other : ℕ) → IsNumbered prevs placed tips → slice_get placed item ≡ Some spot → slice_get tips spot.chain ≡ Some other → other ≢ item → next_spot prevs (spots prevs) (Some item) ≡ spot_at (number_of_chains prevs) 0
+pub prev_taken : (prevs : List (Option ℕ)) (placed : List Spot) (tips : List ℕ) (item : ℕ) (spot : Spot) (other : ℕ) → AreSpotsNumbered prevs placed tips → slice_get placed item ≡ Some spot → slice_get tips spot.chain ≡ Some other → other ≢ item → next_spot prevs (spots prevs) (Some item) ≡ spot_at (chains_in prevs) 0
 prev_taken prevs placed tips item spot other n at tip differs =
     subst (λ (l : List Spot). next_spot prevs l (Some item) ≡ spot_at (chains_of l) 0) n.same (by_child prevs placed tips item spot other n at tip differs (has_child prevs item) refl)
 
 -- nothing is kept of no items
-pub none_numbered : IsNumbered [] [] []
+pub none_numbered : AreSpotsNumbered [] [] []
 unfolding spots spots_behind
 none_numbered = record {
   same = refl;
@@ -289,18 +289,18 @@ none_numbered = record {
 pub prev_low : (prev : Option ℕ) (n p : ℕ) → IfSome prev (λ item. item < n) → prev ≡ Some p → p < n
 prev_low prev n p low e = let P : Option ℕ → Type 0 = λ o. IfSome o (λ item. item < n) in subst P e low
 
-pub size_placed : (prevs : List (Option ℕ)) (placed : List Spot) (tips : List ℕ) → IsNumbered prevs placed tips → length placed ≡ length prevs
+pub size_placed : (prevs : List (Option ℕ)) (placed : List Spot) (tips : List ℕ) → AreSpotsNumbered prevs placed tips → length placed ≡ length prevs
 size_placed prevs placed tips n = (numbered_placed prevs placed tips n).size
 
 -- the chain of an item is there
-pub chain_there : (prevs : List (Option ℕ)) (placed : List Spot) (tips : List ℕ) (item : ℕ) (spot : Spot) → IsNumbered prevs placed tips → slice_get placed item ≡ Some spot → spot.chain < length tips
+pub chain_there : (prevs : List (Option ℕ)) (placed : List Spot) (tips : List ℕ) (item : ℕ) (spot : Spot) → AreSpotsNumbered prevs placed tips → slice_get placed item ≡ Some spot → spot.chain < length tips
 chain_there prevs placed tips item spot n at = let low : spot.chain < chains_of placed = (numbered_placed prevs placed tips n).chain item spot at in let chains : length tips ≡ chains_of placed = n.chains in omega arith
 
 -- an item's place isn't above its number
-pub place_low : (prevs : List (Option ℕ)) (placed : List Spot) (tips : List ℕ) (item : ℕ) (spot : Spot) → IsNumbered prevs placed tips → slice_get placed item ≡ Some spot → spot.place ≤ item
+pub place_low : (prevs : List (Option ℕ)) (placed : List Spot) (tips : List ℕ) (item : ℕ) (spot : Spot) → AreSpotsNumbered prevs placed tips → slice_get placed item ≡ Some spot → spot.place ≤ item
 place_low prevs placed tips item spot n at = (numbered_placed prevs placed tips n).place item spot at
 
-later_place : (prevs : List (Option ℕ)) (placed : List Spot) (tips : List ℕ) (prev : Option ℕ) (x : Spot) → IsNumbered prevs placed tips → x ≡ next_spot prevs placed prev → (x.place ≡ 0 → ⊥) → x.chain < length tips
+later_place : (prevs : List (Option ℕ)) (placed : List Spot) (tips : List ℕ) (prev : Option ℕ) (x : Spot) → AreSpotsNumbered prevs placed tips → x ≡ next_spot prevs placed prev → (x.place ≡ 0 → ⊥) → x.chain < length tips
 later_place prevs placed tips prev x n is later = elim (next_cases prevs placed prev) [
   | inl s ↦ absurd (later (ap (λ (y : Spot). y.place) (is ∙ s.first)))
   | inr c ↦
@@ -310,7 +310,7 @@ later_place prevs placed tips prev x n is later = elim (next_cases prevs placed 
 ]
 
 -- behind another item of its chain, the next item has a chain that is there
-pub chain_of_later : (prevs : List (Option ℕ)) (placed : List Spot) (tips : List ℕ) (prev : Option ℕ) (x : Spot) → IsNumbered prevs placed tips → x ≡ next_spot prevs (spots prevs) prev → (x.place ≡ 0 → ⊥) → x.chain < length tips
+pub chain_of_later : (prevs : List (Option ℕ)) (placed : List Spot) (tips : List ℕ) (prev : Option ℕ) (x : Spot) → AreSpotsNumbered prevs placed tips → x ≡ next_spot prevs (spots prevs) prev → (x.place ≡ 0 → ⊥) → x.chain < length tips
 chain_of_later prevs placed tips prev x n is later = later_place prevs placed tips prev x n (is ∙ ap (λ (l : List Spot). next_spot prevs l prev) (sym n.same)) later
 
 -- the spot of the item that was added

@@ -4,7 +4,7 @@ use Rattle.depot_virtual.specs.declared.Spot.{Spot}
 use Rattle.depot_virtual.specs.Spots.{IsForest, has_child, chains_of, spots, IsTip}
 
 -- The spots are those of the prevs, and the tips are those of the chains. So an item is a tip exactly where it has no child.
-pub record IsNumbered (prevs : List (Option ℕ)) (placed : List Spot) (tips : List ℕ) : Type 0 where
+pub record AreSpotsNumbered (prevs : List (Option ℕ)) (placed : List Spot) (tips : List ℕ) : Type 0 where
   pub same : placed ≡ spots prevs
   pub chains : length tips ≡ chains_of placed
   pub last : (chain item : ℕ) → slice_get tips chain ≡ Some item → IsTip placed chain item

@@ -54,16 +54,16 @@ spots prevs = spots_behind [] [] prevs
 -- ---- chains
 
 -- the item stands at this place of this chain
-abbrev pub IsAt : List (Option ℕ) → ℕ → ℕ → ℕ → Type 0
-IsAt prevs item chain place = slice_get (spots prevs) item ≡ Some (record { chain = chain; place = place })
+abbrev pub IsSpotAt : List (Option ℕ) → ℕ → ℕ → ℕ → Type 0
+IsSpotAt prevs item chain place = slice_get (spots prevs) item ≡ Some (record { chain = chain; place = place })
 
 -- how many items with these spots a chain has
-abbrev pub chain_length : List Spot → ℕ → ℕ
-chain_length placed chain = count_by (λ s. s.chain == chain) placed
+abbrev pub spots_length : List Spot → ℕ → ℕ
+spots_length placed chain = count_by (λ s. s.chain == chain) placed
 
 -- how many chains there are
-abbrev pub number_of_chains : List (Option ℕ) → ℕ
-number_of_chains prevs = chains_of (spots prevs)
+abbrev pub chains_in : List (Option ℕ) → ℕ
+chains_in prevs = chains_of (spots prevs)
 
 -- the item is of the chain, and no later one is
 pub record IsTip (placed : List Spot) (chain item : ℕ) : Type 0 where

@@ -10,7 +10,7 @@
 
 ghost use Rattle.std.specs.Prelude.{◌≡◌, ◌<◌, ◌-◌, ◌≤◌, ◌==◌, ℕ, List, [], ◌∷◌, ◌++◌, length, Option, Some, slice_get, slice_set, OnOk, OnErr, IfOk, IfSome, IsOk, vec_len, if◌then◌else◌};
 ghost use Rattle.std.specs.Vec.{vec_capacity};
-ghost use Rattle.depot_virtual.specs.Spots.{IsForest, spots, next_spot, chain_length, number_of_chains, IsAt, IsTip, LeadsBack};
+ghost use Rattle.depot_virtual.specs.Spots.{IsForest, spots, next_spot, spots_length, chains_in, IsSpotAt, IsTip, LeadsBack};
 
 use depot_base::Memory;
 use std::alloc::Global;
@@ -37,13 +37,13 @@ impl Model for Chains {
     ghost use Rattle.std.specs.Prelude.{min, ◌-◌, vec_len};
     ghost use Rattle.std.specs.Vec.{vec_capacity};
     ghost use Rattle.depot_virtual.specs.Spots.{Forest};
-    ghost use Rattle.depot_virtual.specs.Numbered.{IsNumbered};
+    ghost use Rattle.depot_virtual.specs.Numbered.{AreSpotsNumbered};
 
     ghost Value = { Forest };
 
     ghost view = { λ c. record { prevs = c.prevs.items; room = min (vec_capacity c.prevs - vec_len c.prevs) (min (vec_capacity c.placed - vec_len c.placed) (vec_capacity c.tips - vec_len c.tips)) } };
 
-    ghost invariant = { λ c. IsNumbered c.prevs.items c.placed.items c.tips.items };
+    ghost invariant = { λ c. AreSpotsNumbered c.prevs.items c.placed.items c.tips.items };
 }
 
 impl Chains {
@@ -91,9 +91,9 @@ impl Chains {
         requires earlier { IfSome prev (λ item. item < length self.now.prevs) }
         requires few { length self.now.prevs < 4294967295 }
         ensures spot { result ≡ next_spot self.now.prevs (spots self.now.prevs) prev }
-        ensures chain { result.chain ≤ number_of_chains self.now.prevs }
-        ensures place { result.place ≡ chain_length (spots self.now.prevs) result.chain }
-        ensures behind { 0 < result.place → (p : ℕ) × ((prev ≡ Some p) × IsAt self.now.prevs p result.chain (result.place - 1)) }
+        ensures chain { result.chain ≤ chains_in self.now.prevs }
+        ensures place { result.place ≡ spots_length (spots self.now.prevs) result.chain }
+        ensures behind { 0 < result.place → (p : ℕ) × ((prev ≡ Some p) × IsSpotAt self.now.prevs p result.chain (result.place - 1)) }
     {
         self.next_spot(prev)
     }
@@ -151,7 +151,7 @@ impl Chains {
 
     /// The last item of a chain. It takes no memory.
     pub fn tip(&self, chain: u32) -> u32
-        requires { chain < number_of_chains self.now.prevs }
+        requires { chain < chains_in self.now.prevs }
         ensures { IsTip (spots self.now.prevs) chain result }
     {
         self.tips[chain as usize]
@@ -159,7 +159,7 @@ impl Chains {
 
     /// How many chains there are. It takes no memory.
     pub fn chain_count(&self) -> u32
-        ensures count { result ≡ number_of_chains self.now.prevs }
+        ensures count { result ≡ chains_in self.now.prevs }
         ensures forest { IsForest self.now.prevs }
     {
         self.tips.len() as u32
@@ -182,9 +182,9 @@ fn move_tip(tips: &mut Vec<u32>, spot: Spot, item: u32)
 /// A chain is one path by prev, with each place once, whatever the prevs are: from an item to one that stands before it
 /// in its chain lead as many steps as its place is higher.
 pub fn one_chain_is_one_path()
-    ensures path { (prevs : List (Option ℕ)) (chain a b i j : ℕ) → IsAt prevs a chain i → IsAt prevs b chain j → i < j → LeadsBack prevs (j - i) b a }
-    ensures once { (prevs : List (Option ℕ)) (chain place a b : ℕ) → IsAt prevs a chain place → IsAt prevs b chain place → a ≡ b }
-    ensures gapless { (prevs : List (Option ℕ)) (chain place lower a : ℕ) → IsAt prevs a chain place → lower ≤ place → (b : ℕ) × IsAt prevs b chain lower }
-    ensures started { (prevs : List (Option ℕ)) (chain : ℕ) → chain < number_of_chains prevs → (a : ℕ) × IsAt prevs a chain 0 }
-    ensures counted { (prevs : List (Option ℕ)) (chain place a : ℕ) → IsAt prevs a chain place → chain < number_of_chains prevs }
+    ensures path { (prevs : List (Option ℕ)) (chain a b i j : ℕ) → IsSpotAt prevs a chain i → IsSpotAt prevs b chain j → i < j → LeadsBack prevs (j - i) b a }
+    ensures once { (prevs : List (Option ℕ)) (chain place a b : ℕ) → IsSpotAt prevs a chain place → IsSpotAt prevs b chain place → a ≡ b }
+    ensures gapless { (prevs : List (Option ℕ)) (chain place lower a : ℕ) → IsSpotAt prevs a chain place → lower ≤ place → (b : ℕ) × IsSpotAt prevs b chain lower }
+    ensures started { (prevs : List (Option ℕ)) (chain : ℕ) → chain < chains_in prevs → (a : ℕ) × IsSpotAt prevs a chain 0 }
+    ensures counted { (prevs : List (Option ℕ)) (chain place a : ℕ) → IsSpotAt prevs a chain place → chain < chains_in prevs }
 {}

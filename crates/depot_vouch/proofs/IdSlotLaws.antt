@@ -18,7 +18,7 @@ use Rattle.std.proofs.lemmas.Map.Lookups.{exact_bytes}
 use Rattle.depot_model.specs.Lists.{is_among, AreTogether}
 use Rattle.depot_model.proofs.Elements.{in_at}
 use Rattle.depot_model.proofs.Members.{all_at, among_from, among_to}
-use Rattle.depot_base.proofs.GeneralLaws.{or_none, or_again}
+use Rattle.depot_base.proofs.GeneralLaws.{or_again}
 use Rattle.depot_vouch.specs.VouchedView.{AreWithin}
 use Rattle.depot_vouch.specs.IdSlots.{vouched_in, DoAscend}
 
@@ -155,10 +155,6 @@ pub marked : (es new : Entries) (id : List ℕ) → new ≡ insert_entry (slice_
 marked es new id e h = ap (λ (l : Entries). is_among h (vouched_in l)) e ∙ vouched_then es id h
 
 -- ---- the same places, and more
-
--- nothing more
-pub none_more : (ks new : List (List ℕ)) → new ≡ ks → AreTogether ks [] new
-none_more ks new e h = ap (λ (l : List (List ℕ)). is_among h l) e ∙ or_none (is_among h ks)
 
 -- an id that is there
 pub none_new : (ks : List (List ℕ)) (id : List ℕ) → is_among id ks ≡ true → AreTogether ks (id ∷ []) ks

@@ -22,5 +22,5 @@ abbrev pub with_node : List ℕ → ℕ → List ℕ
 with_node ns n = if is_one_of n ns then ns else ns ++ n ∷ []
 
 -- there is room for all nodes but those that are convicted
-pub record HasRoom (nodes count spare : ℕ) : Type 0 where
+pub record HasNodeRoom (nodes count spare : ℕ) : Type 0 where
   pub room : nodes ≤ count + spare

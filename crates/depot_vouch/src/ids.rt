@@ -17,10 +17,10 @@ use std::marker::Model;
 #[derive(Drop)]
 pub struct VouchedIds {
     // Whether each is vouched. One that isn't is one that room was found for.
-    slots: Slots,
+    slots: VoucherSlots,
 }
 
-type Slots = BTreeMap<Hash32, bool>;
+type VoucherSlots = BTreeMap<Hash32, bool>;
 
 impl Model for VouchedIds {
     ghost use Rattle.std.specs.Map.{keys_of};
@@ -80,7 +80,7 @@ impl VouchedIds {
 }
 
 /// Finds a place for each of these ids. Which ids are vouched stays.
-fn reserve_all(slots: &mut Slots, ids: &[Hash32]) -> Result<(), Memory>
+fn reserve_all(slots: &mut VoucherSlots, ids: &[Hash32]) -> Result<(), Memory>
     ensures ok { OnOk result (AreTogether (keys_of slots.old.entries) ids.now (keys_of slots.new.entries)) }
     ensures ids { vouched_in slots.new.entries ≡ vouched_in slots.old.entries }
     ensures stays { AreWithin (keys_of slots.old.entries) (keys_of slots.new.entries) }
@@ -94,7 +94,7 @@ fn reserve_all(slots: &mut Slots, ids: &[Hash32]) -> Result<(), Memory>
 }
 
 /// Finds a place for an id, if it has none.
-fn reserve_one(slots: &mut Slots, id: Hash32) -> Result<(), Memory>
+fn reserve_one(slots: &mut VoucherSlots, id: Hash32) -> Result<(), Memory>
     ensures ok { OnOk result (AreTogether (keys_of slots.old.entries) (id ∷ []) (keys_of slots.new.entries)) }
     ensures ids { vouched_in slots.new.entries ≡ vouched_in slots.old.entries }
     ensures stays { AreWithin (keys_of slots.old.entries) (keys_of slots.new.entries) }
@@ -109,7 +109,7 @@ fn reserve_one(slots: &mut Slots, id: Hash32) -> Result<(), Memory>
 }
 
 /// Marks these ids, each of which has a place, as vouched.
-fn vouch_for_all(slots: &mut Slots, ids: &[Hash32])
+fn vouch_for_all(slots: &mut VoucherSlots, ids: &[Hash32])
     requires { AreWithin ids.now (keys_of slots.old.entries) }
     ensures together { AreTogether (vouched_in slots.old.entries) ids.now (vouched_in slots.new.entries) }
     ensures places { keys_of slots.new.entries ≡ keys_of slots.old.entries }
@@ -120,7 +120,7 @@ fn vouch_for_all(slots: &mut Slots, ids: &[Hash32])
 }
 
 /// Marks an id that has a place as vouched.
-fn vouch_for(slots: &mut Slots, id: Hash32)
+fn vouch_for(slots: &mut VoucherSlots, id: Hash32)
     requires { is_among id (keys_of slots.old.entries) ≡ true }
     ensures together { AreTogether (vouched_in slots.old.entries) (id ∷ []) (vouched_in slots.new.entries) }
     ensures places { keys_of slots.new.entries ≡ keys_of slots.old.entries }

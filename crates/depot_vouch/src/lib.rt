@@ -32,13 +32,13 @@ pub struct Vouched {
 impl Model for Vouched {
     ghost use Rattle.std.specs.Prelude.{length};
     ghost use Rattle.indexmap.specs.IndexSet.{spare};
-    ghost use Rattle.depot_vouch.specs.VouchedView.{Vouching, HasRoom};
+    ghost use Rattle.depot_vouch.specs.VouchedView.{Vouching, HasNodeRoom};
 
     ghost Value = { Vouching };
 
     ghost view = { λ v. record { ids = v.ids.ids; convicted = v.convicted.keys; nodes = v.nodes } };
 
-    ghost invariant = { λ v. HasRoom v.nodes (length v.convicted.keys) (spare v.convicted) };
+    ghost invariant = { λ v. HasNodeRoom v.nodes (length v.convicted.keys) (spare v.convicted) };
 }
 
 impl Vouched {

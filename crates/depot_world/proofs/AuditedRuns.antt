@@ -5,7 +5,7 @@ use Rattle.std.specs.List.{flat_map}
 use Rattle.depot_base.specs.declared.key.RosterEntry.{RosterEntry}
 use Rattle.depot_base.specs.declared.record.Record.{Record}
 use Rattle.depot_base.specs.declared.update.Update.{Update}
-use Rattle.depot_model.specs.Audit.{Op, Finding, yes_found, unlawful, answer_found, circle_found, unordered_found, unseen_found, wrong_found, split_found, named_found, observed, operations, op_of, reads_of, pair_of, circle, is_unordered, unordered, is_unseen_by, unseen, is_exact, wrong_at, wrong, first_break, split, names_one_of, named_node, finding_in}
+use Rattle.depot_model.specs.Audit.{Op, Finding, yes_found, unlawful, answer_found, circle_found, unordered_found, unseen_found, wrong_found, split_found, named_found, observed, operations, op_of, reads_of, pair_of, circle, is_unordered, unordered, is_unseen_by, unseen, is_exact, wrong_at, wrong, first_break, split_finding, names_one_of, named_node, finding_in}
 use Rattle.depot_model.specs.Causality.{Operation, write, read_at}
 use Rattle.depot_model.specs.Checks.{Setting}
 use Rattle.depot_model.specs.Items.{AreDistinct}
@@ -142,8 +142,8 @@ of_wrong W = shows_first IsOfWorld (map (wrong_at W) (flat_map reads_of W.nodes)
   of_operation (write u) = λ y e. absurd cc
   of_operation (read_at c place r) = shows_when IsOfWorld (not (is_exact W c place r)) (wrong_found c.node place) tt
 
-of_split : (W : World) → Shows IsOfWorld (split W)
-unfolding split
+of_split : (W : World) → Shows IsOfWorld (split_finding W)
+unfolding split_finding
 of_split W = shows_first IsOfWorld (map (λ c. option_map (λ place. split_found c.node place) (first_break (convicted c.journal) [] 0 c.journal)) W.nodes)
     (shows_map IsOfWorld (λ (c : Correct). option_map (λ place. split_found c.node place) (first_break (convicted c.journal) [] 0 c.journal)) W.nodes (λ c. shows_made (λ (place : ℕ). split_found c.node place) (first_break (convicted c.journal) [] 0 c.journal) (λ place. tt)))
 
@@ -159,7 +159,7 @@ found_or_yes (Some f) holds = holds f refl
 finding_is_of_world : (W : World) → IsOfWorld (finding_in W)
 unfolding finding_in
 finding_is_of_world W =
-    let rows = circle W ∷ unordered W ∷ unseen W ∷ wrong W ∷ split W ∷ named_node W ∷ [] in
+    let rows = circle W ∷ unordered W ∷ unseen W ∷ wrong W ∷ split_finding W ∷ named_node W ∷ [] in
     found_or_yes (first rows) (shows_first IsOfWorld rows (of_circle W, (of_unordered W, (of_unseen W, (of_wrong W, (of_split W, (of_named W, tt)))))))
 
 -- what is found in the world of traces is their finding

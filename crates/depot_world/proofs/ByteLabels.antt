@@ -29,8 +29,8 @@ use Rattle.depot_schedule.specs.declared.event.HistoryWord.{HistoryWord}
 use Rattle.depot_schedule.specs.declared.event.HistoryWord.TheVariants as history_word
 use Rattle.depot_schedule.specs.declared.event.Ref.{Ref}
 use Rattle.depot_schedule.specs.EventWords.{first_or}
-use Rattle.depot_world.specs.Run.{Made, Run, made_in, bytes_of, signed_of, referred, plain_referred, id_referred}
-use Rattle.depot_world.specs.FaultySigning.{Text, no_reference, counted_bytes, all_of, prev_of, entries_of, history_by, with_history, drafted, each_once, text_of_values, update_text, updated, voucher_text, vouched_text, proof_by, proof_with, proof_text, hollow_text, flipped, flip_at}
+use Rattle.depot_world.specs.Run.{Labelled, Run, made_in, bytes_of_label, signed_of, referred, plain_referred, id_referred}
+use Rattle.depot_world.specs.FaultySigning.{Text, no_reference, counted_bytes, all_of, prev_of_ref, entries_of, history_by, with_history, drafted, each_once, text_of_values, update_text, updated, voucher_text, vouched_text, proof_of_halves, proof_with, proof_text, hollow_text, flipped, flip_at}
 use Rattle.depot_world.proofs.OnlyBytes.{OnlyBytes, only_both, only_flat, only_sha256, only_zeros}
 use Rattle.depot_world.proofs.ByteTexts.{only_id, only_update, update_statement, only_voucher, only_pair, only_hollow, only_frame, IsByteWrite}
 use Rattle.depot_world.proofs.ByteOwn.{IsByteChange, only_change_writes, only_entries, only_history}
@@ -43,13 +43,13 @@ IsByteSigned None = Unit {0}
 IsByteSigned (Some s) = OnlyBytes (text_of_signed s)
 
 -- what a label holds is made of bytes
-pub record HoldsOnly (m : Made) : Type 0 where
+pub record HoldsOnly (m : Labelled) : Type 0 where
   pub bytes : OnlyBytes m.bytes
   pub signed : IsByteSigned m.signed
 
 -- what each label of a run holds
 abbrev pub LabelsHold : Run → Type 0
-LabelsHold run = (m : Made) → IsIn m run.labels → HoldsOnly m
+LabelsHold run = (m : Labelled) → IsIn m run.labels → HoldsOnly m
 
 -- a text that an event makes is made of bytes
 pub record IsByteText (t : Text) : Type 0 where
@@ -58,23 +58,23 @@ pub record IsByteText (t : Text) : Type 0 where
 
 -- ---- what labels hold
 
-label_bytes : (ms : List Made) (label : List ℕ) → ((m : Made) → IsIn m ms → HoldsOnly m) → OnlyBytes (option_map_or (λ (m : Made). m.bytes) (made_in ms label) [])
+label_bytes : (ms : List Labelled) (label : List ℕ) → ((m : Labelled) → IsIn m ms → HoldsOnly m) → OnlyBytes (option_map_or (λ (m : Labelled). m.bytes) (made_in ms label) [])
 unfolding made_in
 label_bytes [] label hold = tt
 label_bytes (m ∷ ms) label hold = choice (bytes_eq m.label label) (label_bytes ms label (λ x on. hold x (inr on))) where
-  choice : (b : Bool) → OnlyBytes (option_map_or (λ (x : Made). x.bytes) (made_in ms label) []) → OnlyBytes (option_map_or (λ (x : Made). x.bytes) (cond b (Some m) (made_in ms label)) [])
+  choice : (b : Bool) → OnlyBytes (option_map_or (λ (x : Labelled). x.bytes) (made_in ms label) []) → OnlyBytes (option_map_or (λ (x : Labelled). x.bytes) (cond b (Some m) (made_in ms label)) [])
   choice true rest = (hold m (inl refl)).bytes
   choice false rest = rest
 
 -- the bytes of a label
-pub bytes_hold : (run : Run) (label : List ℕ) → LabelsHold run → OnlyBytes (bytes_of run label)
+pub bytes_hold : (run : Run) (label : List ℕ) → LabelsHold run → OnlyBytes (bytes_of_label run label)
 bytes_hold run label hold = label_bytes run.labels label hold
 
-label_signed : (ms : List Made) (label : List ℕ) → ((m : Made) → IsIn m ms → HoldsOnly m) → IsByteSigned (option_and_then (λ (m : Made). m.signed) (made_in ms label))
+label_signed : (ms : List Labelled) (label : List ℕ) → ((m : Labelled) → IsIn m ms → HoldsOnly m) → IsByteSigned (option_and_then (λ (m : Labelled). m.signed) (made_in ms label))
 unfolding made_in
 label_signed [] label hold = tt
 label_signed (m ∷ ms) label hold = choice (bytes_eq m.label label) (label_signed ms label (λ x on. hold x (inr on))) where
-  choice : (b : Bool) → IsByteSigned (option_and_then (λ (x : Made). x.signed) (made_in ms label)) → IsByteSigned (option_and_then (λ (x : Made). x.signed) (cond b (Some m) (made_in ms label)))
+  choice : (b : Bool) → IsByteSigned (option_and_then (λ (x : Labelled). x.signed) (made_in ms label)) → IsByteSigned (option_and_then (λ (x : Labelled). x.signed) (cond b (Some m) (made_in ms label)))
   choice true rest = (hold m (inl refl)).signed
   choice false rest = rest
 
@@ -89,7 +89,7 @@ abbrev IsByteId : Option (List ℕ) → Type 0
 IsByteId None = Unit {0}
 IsByteId (Some h) = OnlyBytes h
 
-prev_holds : (run : Run) (prev : Option Ref) → IsByteId (prev_of run prev)
+prev_holds : (run : Run) (prev : Option Ref) → IsByteId (prev_of_ref run prev)
 prev_holds run None = only_zeros 32
 prev_holds run (Some r) = of_named (referred run r) where
   of_named : (o : Option Update) → IsByteId (option_map id_of_update o)
@@ -109,7 +109,7 @@ drafted_holds seen writer seq clock p ws us h p_holds written given =
 -- an update that a faulty node signs
 pub updated_holds : (sign : Signs) (run : Run) (writer seq clock : ℕ) (prev : Option Ref) (changes : List Change) (deps : List Ref) (h : HistoryWord) → AllByRecursion IsByteChange changes → IsByteHistory h → IsByteUpdate (updated sign run writer seq clock prev changes deps h)
 unfolding updated
-updated_holds sign run writer seq clock prev changes deps h brought given = by_parts (prev_of run prev) (prev_holds run prev) (entries_of run writer deps) where
+updated_holds sign run writer seq clock prev changes deps h brought given = by_parts (prev_of_ref run prev) (prev_holds run prev) (entries_of run writer deps) where
   by_parts : (o : Option (List ℕ)) → IsByteId o → (es : Option (List Update))
       → IsByteUpdate (option_and_then (λ p. option_map (λ us. with_history (drafted writer seq clock p (map write_of changes) us) (history_by run.seen h (drafted writer seq clock p (map write_of changes) us))) es) o)
   by_parts None only es = tt
@@ -182,7 +182,7 @@ vouched_text_holds sign run node seq refs signs = by_refs (all_of (map (id_refer
 
 -- ---- proofs
 
-proof_by_holds : (kind : Kind) (a b : Signed) → OnlyBytes (text_of_signed a) → OnlyBytes (text_of_signed b) → OnlyBytes (text_of_proof (proof_by kind a b))
+proof_by_holds : (kind : Kind) (a b : Signed) → OnlyBytes (text_of_signed a) → OnlyBytes (text_of_signed b) → OnlyBytes (text_of_proof (proof_of_halves kind a b))
 proof_by_holds kind a b a_only b_only = by_order (is_below b.body a.body) where
   by_order : (x : Bool) → OnlyBytes (text_of_proof (cond x (Pair kind b a) (Pair kind a b)))
   by_order true = only_pair kind b a b_only a_only
@@ -195,18 +195,18 @@ pub proof_text_holds : (run : Run) (kind : Kind) (a b : List ℕ) → LabelsHold
 unfolding proof_text all_of
 proof_text_holds run kind a b hold = by_halves (signed_of run a) (signed_of run b) (label_signed run.labels a hold) (label_signed run.labels b hold) where
   by_halves : (x y : Option Signed) → IsByteSigned x → IsByteSigned y
-      → IsByteText (elim (all_of (x ∷ y ∷ [])) as (λ z. Text) [ Some (s ∷ t ∷ []) ↦ proof_with kind (proof_by kind s t) | others ↦ no_reference ])
+      → IsByteText (elim (all_of (x ∷ y ∷ [])) as (λ z. Text) [ Some (s ∷ t ∷ []) ↦ proof_with kind (proof_of_halves kind s t) | others ↦ no_reference ])
   by_halves None y x_only y_only = none_holds
   by_halves (Some s) None x_only y_only = none_holds
-  by_halves (Some s) (Some t) x_only y_only = proof_with_holds kind (proof_by kind s t) (proof_by_holds kind s t x_only y_only)
+  by_halves (Some s) (Some t) x_only y_only = proof_with_holds kind (proof_of_halves kind s t) (proof_by_holds kind s t x_only y_only)
 
 pub hollow_text_holds : (run : Run) (voucher plain : List ℕ) → LabelsHold run → IsByteText (hollow_text run voucher plain)
 unfolding hollow_text
-hollow_text_holds run voucher plain hold = by_voucher (signed_of run voucher) (nat_le (length (bytes_of run plain)) 65536) (label_signed run.labels voucher hold) where
+hollow_text_holds run voucher plain hold = by_voucher (signed_of run voucher) (nat_le (length (bytes_of_label run plain)) 65536) (label_signed run.labels voucher hold) where
   by_voucher : (o : Option Signed) (short : Bool) → IsByteSigned o
-      → IsByteText (elim o as (λ x. Text) [ None ↦ no_reference | Some s ↦ cond short (proof_with NotUpdate (Hollow s (bytes_of run plain))) no_reference ])
+      → IsByteText (elim o as (λ x. Text) [ None ↦ no_reference | Some s ↦ cond short (proof_with NotUpdate (Hollow s (bytes_of_label run plain))) no_reference ])
   by_voucher None short only = none_holds
-  by_voucher (Some s) true only = proof_with_holds NotUpdate (Hollow s (bytes_of run plain)) (only_hollow s (bytes_of run plain) only (bytes_hold run plain hold))
+  by_voucher (Some s) true only = proof_with_holds NotUpdate (Hollow s (bytes_of_label run plain)) (only_hollow s (bytes_of_label run plain) only (bytes_hold run plain hold))
   by_voucher (Some s) false only = none_holds
 
 -- ---- a byte changed

@@ -4,7 +4,7 @@ use Rattle.std.proofs.lemmas.Bool.{ne_eqb}
 use Rattle.std.specs.List.{AllByRecursion, flat_map}
 use Rattle.std.specs.Int.{w8, w16, w32, w64}
 use Rattle.depot_base.specs.Cursor.{numeral}
-use Rattle.depot_base.specs.Format.{number, bytes_of, field, made, choose, list_of}
+use Rattle.depot_base.specs.Format.{number, bytes_of, field, made_of_fields, choose, list_of}
 use Rattle.depot_base.specs.Parts.{dep, digest, node_number, write, write_rises, hash_in, size_in}
 use Rattle.depot_base.specs.Shown.{shown_second, text_shown}
 use Rattle.depot_base.specs.Writes.{is_put, value_in, values_in}
@@ -206,7 +206,7 @@ statement_in_signed s only = (joined_only (signed_parts s) (subst OnlyBytes (sig
 pub only_pair : (kind : Kind) (a b : Signed) → OnlyBytes (text_of_signed a) → OnlyBytes (text_of_signed b) → OnlyBytes (text_of_proof (Pair kind a b))
 unfolding proof number bytes_of
 only_pair kind a b first second = only_both (numeral w8 1) _ (only_numeral w8 1) (only_both (numeral w8 (number_of_kind kind)) _ (only_numeral w8 (number_of_kind kind)) (only_both (text_of_signed a) _ first (by_kind (eqb (number_of_kind kind) 4)))) where
-  by_kind : (b_ : Bool) → OnlyBytes ((choose b_ (field (number w32 0 MOST_VALUE) (λ p. length (text_shown p)) λ text_length. field (bytes_of text_length) text_shown λ text. made (Hollow a text)) (field signed shown_second λ other. made (Pair (kind_of_number (number_of_kind kind)) a other))).text (Pair kind a b))
+  by_kind : (b_ : Bool) → OnlyBytes ((choose b_ (field (number w32 0 MOST_VALUE) (λ p. length (text_shown p)) λ text_length. field (bytes_of text_length) text_shown λ text. made_of_fields (Hollow a text)) (field signed shown_second λ other. made_of_fields (Pair (kind_of_number (number_of_kind kind)) a other))).text (Pair kind a b))
   by_kind true = only_joined (numeral w32 0 ∷ [] ∷ []) (only_numeral w32 0, (tt, tt))
   by_kind false = only_joined (text_of_signed b ∷ []) (second, tt)
 

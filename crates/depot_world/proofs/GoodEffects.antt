@@ -36,7 +36,7 @@ use Rattle.depot_laws.proofs.TrueReceipts.{silent_is_true, vouchers_put_none}
 use Rattle.depot_answers.specs.AnswerTexts.{text_of_limit, text_of_put}
 use Rattle.depot_base.proofs.GeneralLaws.{all_both}
 use Rattle.depot_model.specs.ShownWrites.{shown_of}
-use Rattle.depot_world.specs.Effects.{idle, grown, put_by, read_of, get_by, hello_by, bundle_with, bundle_by, fed_by, give_by, restart_by, receipt_with, receipt_by, settled_by, checkpoint_changes, giving_unless, checkpoint_with, checkpoint_by, sign_with, sign_by}
+use Rattle.depot_world.specs.Effects.{idle, grown, put_by, read_at_end, get_by, hello_by, bundle_with, bundle_by, fed_by, give_by, restart_by, receipt_with, receipt_by, settled_by, checkpoint_changes, giving_unless, checkpoint_with, checkpoint_by, sign_with, sign_by}
 use Rattle.depot_model.specs.LatestList.{latest_in}
 use Rattle.depot_world.specs.ScheduleStops.{Effect}
 use Rattle.depot_world.specs.Setups.{Setup, stands_on}
@@ -150,7 +150,7 @@ sign_is_good setup c text g only = by_opened (opened_text here c.journal text) r
 
 -- ---- reads
 
-pub read_is : (here : Setting) (J : List Record) (key : List ℕ) → IsLawful here J → is_empty J ≡ false → IsRead J (read_of J key)
+pub read_is : (here : Setting) (J : List Record) (key : List ℕ) → IsLawful here J → is_empty J ≡ false → IsRead J (read_at_end J key)
 read_is here J key l some =
     let whole_J : take (length J) J ≡ J = take-length J in
     let us = latest_in key (accepted J) in
@@ -182,11 +182,11 @@ unfolding get_by
 get_is_good setup c key g = record {
   grown = grown_none c.journal;
   lawful = g.lawful;
-  reads = λ r on. elim (in_pushed r c.reads (read_of c.journal key) on) [
+  reads = λ r on. elim (in_pushed r c.reads (read_at_end c.journal key) on) [
     | inl old ↦ g.reads r old
     | inr now ↦ subst (λ (x : Read). IsRead c.journal x) now (read_is (stands_on setup c.node) c.journal key g.lawful g.begun)
   ];
-  in_order = never_falls c.reads (read_of c.journal key) g.in_order (λ s on. (g.reads s on).within);
+  in_order = never_falls c.reads (read_at_end c.journal key) g.in_order (λ s on. (g.reads s on).within);
   holds = g.holds;
   receipts = g.receipts;
   bytes = tt;

@@ -22,7 +22,7 @@ use Rattle.depot_schedule.specs.declared.event.HistoryWord.{HistoryWord}
 use Rattle.depot_schedule.specs.declared.event.Ref.{Ref}
 use Rattle.depot_answers.specs.AnswerTexts.{spaced}
 use Rattle.depot_world.specs.Effects.{put_by, get_by, hello_by, bundle_by, give_by, restart_by, receipt_by, settled_by, checkpoint_by, sign_by}
-use Rattle.depot_world.specs.Run.{Host, Run, host_in, bytes_of, reader_in, put_reader, referred, seen_with, with_host}
+use Rattle.depot_world.specs.Run.{Host, Run, host_in, bytes_of_label, reader_in, put_reader, referred, seen_with, with_host}
 use Rattle.depot_world.specs.FaultySigning.{counted_bytes, no_reference, update_text, updated, vouched_text, proof_text, hollow_text, proof_in, flip_at, all_referred}
 use Rattle.depot_world.specs.ScheduleStops.{Effect}
 use Rattle.depot_world.specs.Setups.{Setup, stands_on, signs_on}
@@ -71,11 +71,11 @@ read_keeps setup run (Ok p) g formed = by_point (first_failed_point setup.suite.
   by_point (Some f) is = g
   by_point None is = verdict_keeps setup run p g (record { formed = formed p refl; judged = is })
 
-judge_keeps : (setup : Setup) (run : Run) (label : List ℕ) → IsGoodRun setup run → IsGoodRun setup (judged_with setup run (proof_in (bytes_of run label))).run
+judge_keeps : (setup : Setup) (run : Run) (label : List ℕ) → IsGoodRun setup run → IsGoodRun setup (judged_with setup run (proof_in (bytes_of_label run label))).run
 judge_keeps setup run label g =
-    let payload = drop 5 (bytes_of run label) in
-    read_keeps setup run (proof_in (bytes_of run label)) g
-    (λ p is. (whole_takes proof _ proof_lawful (record { at = 0; rest = payload }) p (by_places payload (only_drop 5 (bytes_of run label) (bytes_hold run label g.labels))) is).0)
+    let payload = drop 5 (bytes_of_label run label) in
+    read_keeps setup run (proof_in (bytes_of_label run label)) g
+    (λ p is. (whole_takes proof _ proof_lawful (record { at = 0; rest = payload }) p (by_places payload (only_drop 5 (bytes_of_label run label) (bytes_hold run label g.labels))) is).0)
 
 -- ---- all events
 
@@ -128,10 +128,10 @@ event_keeps setup run (event.Puts node changes) signs only g = node_keeps setup 
 event_keeps setup run (event.Get node key) signs only g = node_keeps setup run node None (λ s. get_by s.correct key) g (λ s same good. get_is_good setup s.correct key good)
 event_keeps setup run (event.Hello node label) signs only g = node_keeps setup run node (Some label) (λ s. hello_by (stands_on setup node) s.correct) g
     (λ s same good. at_number setup s node (λ n. hello_by (stands_on setup n) s.correct) same (hello_is_good setup s.correct good))
-event_keeps setup run (event.Bundle node hello label) signs only g = node_keeps setup run node (Some label) (λ s. bundle_by (stands_on setup node) (signs_on setup node) s.correct (bytes_of run hello)) g
-    (λ s same good. at_number setup s node (λ n. bundle_by (stands_on setup n) (signs_on setup node) s.correct (bytes_of run hello)) same (bundle_is_good setup s.correct (signs_on setup node) (bytes_of run hello) good (signs node)))
-event_keeps setup run (event.Give node label size) signs only g = node_keeps setup run node None (λ s. give_by (stands_on setup node) s.correct (bytes_of run label)) g
-    (λ s same good. at_number setup s node (λ n. give_by (stands_on setup n) s.correct (bytes_of run label)) same (give_is_good setup s.correct (bytes_of run label) good (bytes_hold run label g.labels)))
+event_keeps setup run (event.Bundle node hello label) signs only g = node_keeps setup run node (Some label) (λ s. bundle_by (stands_on setup node) (signs_on setup node) s.correct (bytes_of_label run hello)) g
+    (λ s same good. at_number setup s node (λ n. bundle_by (stands_on setup n) (signs_on setup node) s.correct (bytes_of_label run hello)) same (bundle_is_good setup s.correct (signs_on setup node) (bytes_of_label run hello) good (signs node)))
+event_keeps setup run (event.Give node label size) signs only g = node_keeps setup run node None (λ s. give_by (stands_on setup node) s.correct (bytes_of_label run label)) g
+    (λ s same good. at_number setup s node (λ n. give_by (stands_on setup n) s.correct (bytes_of_label run label)) same (give_is_good setup s.correct (bytes_of_label run label) good (bytes_hold run label g.labels)))
 event_keeps setup run (event.Restart node) signs only g = node_keeps setup run node None (λ s. restart_by s.correct) g (λ s same good. restart_is_good setup s.correct good)
 event_keeps setup run (event.Update label writer seq clock prev key value deps history) signs only g =
     changes_keep setup run label writer seq clock prev (one_change key value) deps history (signs writer) only.0 only.1 g
@@ -142,21 +142,21 @@ event_keeps setup run (event.Hollow label voucher plain) signs only g = text_kee
 event_keeps setup run (event.Judge label) signs only g = judge_keeps setup run label g
 event_keeps setup run (event.Raw label bytes) signs only g = text_keeps setup run label (counted_bytes bytes) g (counted_holds bytes only)
 event_keeps setup run (event.Cut label source start count) signs only g =
-    let part = take count (drop start (bytes_of run source)) in
-    text_keeps setup run label (counted_bytes part) g (counted_holds part (only_take count (drop start (bytes_of run source)) (only_drop start (bytes_of run source) (bytes_hold run source g.labels))))
+    let part = take count (drop start (bytes_of_label run source)) in
+    text_keeps setup run label (counted_bytes part) g (counted_holds part (only_take count (drop start (bytes_of_label run source)) (only_drop start (bytes_of_label run source) (bytes_hold run source g.labels))))
 event_keeps setup run (event.Flip label source place) signs only g =
-    text_keeps setup run label (counted_bytes (flip_at place (bytes_of run source))) g (counted_holds (flip_at place (bytes_of run source)) (flip_holds place (bytes_of run source) (bytes_hold run source g.labels)))
+    text_keeps setup run label (counted_bytes (flip_at place (bytes_of_label run source))) g (counted_holds (flip_at place (bytes_of_label run source)) (flip_holds place (bytes_of_label run source) (bytes_hold run source g.labels)))
 event_keeps setup run (event.Join label first second) signs only g =
-    text_keeps setup run label (counted_bytes (bytes_of run first ++ bytes_of run second)) g
-    (counted_holds (bytes_of run first ++ bytes_of run second) (only_both (bytes_of run first) (bytes_of run second) (bytes_hold run first g.labels) (bytes_hold run second g.labels)))
+    text_keeps setup run label (counted_bytes (bytes_of_label run first ++ bytes_of_label run second)) g
+    (counted_holds (bytes_of_label run first ++ bytes_of_label run second) (only_both (bytes_of_label run first) (bytes_of_label run second) (bytes_hold run first g.labels) (bytes_hold run second g.labels)))
 event_keeps setup run (event.Stop node call image) signs only g = pending_keeps setup run node call image g
 event_keeps setup run (event.Receipt node refs) signs only g = receipts_keep setup run node refs (all_referred run refs) refl only.0 only.1 g
 event_keeps setup run (event.Settled node reference k) signs only g = settled_keeps setup run node k (referred run reference) g
 event_keeps setup run event.Audit signs only g = g
 event_keeps setup run (event.Checkpoint node label) signs only g = node_keeps setup run node (Some label) (λ s. checkpoint_by (stands_on setup node) s.correct) g
     (λ s same good. at_number setup s node (λ n. checkpoint_by (stands_on setup n) s.correct) same (checkpoint_is_good setup s.correct good))
-event_keeps setup run (event.Sign node label) signs only g = node_keeps setup run node None (λ s. sign_by (stands_on setup node) s.correct (bytes_of run label)) g
-    (λ s same good. at_number setup s node (λ n. sign_by (stands_on setup n) s.correct (bytes_of run label)) same (sign_is_good setup s.correct (bytes_of run label) good (bytes_hold run label g.labels)))
-event_keeps setup run (event.Trim node label name) signs only g = trim_keeps setup run node (bytes_of run label) name g
-event_keeps setup run (event.Tgive name label) signs only g = tgive_keeps setup run name (bytes_of run label) g
+event_keeps setup run (event.Sign node label) signs only g = node_keeps setup run node None (λ s. sign_by (stands_on setup node) s.correct (bytes_of_label run label)) g
+    (λ s same good. at_number setup s node (λ n. sign_by (stands_on setup n) s.correct (bytes_of_label run label)) same (sign_is_good setup s.correct (bytes_of_label run label) good (bytes_hold run label g.labels)))
+event_keeps setup run (event.Trim node label name) signs only g = trim_keeps setup run node (bytes_of_label run label) name g
+event_keeps setup run (event.Tgive name label) signs only g = tgive_keeps setup run name (bytes_of_label run label) g
 event_keeps setup run (event.Tget name key) signs only g = g

@@ -14,7 +14,7 @@ use Rattle.depot_laws.proofs.Splits.{lawful_front}
 use Rattle.depot_laws.proofs.Tests.{all_left}
 use Rattle.depot_laws.proofs.TrueReceipts.{front_is_true}
 use Rattle.depot_world.specs.Run.{PendingStop, Host}
-use Rattle.depot_world.specs.ScheduleStops.{Effect, EventResult, standing_after, left_of, result_by, stopped_with, result_pending, event_result}
+use Rattle.depot_world.specs.ScheduleStops.{Effect, EventResult, standing_after, journal_left, result_by, stopped_with, result_pending, event_result}
 use Rattle.depot_world.specs.Setups.{Setup, stands_on}
 use Rattle.depot_world.proofs.OnlyBytes.{OnlyBytes}
 use Rattle.depot_world.proofs.ByteJournals.{HoldsBytes, AllHold}
@@ -64,7 +64,7 @@ record HasLeft (J K left : List Record) : Type 0 where
   pub rest : List Record
   pub is : K ≡ left ++ rest
 
-left_behind : (J K : List Record) (a : PendingStop) → IsGrown J K → HasLeft J K (left_of J K a)
+left_behind : (J K : List Record) (a : PendingStop) → IsGrown J K → HasLeft J K (journal_left J K a)
 left_behind J K a e =
     let n = standing_after a in
     let new : drop (length J) K ≡ e.more = ap (λ (x : List Record). drop (length J) x) e.is ∙ drop-append_seam J e.more in
@@ -83,11 +83,11 @@ pub record IsGoodResult (setup : Setup) (s : Host) (w : EventResult) : Type 0 wh
   pub good : IsGoodNode setup w.host.correct
   pub bytes : OnlyBytes w.bytes
 
-stopped_is_good : (setup : Setup) (s : Host) (d : Effect) (a : PendingStop) → IsGoodNode setup s.correct → IsGoodEffect setup s.correct d → IsGoodResult setup s (stopped_with s (left_of s.correct.journal d.journal a))
+stopped_is_good : (setup : Setup) (s : Host) (d : Effect) (a : PendingStop) → IsGoodNode setup s.correct → IsGoodEffect setup s.correct d → IsGoodResult setup s (stopped_with s (journal_left s.correct.journal d.journal a))
 stopped_is_good setup s d a g effect =
     let J = s.correct.journal in
     let l = left_behind J d.journal a effect.grown in
-    let left = left_of J d.journal a in
+    let left = journal_left J d.journal a in
     record {
       same = refl;
       good = record {
@@ -111,7 +111,7 @@ result_is_good setup s pending d g effect = record {
 
 pending_is_good : (setup : Setup) (s : Host) (d : Effect) (a : PendingStop) → IsGoodNode setup s.correct → IsGoodEffect setup s.correct d → IsGoodResult setup s (result_pending s d a)
 pending_is_good setup s d a g effect = by_call (leb a.call d.calls) (stopped_is_good setup s d a g effect) where
-  by_call : (b : Bool) → IsGoodResult setup s (stopped_with s (left_of s.correct.journal d.journal a)) → IsGoodResult setup s (cond b (stopped_with s (left_of s.correct.journal d.journal a)) (result_by s (Some (record { call = a.call - d.calls; image = a.image })) d))
+  by_call : (b : Bool) → IsGoodResult setup s (stopped_with s (journal_left s.correct.journal d.journal a)) → IsGoodResult setup s (cond b (stopped_with s (journal_left s.correct.journal d.journal a)) (result_by s (Some (record { call = a.call - d.calls; image = a.image })) d))
   by_call true stopped = stopped
   by_call false stopped = result_is_good setup s (Some (record { call = a.call - d.calls; image = a.image })) d g effect
 

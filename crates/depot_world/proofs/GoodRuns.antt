@@ -8,11 +8,11 @@ use Rattle.depot_model.specs.Judgement.{first_failed_point}
 use Rattle.depot_model.specs.Lists.{IsIn}
 use Rattle.depot_model.specs.Texts.{IsProof}
 use Rattle.depot_model.proofs.Members.{in_pushed}
-use Rattle.depot_world.specs.Run.{Host, Made, NamedReader, Run, host_in, put_host, with_label, with_host}
+use Rattle.depot_world.specs.Run.{Host, Labelled, NamedReader, Run, host_in, put_host, with_label, with_host}
 use Rattle.depot_world.specs.FaultySigning.{Text}
 use Rattle.depot_world.specs.ScheduleStops.{Effect, EventResult, event_result}
 use Rattle.depot_world.specs.Setups.{Setup}
-use Rattle.depot_world.specs.Transcript.{Done, done_by_node, by_node, done_by_text}
+use Rattle.depot_world.specs.Transcript.{Done, done_by_node, done_at_node, done_by_text}
 use Rattle.depot_world.proofs.OnlyBytes.{OnlyBytes}
 use Rattle.depot_world.proofs.ByteLabels.{HoldsOnly, IsByteSigned, IsByteText}
 use Rattle.depot_world.proofs.GoodNodes.{IsGoodNode, IsGoodEffect, IsGoodResult, events_keep_nodes}
@@ -30,7 +30,7 @@ pub record IsJudged (setup : Setup) (p : Proof) : Type 0 where
 pub record IsGoodRun (setup : Setup) (run : Run) : Type 0 where
   pub distinct : AreDistinct (numbers_of run.hosts)
   pub hosts : (s : Host) → IsIn s run.hosts → IsGoodNode setup s.correct
-  pub labels : (m : Made) → IsIn m run.labels → HoldsOnly m
+  pub labels : (m : Labelled) → IsIn m run.labels → HoldsOnly m
   pub judged : (p : Proof) → IsIn p run.judged → IsJudged setup p
 
 -- ---- hosts
@@ -83,7 +83,7 @@ host_keeps setup run s g good = record {
 
 -- ---- labels
 
-pub label_keeps : (setup : Setup) (run : Run) (new : Made) → IsGoodRun setup run → OnlyBytes new.bytes → IsByteSigned new.signed → IsGoodRun setup (with_label run new)
+pub label_keeps : (setup : Setup) (run : Run) (new : Labelled) → IsGoodRun setup run → OnlyBytes new.bytes → IsByteSigned new.signed → IsGoodRun setup (with_label run new)
 label_keeps setup run new g only signed_only = record {
   distinct = g.distinct;
   hosts = g.hosts;
@@ -114,8 +114,8 @@ result_keeps setup run None s w g good = host_keeps setup run w.host g good.good
 result_keeps setup run (Some label) s w g good = label_keeps setup (with_host run w.host) (record { label = label; bytes = w.bytes; signed = None; plain = false }) (host_keeps setup run w.host g good.good) good.bytes tt
 
 -- an event of a node that does what is good for that node
-pub node_keeps : (setup : Setup) (run : Run) (node : ℕ) (label : Option (List ℕ)) (effect : Host → Effect) → IsGoodRun setup run → ((s : Host) → s.correct.node ≡ node → IsGoodNode setup s.correct → IsGoodEffect setup s.correct (effect s)) → IsGoodRun setup (by_node run node label effect).run
-unfolding by_node
+pub node_keeps : (setup : Setup) (run : Run) (node : ℕ) (label : Option (List ℕ)) (effect : Host → Effect) → IsGoodRun setup run → ((s : Host) → s.correct.node ≡ node → IsGoodNode setup s.correct → IsGoodEffect setup s.correct (effect s)) → IsGoodRun setup (done_at_node run node label effect).run
+unfolding done_at_node
 node_keeps setup run node label effect g good = by_host (host_in run.hosts node) refl where
   by_host : (o : Option Host) → host_in run.hosts node ≡ o → IsGoodRun setup (elim o as (λ x. Done) [ None ↦ record { answer = []; behind = []; run = run } | Some s ↦ done_by_node run label (event_result s (effect s)) ]).run
   by_host None none = g

@@ -24,3 +24,4 @@ pub mod EffectGrowth
 pub mod ReadCounts
 pub mod SoundRuns
 pub mod AuditedRuns
+pub mod AlikeRuns

@@ -33,7 +33,7 @@ use Rattle.depot_model.specs.LatestList.{latest_in}
 use Rattle.depot_world.specs.Run.{run_of, world_by, host_in, seen_with, put_host, with_host}
 use Rattle.depot_world.specs.ScheduleStops.{event_result}
 use Rattle.depot_world.specs.Setups.{suite_of, seed_of, setup_of}
-use Rattle.depot_world.specs.Transcript.{by_node, done, run_after, world_of}
+use Rattle.depot_world.specs.Transcript.{done_at_node, done, run_after, world_of}
 use Rattle.depot_world.proofs.GoodWorlds.{schedule_world_is_causal, schedule_world_convicts_none}
 use Rattle.depot_world.proofs.OnlyBytes.{by_places}
 
@@ -63,7 +63,7 @@ record Computes : Type 0 where
   pub first_bytes : map (λ (text : List ℕ). take 1 (sha256 text)) (hashed_texts (world_of put_and_get)) ≡ (223 ∷ []) ∷ (202 ∷ []) ∷ []
 
 computes : Computes
-unfolding numeral number bytes_of inner list_of dep roster_entry leaves_of put_by_id by_id history_text history_hash has_id prev_of named first_values spent_by tips_of collides_by limit_of_own limit_of_put past precedes_named next_entries next_own leaf_count plain_root birth own_put tagged record_text foreign_leaves full_with key_of update_fields update_body roster id_of_update hash_of_roster put_by get_by insert_by order_by latest_in run_of world_by host_in seen_with put_host with_host event_result suite_of seed_of setup_of by_node done run_after world_of sha256 first_words schedule rounds compress hash_after digest_bytes
+unfolding numeral number bytes_of inner list_of dep roster_entry leaves_of put_by_id by_id history_text history_hash has_id prev_of named first_values spent_by tips_of collides_by limit_of_own limit_of_put past precedes_named next_entries next_own leaf_count plain_root birth own_put tagged record_text foreign_leaves full_with key_of update_fields update_body roster id_of_update hash_of_roster put_by get_by insert_by order_by latest_in run_of world_by host_in seen_with put_host with_host event_result suite_of seed_of setup_of done_at_node done run_after world_of sha256 first_words schedule rounds compress hash_after digest_bytes
 computes = record { lengths = refl; met = refl; first_bytes = refl }
 
 -- ---- the premises of the laws

@@ -22,12 +22,12 @@ use Rattle.depot_model.specs.declared.judgement.JudgeError.{JudgeError}
 use Rattle.depot_answers.specs.AnswerTexts.{spaced, text_of_limit, text_of_put}
 use Rattle.depot_schedule.specs.declared.event.Event.{Event}
 use Rattle.depot_schedule.specs.declared.event.Event.TheVariants as event
-use Rattle.depot_world.specs.Effects.{idle, grown, read_of, put_by, get_by, receipt_with, receipt_by, settled_by, checkpoint_changes, giving_unless, checkpoint_with, checkpoint_by, sign_with, sign_by, hello_by, bundle_with, bundle_by, give_by, restart_by}
+use Rattle.depot_world.specs.Effects.{idle, grown, read_at_end, put_by, get_by, receipt_with, receipt_by, settled_by, checkpoint_changes, giving_unless, checkpoint_with, checkpoint_by, sign_with, sign_by, hello_by, bundle_with, bundle_by, give_by, restart_by}
 use Rattle.depot_world.specs.FaultySigning.{updated, proof_in, all_referred}
-use Rattle.depot_world.specs.Run.{PendingStop, Host, Run, bytes_of, reader_in, referred, host_in, put_host, with_host}
-use Rattle.depot_world.specs.ScheduleStops.{Effect, EventResult, left_of, stopped_with, result_by, result_pending, event_result}
+use Rattle.depot_world.specs.Run.{PendingStop, Host, Run, bytes_of_label, reader_in, referred, host_in, put_host, with_host}
+use Rattle.depot_world.specs.ScheduleStops.{Effect, EventResult, journal_left, stopped_with, result_by, result_pending, event_result}
 use Rattle.depot_world.specs.Setups.{Setup, stands_on, signs_on}
-use Rattle.depot_world.specs.Transcript.{Done, pending_at, by_node, done_by_node, done_by_update, done, judged_with, receipt_for, run_after, settled_for, trimmed_with, trim_at, reader_told, tgive_by}
+use Rattle.depot_world.specs.Transcript.{Done, pending_at, done_at_node, done_by_node, done_by_update, done, judged_with, receipt_for, run_after, settled_for, trimmed_with, trim_at, reader_told, tgive_by}
 use Rattle.depot_world.proofs.GoodRuns.{numbers_of, found_is, from_put_host, same_numbers}
 use Rattle.depot_world.proofs.ReceiptChanges.{ids_of}
 
@@ -52,7 +52,7 @@ HaveFewReads k ss = (s : Host) → IsIn s ss → length s.correct.reads ≤ k
 pub result_reads : (s : Host) (d : Effect) → d.reads ≡ s.correct.reads → (event_result s d).host.correct.reads ≡ s.correct.reads
 unfolding event_result
 result_reads s d same = by_stop s.pending where
-  by_call : (a : PendingStop) (b : Bool) → (cond b (stopped_with s (left_of s.correct.journal d.journal a)) (result_by s (Some (record { call = a.call - d.calls; image = a.image })) d)).host.correct.reads ≡ s.correct.reads
+  by_call : (a : PendingStop) (b : Bool) → (cond b (stopped_with s (journal_left s.correct.journal d.journal a)) (result_by s (Some (record { call = a.call - d.calls; image = a.image })) d)).host.correct.reads ≡ s.correct.reads
   by_call a true = refl
   by_call a false = same
 
@@ -64,7 +64,7 @@ result_reads s d same = by_stop s.pending where
 pub result_whole : (s : Host) (d : Effect) → ((a : PendingStop) → s.pending ≡ Some a → leb a.call d.calls ≡ false) → (event_result s d).host.correct.reads ≡ d.reads
 unfolding event_result
 result_whole s d apart = by_stop s.pending refl where
-  by_call : (a : PendingStop) (b : Bool) → b ≡ false → (cond b (stopped_with s (left_of s.correct.journal d.journal a)) (result_by s (Some (record { call = a.call - d.calls; image = a.image })) d)).host.correct.reads ≡ d.reads
+  by_call : (a : PendingStop) (b : Bool) → b ≡ false → (cond b (stopped_with s (journal_left s.correct.journal d.journal a)) (result_by s (Some (record { call = a.call - d.calls; image = a.image })) d)).host.correct.reads ≡ d.reads
   by_call a true is = absurd cc
   by_call a false is = refl
 
@@ -84,7 +84,7 @@ put_keeps here c changes = by_limit (limit_of_put here c.journal changes) where
   by_limit (Some limit) = refl
   by_limit None = refl
 
-pub get_adds : (c : Correct) (key : List ℕ) → (get_by c key).reads ≡ c.reads ++ read_of c.journal key ∷ []
+pub get_adds : (c : Correct) (key : List ℕ) → (get_by c key).reads ≡ c.reads ++ read_at_end c.journal key ∷ []
 unfolding get_by
 get_adds c key = refl
 
@@ -150,13 +150,13 @@ none_more : (c : Correct) (d : Effect) → d.reads ≡ c.reads → AddsOne c d
 none_more c d same = omega (arith, ap (λ (rs : List Read). length rs) same)
 
 one_more : (c : Correct) (key : List ℕ) → AddsOne c (get_by c key)
-one_more c key = omega (arith, ap (λ (rs : List Read). length rs) (get_adds c key), long_push c.reads (read_of c.journal key))
+one_more c key = omega (arith, ap (λ (rs : List Read). length rs) (get_adds c key), long_push c.reads (read_at_end c.journal key))
 
 -- as the event went, too
 result_adds : (s : Host) (d : Effect) → AddsOne s.correct d → length (event_result s d).host.correct.reads ≤ length s.correct.reads + 1
 unfolding event_result
 result_adds s d one = by_stop s.pending where
-  by_call : (a : PendingStop) (b : Bool) → length (cond b (stopped_with s (left_of s.correct.journal d.journal a)) (result_by s (Some (record { call = a.call - d.calls; image = a.image })) d)).host.correct.reads ≤ length s.correct.reads + 1
+  by_call : (a : PendingStop) (b : Bool) → length (cond b (stopped_with s (journal_left s.correct.journal d.journal a)) (result_by s (Some (record { call = a.call - d.calls; image = a.image })) d)).host.correct.reads ≤ length s.correct.reads + 1
   by_call a true = omega arith
   by_call a false = one
 
@@ -193,8 +193,8 @@ label_adds : (run : Run) (label : Option (List ℕ)) (w : EventResult) (old : Ho
 label_adds run None w old on one = host_adds run w.host old on one
 label_adds run (Some label) w old on one = host_adds run w.host old on one
 
-node_adds : (run : Run) (node : ℕ) (label : Option (List ℕ)) (effect : Host → Effect) → ((s : Host) → AddsOne s.correct (effect s)) → AddsReads run.hosts (by_node run node label effect).run.hosts
-unfolding by_node
+node_adds : (run : Run) (node : ℕ) (label : Option (List ℕ)) (effect : Host → Effect) → ((s : Host) → AddsOne s.correct (effect s)) → AddsReads run.hosts (done_at_node run node label effect).run.hosts
+unfolding done_at_node
 node_adds run node label effect one = by_host (host_in run.hosts node) refl where
   by_host : (o : Option Host) → host_in run.hosts node ≡ o → AddsReads run.hosts (elim o as (λ x. Done) [ None ↦ record { answer = []; behind = []; run = run } | Some s ↦ done_by_node run label (event_result s (effect s)) ]).run.hosts
   by_host None none = none_added run.hosts
@@ -250,15 +250,15 @@ event_adds setup run (event.Put node key value) = node_adds run node None (λ s.
 event_adds setup run (event.Puts node changes) = node_adds run node None (λ s. put_by (stands_on setup node) s.correct changes) (λ s. none_more s.correct (put_by (stands_on setup node) s.correct changes) (put_keeps (stands_on setup node) s.correct changes))
 event_adds setup run (event.Get node key) = node_adds run node None (λ s. get_by s.correct key) (λ s. one_more s.correct key)
 event_adds setup run (event.Hello node label) = node_adds run node (Some label) (λ s. hello_by (stands_on setup node) s.correct) (λ s. none_more s.correct (hello_by (stands_on setup node) s.correct) (hello_keeps (stands_on setup node) s.correct))
-event_adds setup run (event.Bundle node hello label) = node_adds run node (Some label) (λ s. bundle_by (stands_on setup node) (signs_on setup node) s.correct (bytes_of run hello)) (λ s. none_more s.correct (bundle_by (stands_on setup node) (signs_on setup node) s.correct (bytes_of run hello)) (bundle_keeps (stands_on setup node) (signs_on setup node) s.correct (bytes_of run hello)))
-event_adds setup run (event.Give node label size) = node_adds run node None (λ s. give_by (stands_on setup node) s.correct (bytes_of run label)) (λ s. none_more s.correct (give_by (stands_on setup node) s.correct (bytes_of run label)) (give_keeps (stands_on setup node) s.correct (bytes_of run label)))
+event_adds setup run (event.Bundle node hello label) = node_adds run node (Some label) (λ s. bundle_by (stands_on setup node) (signs_on setup node) s.correct (bytes_of_label run hello)) (λ s. none_more s.correct (bundle_by (stands_on setup node) (signs_on setup node) s.correct (bytes_of_label run hello)) (bundle_keeps (stands_on setup node) (signs_on setup node) s.correct (bytes_of_label run hello)))
+event_adds setup run (event.Give node label size) = node_adds run node None (λ s. give_by (stands_on setup node) s.correct (bytes_of_label run label)) (λ s. none_more s.correct (give_by (stands_on setup node) s.correct (bytes_of_label run label)) (give_keeps (stands_on setup node) s.correct (bytes_of_label run label)))
 event_adds setup run (event.Restart node) = node_adds run node None (λ s. restart_by s.correct) (λ s. none_more s.correct (restart_by s.correct) (restart_keeps s.correct))
 event_adds setup run (event.Update label writer seq clock prev key value deps history) = update_adds (signs_on setup writer) run label (values_of (one_change key value)) (updated (signs_on setup writer) run writer seq clock prev (one_change key value) deps history)
 event_adds setup run (event.Updates label writer seq clock prev changes deps history) = update_adds (signs_on setup writer) run label (values_of changes) (updated (signs_on setup writer) run writer seq clock prev changes deps history)
 event_adds setup run (event.Voucher label writer seq refs) = none_added run.hosts
 event_adds setup run (event.Proof label kind first second) = none_added run.hosts
 event_adds setup run (event.Hollow label voucher plain) = none_added run.hosts
-event_adds setup run (event.Judge label) = judge_adds setup run (proof_in (bytes_of run label))
+event_adds setup run (event.Judge label) = judge_adds setup run (proof_in (bytes_of_label run label))
 event_adds setup run (event.Raw label bytes) = none_added run.hosts
 event_adds setup run (event.Cut label source start count) = none_added run.hosts
 event_adds setup run (event.Flip label source place) = none_added run.hosts
@@ -268,9 +268,9 @@ event_adds setup run (event.Receipt node refs) = receipts_add setup run node (al
 event_adds setup run (event.Settled node reference k) = settled_add run node k (referred run reference)
 event_adds setup run event.Audit = none_added run.hosts
 event_adds setup run (event.Checkpoint node label) = node_adds run node (Some label) (λ s. checkpoint_by (stands_on setup node) s.correct) (λ s. none_more s.correct (checkpoint_by (stands_on setup node) s.correct) (checkpoint_keeps (stands_on setup node) s.correct))
-event_adds setup run (event.Sign node label) = node_adds run node None (λ s. sign_by (stands_on setup node) s.correct (bytes_of run label)) (λ s. none_more s.correct (sign_by (stands_on setup node) s.correct (bytes_of run label)) (sign_keeps (stands_on setup node) s.correct (bytes_of run label)))
-event_adds setup run (event.Trim node label name) = trim_adds setup run node (bytes_of run label) name
-event_adds setup run (event.Tgive name label) = tgive_adds run name (bytes_of run label)
+event_adds setup run (event.Sign node label) = node_adds run node None (λ s. sign_by (stands_on setup node) s.correct (bytes_of_label run label)) (λ s. none_more s.correct (sign_by (stands_on setup node) s.correct (bytes_of_label run label)) (sign_keeps (stands_on setup node) s.correct (bytes_of_label run label)))
+event_adds setup run (event.Trim node label name) = trim_adds setup run node (bytes_of_label run label) name
+event_adds setup run (event.Tgive name label) = tgive_adds run name (bytes_of_label run label)
 event_adds setup run (event.Tget name key) = none_added run.hosts
 
 -- ---- all events

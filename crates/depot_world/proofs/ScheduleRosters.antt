@@ -20,7 +20,7 @@ use Rattle.depot_schedule.specs.declared.schedule.Schedule.{Schedule}
 use Rattle.depot_schedule.specs.Schedules.{IsSchedule}
 use Rattle.depot_model.proofs.TreeNodes.{length-node}
 use Rattle.depot_model.specs.Insertion.{order_by}
-use Rattle.depot_world.specs.Setups.{SignatureSuite, suite_of, seed_of, entry_of, is_entry_before, roster_of, setup_of}
+use Rattle.depot_world.specs.Setups.{SignatureSuite, suite_of, seed_of, roster_entry_of, is_entry_before, roster_of, setup_of}
 use Rattle.depot_model.proofs.InsertionLaws.{IsOrderOf, AllDiffer, from_order, in_order, long_order, order_rises}
 use Rattle.depot_world.proofs.ScheduleMembers.{nodes_of, members_are, some_member}
 
@@ -53,11 +53,11 @@ nodes_are_ordered = record { trans = λ e f g one two. below_trans e.node f.node
 
 -- ---- the roster of members
 
-differ_by_node : (suite : SignatureSuite) (height : ℕ) (ms : List Member) → AreDistinct (nodes_of ms) → AllDiffer HasOtherNode (map (entry_of suite height) ms)
+differ_by_node : (suite : SignatureSuite) (height : ℕ) (ms : List Member) → AreDistinct (nodes_of ms) → AllDiffer HasOtherNode (map (roster_entry_of suite height) ms)
 differ_by_node suite height [] distinct = tt
 differ_by_node suite height (m ∷ ms) distinct = (
-  all_from (λ (f : RosterEntry). HasOtherNode f (entry_of suite height m)) (map (entry_of suite height) ms) (λ f on same.
-      let r = from_map (entry_of suite height) f ms on in
+  all_from (λ (f : RosterEntry). HasOtherNode f (roster_entry_of suite height m)) (map (roster_entry_of suite height) ms) (λ f on same.
+      let r = from_map (roster_entry_of suite height) f ms on in
       all_at (λ (n : ℕ). n ≡ m.node → ⊥) (nodes_of ms) r.0.node distinct.0 (in_map (λ (z : Member). z.node) r.0 ms r.1.0) (ap (λ (x : RosterEntry). x.node) r.1.1 ∙ same)),
   differ_by_node suite height ms distinct.1,
 )
@@ -80,7 +80,7 @@ pub setup_has_roster : (s : Schedule) → IsSchedule s → IsRoster (setup_of s)
 unfolding setup_of
 setup_has_roster s is =
     let ms = members_are s is in
-    let entry = entry_of (suite_of s.winter) s.height in
+    let entry = roster_entry_of (suite_of s.winter) s.height in
     let entries = map entry s.members in
     let long : length (order_by is_entry_before entries) ≡ length s.members = long_order is_entry_before entries ∙ length-map s.members entry in
     roster_fits (order_by is_entry_before entries) (order_rises is_entry_before HasOtherNode nodes_are_ordered entries (differ_by_node (suite_of s.winter) s.height s.members ms.distinct))
@@ -104,5 +104,5 @@ listed_has (x ∷ es) e n (inr there) same = later (eqb x.node n) (listed_has es
 pub setup_has_members : (s : Schedule) (m : Member) → IsIn m s.members → has_node (setup_of s).listed m.node ≡ true
 unfolding setup_of
 setup_has_members s m on =
-    let entry = entry_of (suite_of s.winter) s.height in
+    let entry = roster_entry_of (suite_of s.winter) s.height in
     listed_has (roster_of (suite_of s.winter) s.height s.members) (entry m) m.node (in_order is_entry_before (entry m) (map entry s.members) (in_map entry m s.members on)) refl

@@ -18,7 +18,7 @@ use Rattle.depot_model.specs.Vouching.{records_of}
 use Rattle.depot_model.specs.World.{Correct, Read}
 use Rattle.depot_answers.specs.AnswerTexts.{spaced, text_of_number, text_of_limit, text_of_no_receipt, name_of_settled, text_of_empty, text_of_many, text_of_unopened, text_of_put, text_of_write, text_of_records, text_of_named, text_of_counts, name_of_more, text_of_report, text_of_refused}
 use Rattle.depot_model.specs.ShownWrites.{shown_of}
-use Rattle.depot_world.specs.ScheduleStops.{Effect, calls_to_append}
+use Rattle.depot_world.specs.ScheduleStops.{Effect, calls_for_records}
 
 -- an event that leaves the node as it is
 abbrev pub idle : Correct → List ℕ → Effect
@@ -26,7 +26,7 @@ idle c answer = record { journal = c.journal; reads = c.reads; calls = 0; answer
 
 -- an event by which the journal grows to another, and which gives a label these bytes
 abbrev pub grown : Correct → List Record → List ℕ → List ℕ → Effect
-grown c longer answer bytes = record { journal = longer; reads = c.reads; calls = calls_to_append (length longer - length c.journal); answer = spaced answer; behind = []; bytes = bytes }
+grown c longer answer bytes = record { journal = longer; reads = c.reads; calls = calls_for_records (length longer - length c.journal); answer = spaced answer; behind = []; bytes = bytes }
 
 -- ---- writing and reading
 
@@ -38,14 +38,14 @@ put_by here c changes = elim (limit_of_put here c.journal changes) [
 ]
 
 -- a read of a key at the end of a journal
-abbrev pub read_of : List Record → List ℕ → Read
-read_of J key = record { at = length J; key = key; answer = shown_of J key }
+abbrev pub read_at_end : List Record → List ℕ → Read
+read_at_end J key = record { at = length J; key = key; answer = shown_of J key }
 
 -- a read: it is kept, and the writes are printed, each behind a space
 unfoldable pub get_by : Correct → List ℕ → Effect
 get_by c key = record {
   journal = c.journal;
-  reads = c.reads ++ read_of c.journal key ∷ [];
+  reads = c.reads ++ read_at_end c.journal key ∷ [];
   calls = 0;
   answer = flat_map (λ w. spaced (text_of_write w)) (shown_of c.journal key);
   behind = [];
@@ -119,7 +119,7 @@ abbrev pub fed_by : Correct → Feeding → Effect
 fed_by c s = record {
   journal = s.journal;
   reads = c.reads;
-  calls = calls_to_append (length s.journal - length c.journal);
+  calls = calls_for_records (length s.journal - length c.journal);
   answer = spaced (text_of_report s);
   behind = map text_of_refused s.refused;
   bytes = [];

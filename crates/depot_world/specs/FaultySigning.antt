@@ -32,7 +32,7 @@ use Rattle.depot_schedule.specs.declared.event.HistoryWord.{HistoryWord}
 use Rattle.depot_schedule.specs.declared.event.HistoryWord.TheVariants as history
 use Rattle.depot_schedule.specs.declared.event.Ref.{Ref}
 use Rattle.depot_answers.specs.AnswerTexts.{spaced, text_of_number}
-use Rattle.depot_world.specs.Run.{Run, bytes_of, referred, id_referred, signed_of}
+use Rattle.depot_world.specs.Run.{Run, bytes_of_label, referred, id_referred, signed_of}
 use Rattle.depot_world.specs.Setups.{Setup}
 
 -- What an event that no node takes part in gives its label: bytes, the signed statement where it signs one, whether they are plain bytes,
@@ -64,9 +64,9 @@ abbrev pub all_referred : Run → List Ref → Option (List Update)
 all_referred run refs = all_of (map (referred run) refs)
 
 -- the id that a prev names: zeros where there is none, and nothing where its reference names no update
-abbrev pub prev_of : Run → Option Ref → Option (List ℕ)
-prev_of run None = Some zeros
-prev_of run (Some r) = option_map id_of_update (referred run r)
+abbrev pub prev_of_ref : Run → Option Ref → Option (List ℕ)
+prev_of_ref run None = Some zeros
+prev_of_ref run (Some r) = option_map id_of_update (referred run r)
 
 -- the updates that are named as entries, if each is there and another writer's: in rising order of writer and id, each once
 abbrev pub entries_of : Run → ℕ → List Ref → Option (List Update)
@@ -116,7 +116,7 @@ update_text sign u values = record {
 -- an update that a faulty node signs, if its references name updates: it writes what these changes say
 unfoldable pub updated : Signs → Run → ℕ → ℕ → ℕ → Option Ref → List Change → List Ref → HistoryWord → Option Update
 updated sign run writer seq clock prev changes deps history =
-    option_and_then (λ p. option_map (λ us. let u = drafted writer seq clock p (map write_of changes) us in with_history u (history_by run.seen history u)) (entries_of run writer deps)) (prev_of run prev)
+    option_and_then (λ p. option_map (λ us. let u = drafted writer seq clock p (map write_of changes) us in with_history u (history_by run.seen history u)) (entries_of run writer deps)) (prev_of_ref run prev)
 
 -- a voucher that a faulty node signs: the ids in rising order, each once
 abbrev pub voucher_text : Signs → ℕ → ℕ → List (List ℕ) → Text
@@ -134,8 +134,8 @@ vouched_text sign run node seq refs = elim (all_of (map (id_referred run) refs))
 -- ---- proofs
 
 -- two signed statements as the halves of a proof: the smaller body first
-abbrev pub proof_by : Kind → Signed → Signed → Proof
-proof_by kind a b = if is_below b.body a.body then Pair kind b a else Pair kind a b
+abbrev pub proof_of_halves : Kind → Signed → Signed → Proof
+proof_of_halves kind a b = if is_below b.body a.body then Pair kind b a else Pair kind a b
 
 -- the frame of a proof of this kind
 abbrev pub proof_with : Kind → Proof → Text
@@ -143,7 +143,7 @@ proof_with kind p = record { bytes = text_of_frame (proof_frame p); signed = Non
 
 unfoldable pub proof_text : Run → Kind → List ℕ → List ℕ → Text
 proof_text run kind a b = elim (all_of (signed_of run a ∷ signed_of run b ∷ [])) [
-  | Some (s ∷ t ∷ []) ↦ proof_with kind (proof_by kind s t)
+  | Some (s ∷ t ∷ []) ↦ proof_with kind (proof_of_halves kind s t)
   | others ↦ no_reference
 ]
 
@@ -151,7 +151,7 @@ proof_text run kind a b = elim (all_of (signed_of run a ∷ signed_of run b ∷ 
 unfoldable pub hollow_text : Run → List ℕ → List ℕ → Text
 hollow_text run voucher plain = elim (signed_of run voucher) [
   | None ↦ no_reference
-  | Some s ↦ if nat_le (length (bytes_of run plain)) MOST_VALUE then proof_with NotUpdate (Hollow s (bytes_of run plain)) else no_reference
+  | Some s ↦ if nat_le (length (bytes_of_label run plain)) MOST_VALUE then proof_with NotUpdate (Hollow s (bytes_of_label run plain)) else no_reference
 ]
 
 -- the proof whose frame these bytes are from the payload on, or where it goes wrong; what stands before, a tag and a length, is passed

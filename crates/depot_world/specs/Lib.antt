@@ -1,5 +1,6 @@
 pub mod Audits
 pub mod Effects
+pub mod Forgetting
 pub mod Run
 pub mod FaultySigning
 pub mod ScheduleStops

@@ -34,7 +34,7 @@ pub record Host : Type 0 where
 
 -- What an event made under a label: its bytes, the signed statement where it made one, and whether it is plain: made as bytes, by `raw`,
 -- `cut`, `flip` or `join`. A label whose event was refused or stopped holds no bytes; a plain one may hold none as well.
-pub record Made : Type 0 where
+pub record Labelled : Type 0 where
   pub label : List ℕ
   pub bytes : List ℕ
   pub signed : Option Signed
@@ -50,7 +50,7 @@ pub record NamedReader : Type 0 where
 -- readers, in the order in which they were made. A reader is in memory alone, but outlives what happens to its node.
 pub record Run : Type 0 where
   pub hosts : List Host
-  pub labels : List Made
+  pub labels : List Labelled
   pub judged : List Proof
   pub seen : List Update
   pub readers : List NamedReader
@@ -75,7 +75,7 @@ host_in [] node = None
 host_in (s ∷ ss) node = if s.correct.node == node then Some s else host_in ss node
 
 -- what a label names
-unfoldable pub made_in : List Made → List ℕ → Option Made
+unfoldable pub made_in : List Labelled → List ℕ → Option Labelled
 made_in [] label = None
 made_in (m ∷ ms) label = if bytes_eq m.label label then Some m else made_in ms label
 
@@ -85,8 +85,8 @@ reader_in [] name = None
 reader_in (r ∷ rs) name = if bytes_eq r.name name then r.reader else reader_in rs name
 
 -- the bytes of a label
-abbrev pub bytes_of : Run → List ℕ → List ℕ
-bytes_of run label = option_map_or (λ m. m.bytes) (made_in run.labels label) []
+abbrev pub bytes_of_label : Run → List ℕ → List ℕ
+bytes_of_label run label = option_map_or (λ m. m.bytes) (made_in run.labels label) []
 
 -- the signed statement of a label
 abbrev pub signed_of : Run → List ℕ → Option Signed
@@ -127,7 +127,7 @@ seen_with seen [] = seen
 seen_with seen (u ∷ us) = seen_with (if has_id seen (id_of_update u) then seen else seen ++ u ∷ []) us
 
 -- one more label
-abbrev pub with_label : Run → Made → Run
+abbrev pub with_label : Run → Labelled → Run
 with_label run m = record run { labels = run.labels ++ m ∷ [] }
 
 -- one more reader

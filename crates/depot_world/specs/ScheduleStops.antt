@@ -16,8 +16,8 @@ pub record Effect : Type 0 where
   pub bytes : List ℕ
 
 -- a record is appended by four calls: its body is written, synced, its gate is written, synced
-abbrev pub calls_to_append : ℕ → ℕ
-calls_to_append records = 4 * records
+abbrev pub calls_for_records : ℕ → ℕ
+calls_for_records records = 4 * records
 
 -- How many of the records that an event appends stand in the image of a stop at this call, from 1. Those before the one at hand stand in
 -- each; that one in image 1 alone, which has all that was written, once its gate is written, by the third of its calls. In image 2 the
@@ -26,8 +26,8 @@ unfoldable pub standing_after : PendingStop → ℕ
 standing_after a = (a.call - 1) / 4 + (if a.image == 1 && nat_le 2 ((a.call - 1) % 4) then 1 else 0)
 
 -- what a stop leaves of a journal that was to grow to another
-abbrev pub left_of : List Record → List Record → PendingStop → List Record
-left_of J longer a = J ++ take (standing_after a) (drop (length J) longer)
+abbrev pub journal_left : List Record → List Record → PendingStop → List Record
+journal_left J longer a = J ++ take (standing_after a) (drop (length J) longer)
 
 -- a node's event as it went, and the stop that still waits
 pub record EventResult : Type 0 where
@@ -57,7 +57,7 @@ stopped_with s J = record {
 -- the stop falls into the event, or waits on, so many calls nearer
 abbrev pub result_pending : Host → Effect → PendingStop → EventResult
 result_pending s d a =
-    if nat_le a.call d.calls then stopped_with s (left_of s.correct.journal d.journal a)
+    if nat_le a.call d.calls then stopped_with s (journal_left s.correct.journal d.journal a)
     else result_by s (Some (record { call = a.call - d.calls; image = a.image })) d
 
 -- how an event of a node goes

@@ -43,8 +43,8 @@ pub record Setup : Type 0 where
   pub listed : List RosterEntry
 
 -- a member as the roster has it
-abbrev pub entry_of : SignatureSuite → ℕ → Member → RosterEntry
-entry_of suite height m = record { node = m.node; key = record { root = suite.root (seed_of m.node) height; height = height } }
+abbrev pub roster_entry_of : SignatureSuite → ℕ → Member → RosterEntry
+roster_entry_of suite height m = record { node = m.node; key = record { root = suite.root (seed_of m.node) height; height = height } }
 
 -- an entry stands before those of greater nodes
 abbrev pub is_entry_before : RosterEntry → RosterEntry → Bool
@@ -52,7 +52,7 @@ is_entry_before e f = nat_lt e.node f.node
 
 -- the roster of members, in rising order
 abbrev pub roster_of : SignatureSuite → ℕ → List Member → List RosterEntry
-roster_of suite height members = order_by is_entry_before (map (entry_of suite height) members)
+roster_of suite height members = order_by is_entry_before (map (roster_entry_of suite height) members)
 
 -- the setup of a schedule
 unfoldable pub setup_of : Schedule → Setup

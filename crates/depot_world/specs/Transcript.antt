@@ -26,7 +26,7 @@ use Rattle.depot_schedule.specs.declared.schedule.Schedule.{Schedule}
 use Rattle.depot_answers.specs.AnswerTexts.{spaced, text_of_finding, text_of_trim, text_of_reader_feed, text_of_write}
 use Rattle.depot_world.specs.Audits.{audited}
 use Rattle.depot_world.specs.Effects.{put_by, get_by, hello_by, bundle_by, give_by, restart_by, receipt_by, settled_by, checkpoint_by, sign_by}
-use Rattle.depot_world.specs.Run.{Run, Host, run_of, world_by, host_in, bytes_of, referred, reader_in, seen_with, with_label, with_reader, put_reader, with_host}
+use Rattle.depot_world.specs.Run.{Run, Host, run_of, world_by, host_in, bytes_of_label, referred, reader_in, seen_with, with_label, with_reader, put_reader, with_host}
 use Rattle.depot_world.specs.FaultySigning.{Text, no_reference, counted_bytes, updated, update_text, vouched_text, proof_text, hollow_text, proof_in, point_by, flip_at, all_referred}
 use Rattle.depot_world.specs.ScheduleStops.{Effect, EventResult, event_result}
 use Rattle.depot_world.specs.Setups.{Setup, setup_of, stands_on, signs_on}
@@ -45,8 +45,8 @@ done_by_node run None w = record { answer = w.answer; behind = w.behind; run = w
 done_by_node run (Some label) w = record { answer = w.answer; behind = w.behind; run = with_label (with_host run w.host) (record { label = label; bytes = w.bytes; signed = None; plain = false }) }
 
 -- an event of a node, by what it does; nothing where there is no such node, which no schedule has
-unfoldable pub by_node : Run → ℕ → Option (List ℕ) → (Host → Effect) → Done
-by_node run node label effect = elim (host_in run.hosts node) [
+unfoldable pub done_at_node : Run → ℕ → Option (List ℕ) → (Host → Effect) → Done
+done_at_node run node label effect = elim (host_in run.hosts node) [
   | None ↦ record { answer = []; behind = []; run = run }
   | Some s ↦ done_by_node run label (event_result s (effect s))
 ]
@@ -65,12 +65,12 @@ not_referred run = record { answer = codes " NoRef"; behind = []; run = run }
 -- a node gives receipts for what references name, each id once and rising
 abbrev pub receipt_for : Setup → Run → ℕ → Option (List Update) → Done
 receipt_for setup run node None = not_referred run
-receipt_for setup run node (Some us) = by_node run node None (λ s. receipt_by (stands_on setup node) s.correct (rising (map id_of_update us)))
+receipt_for setup run node (Some us) = done_at_node run node None (λ s. receipt_by (stands_on setup node) s.correct (rising (map id_of_update us)))
 
 -- a node tells whether what a reference names is settled at so many nodes
 abbrev pub settled_for : Run → ℕ → ℕ → Option Update → Done
 settled_for run node k None = not_referred run
-settled_for run node k (Some u) = by_node run node None (λ s. settled_by s.correct (id_of_update u) k)
+settled_for run node k (Some u) = done_at_node run node None (λ s. settled_by s.correct (id_of_update u) k)
 
 -- ---- the audit
 
@@ -145,32 +145,32 @@ judged_with setup run read = elim (point_by setup read) [
 -- ---- one event
 
 unfoldable pub done : Setup → Run → Event → Done
-done setup run (event.Put node key value) = by_node run node None (λ s. put_by (stands_on setup node) s.correct (one_change key value))
-done setup run (event.Puts node changes) = by_node run node None (λ s. put_by (stands_on setup node) s.correct changes)
-done setup run (event.Get node key) = by_node run node None (λ s. get_by s.correct key)
-done setup run (event.Hello node label) = by_node run node (Some label) (λ s. hello_by (stands_on setup node) s.correct)
-done setup run (event.Bundle node hello label) = by_node run node (Some label) (λ s. bundle_by (stands_on setup node) (signs_on setup node) s.correct (bytes_of run hello))
-done setup run (event.Give node label size) = by_node run node None (λ s. give_by (stands_on setup node) s.correct (bytes_of run label))
-done setup run (event.Restart node) = by_node run node None (λ s. restart_by s.correct)
+done setup run (event.Put node key value) = done_at_node run node None (λ s. put_by (stands_on setup node) s.correct (one_change key value))
+done setup run (event.Puts node changes) = done_at_node run node None (λ s. put_by (stands_on setup node) s.correct changes)
+done setup run (event.Get node key) = done_at_node run node None (λ s. get_by s.correct key)
+done setup run (event.Hello node label) = done_at_node run node (Some label) (λ s. hello_by (stands_on setup node) s.correct)
+done setup run (event.Bundle node hello label) = done_at_node run node (Some label) (λ s. bundle_by (stands_on setup node) (signs_on setup node) s.correct (bytes_of_label run hello))
+done setup run (event.Give node label size) = done_at_node run node None (λ s. give_by (stands_on setup node) s.correct (bytes_of_label run label))
+done setup run (event.Restart node) = done_at_node run node None (λ s. restart_by s.correct)
 done setup run (event.Update label writer seq clock prev key value deps history) =
     done_by_changes setup run label writer seq clock prev (one_change key value) deps history
 done setup run (event.Updates label writer seq clock prev changes deps history) = done_by_changes setup run label writer seq clock prev changes deps history
 done setup run (event.Voucher label writer seq refs) = done_by_text run label (vouched_text (signs_on setup writer) run writer seq refs)
 done setup run (event.Proof label kind first second) = done_by_text run label (proof_text run kind first second)
 done setup run (event.Hollow label voucher plain) = done_by_text run label (hollow_text run voucher plain)
-done setup run (event.Judge label) = judged_with setup run (proof_in (bytes_of run label))
+done setup run (event.Judge label) = judged_with setup run (proof_in (bytes_of_label run label))
 done setup run (event.Raw label bytes) = done_by_text run label (counted_bytes bytes)
-done setup run (event.Cut label source start count) = done_by_text run label (counted_bytes (take count (drop start (bytes_of run source))))
-done setup run (event.Flip label source place) = done_by_text run label (counted_bytes (flip_at place (bytes_of run source)))
-done setup run (event.Join label first second) = done_by_text run label (counted_bytes (bytes_of run first ++ bytes_of run second))
+done setup run (event.Cut label source start count) = done_by_text run label (counted_bytes (take count (drop start (bytes_of_label run source))))
+done setup run (event.Flip label source place) = done_by_text run label (counted_bytes (flip_at place (bytes_of_label run source)))
+done setup run (event.Join label first second) = done_by_text run label (counted_bytes (bytes_of_label run first ++ bytes_of_label run second))
 done setup run (event.Stop node call image) = pending_at run node call image
 done setup run (event.Receipt node refs) = receipt_for setup run node (all_referred run refs)
 done setup run (event.Settled node reference k) = settled_for run node k (referred run reference)
 done setup run event.Audit = audit_by setup run
-done setup run (event.Checkpoint node label) = by_node run node (Some label) (λ s. checkpoint_by (stands_on setup node) s.correct)
-done setup run (event.Sign node label) = by_node run node None (λ s. sign_by (stands_on setup node) s.correct (bytes_of run label))
-done setup run (event.Trim node label name) = trim_at setup run node (bytes_of run label) name
-done setup run (event.Tgive name label) = tgive_by run name (bytes_of run label)
+done setup run (event.Checkpoint node label) = done_at_node run node (Some label) (λ s. checkpoint_by (stands_on setup node) s.correct)
+done setup run (event.Sign node label) = done_at_node run node None (λ s. sign_by (stands_on setup node) s.correct (bytes_of_label run label))
+done setup run (event.Trim node label name) = trim_at setup run node (bytes_of_label run label) name
+done setup run (event.Tgive name label) = tgive_by run name (bytes_of_label run label)
 done setup run (event.Tget name key) = tget_by run name key
 
 -- ---- its lines

@@ -1,5 +1,5 @@
 //! What holds of the worlds of schedules. Each law is a function that does nothing; its contract is the law.
-ghost use Rattle.std.specs.Prelude.{◌≡◌, ℕ, List, [], take};
+ghost use Rattle.std.specs.Prelude.{◌≡◌, ℕ, List, [], ◌∷◌, take};
 ghost use Rattle.depot_base.specs.declared.update.Update.{Update};
 ghost use Rattle.depot_model.specs.Causality.{IsForkJoinCausal, ConvictsNoCorrectNode};
 ghost use Rattle.depot_model.specs.Lists.{IsIn};
@@ -10,10 +10,12 @@ ghost use Rattle.depot_model.specs.Texts.{IsRoster};
 ghost use Rattle.depot_model.specs.Traces.{IsFindingOf};
 ghost use Rattle.depot_model.specs.World.{Correct, IsWorld, IsAuthentic, IsCollisionFree};
 ghost use Rattle.depot_schedule.specs.Schedules.{IsSchedule};
+ghost use Rattle.depot_schedule.specs.declared.event.Event.{Event};
 ghost use Rattle.depot_schedule.specs.declared.schedule.Schedule.{Schedule};
 ghost use Rattle.depot_model.specs.LatestList.{latest_in};
 ghost use Rattle.depot_laws.specs.WorldFacts.{PairsConvictNoCorrectNode};
 ghost use Rattle.depot_world.specs.Audits.{IsSound, audited, traces_by};
+ghost use Rattle.depot_world.specs.Forgetting.{IsAlikeFor, GoesAlike};
 ghost use Rattle.depot_world.specs.Run.{Run, run_of, world_by};
 ghost use Rattle.depot_world.specs.Setups.{Setup, setup_of};
 ghost use Rattle.depot_world.specs.Transcript.{run_after, world_of};
@@ -56,4 +58,10 @@ pub fn runs_of_schedules_are_sound()
 /// Where the correct nodes of a run make a world, what is found in their traces is what is found in that world.
 pub fn audits_of_runs()
     ensures { (setup : Setup) (run : Run) (found : Finding) → IsWorld (world_by setup run) → IsFindingOf setup.suite.verifies setup.listed (traces_by run) found → found ≡ finding_in (audited setup run) }
+{}
+
+/// A run goes on as it does with fewer labels, where no event to come names those that are gone: the next event is told in the same
+/// lines, and the runs behind it are alike again.
+pub fn runs_go_on_without_labels()
+    ensures { (setup : Setup) (es : List Event) (e : Event) (whole few : Run) → IsAlikeFor (e ∷ es) whole few → GoesAlike setup es e whole few }
 {}

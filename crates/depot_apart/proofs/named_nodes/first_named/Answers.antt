@@ -5,7 +5,7 @@ use Rattle.depot_model.specs.World.{Correct, World}
 use Rattle.depot_traces.specs.SeenTraces.{finding_of, trace_of}
 use Rattle.depot_apart.specs.Lookups.{nodes_in, first_accusing}
 use Rattle.depot_apart.specs.MetTexts.{AreToldBy}
-use Rattle.depot_apart.specs.TracedWorlds.{IsWorldOf}
+use Rattle.depot_model.specs.Traces.{IsWorldOf}
 use Rattle.depot_apart.proofs.NamedNodes.{named_is}
 use Rattle.depot_apart.proofs.NodesOfTraces.{told_in}
 use Rattle.depot_apart.proofs.named_nodes.first_named.Goals as goal

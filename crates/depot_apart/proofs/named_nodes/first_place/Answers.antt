@@ -2,7 +2,8 @@ use Rattle.std.proofs.Common.{◌<◌, ℕ, List, length, map, take, Some, sym, 
 use Rattle.std.specs.Prelude.{position}
 use Rattle.std.proofs.lemmas.List.{take_all, length-take-le}
 use Rattle.depot_apart.specs.Lookups.{nodes_in, accuses_one}
-use Rattle.depot_apart.specs.MetTexts.{IsTextOf, AreTexts}
+use Rattle.depot_model.specs.Records.{IsTextOf}
+use Rattle.depot_apart.specs.MetTexts.{AreTexts}
 use Rattle.depot_apart.proofs.ListLaws.{pair_in, pair_next, pair_last, no_pairs, same_count, place_on, place_stops}
 use Rattle.depot_apart.proofs.named_nodes.first_place.Goals as goal
 

@@ -3,12 +3,11 @@ use Rattle.std.specs.Borrow.{Bor}
 use Rattle.std.specs.List.{AllByRecursion}
 use Rattle.std.proofs.lemmas.Result.{IfOk-weaker}
 use Rattle.depot_model.specs.Audit.{finding_in}
-use Rattle.depot_model.specs.Traces.{Trace, HasRightReads, IsFindingOf}
+use Rattle.depot_model.specs.Traces.{Trace, HasRightReads, IsFindingOf, IsWorldOf}
 use Rattle.depot_model.specs.World.{World}
 use Rattle.depot_traces.specs.SeenTraces.{finding_of, trace_of}
 use Rattle.depot_traces.specs.declared.finding.Finding.{Finding}
 use Rattle.depot_traces.specs.declared.trace.Trace as made
-use Rattle.depot_apart.specs.TracedWorlds.{IsWorldOf}
 use Rattle.depot_audit.specs.InTurn.{IsTurnOf}
 use Rattle.depot_audit.proofs.TracedNodes.{turn_is_finding}
 use Rattle.depot_audit.proofs.WorldFindings.{sorted_too, few_sorted, IsTracedBy, world_of_turn, world_finding}

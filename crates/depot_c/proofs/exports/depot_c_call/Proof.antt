@@ -33,8 +33,7 @@ use denote.Triple.Spec.{triple_of}
 use denote.Triple.Table.{framed}
 use denote.Triple.Walked.{Stays, walk_of, stay_dropped, gave_slice, Goes-dropped, Goes-gave_slice, ends_at}
 use Rattle.depot_c.specs.contracts.handle.Handle.{the_row as R}
-use Rattle.depot_c.specs.Calls.{Serves, answered}
-use Rattle.depot_c.specs.contracts.handle.HandleViewed.TheImpl.{ghosts}
+use Rattle.depot_c.specs.Served.{IsServed}
 use Rattle.depot_c.specs.contracts.exports.depot_c_call as f
 use Rattle.depot_c.proofs.exports.depot_c_call.Statement.{statement}
 use Rattle.depot_c.proofs.exports.depot_c_call.Code as code
@@ -92,7 +91,7 @@ depot_c_call_spec 𝓤 𝓛 𝓜 𝓡 wired =
     calls_at ! (framed 𝓤 𝓛.H 𝓜 𝓣) G (met 𝓤 𝓛 𝓜 𝓡 (code.calls-depot_c::serving::serve 𝓡.env wired)) z
     (and_then ! (get ! refl) (and_then ! (get ! refl) (and_then ! (get ! refl) (and_then ! (get ! refl) (and_then ! (get ! refl) (no_more !)))))) (λ v.
     use1 𝓛 (later (some (λ (n : ℕ). ((‵ (flft κ' full_share) ⊛ ‵ (flft κ q) ⊛ ‵ (flft ρ r) ⊛ ‵ ftrue) ⊛ ‵ (u64.own_val n (v ∷ []))) ⊛
-    some (λ (ws : R.Denot × (Unit {0} × (Unit {0} × (Unit {0} × (List ℕ × Unit {0}))))). ‵ (lasts g.ended z.0.0 z.0.3 ws) ⊛ raw (fact 𝓤 (Serves op number input.now (ghosts.view_of h) (answered h) output.now (ghosts.view_of ws.0) (answered ws.0) n ws.1.1.1.1.0)))))) (id⊢ 𝓤 _) $
+    some (λ (ws : R.Denot × (Unit {0} × (Unit {0} × (Unit {0} × (List ℕ × Unit {0}))))). ‵ (lasts g.ended z.0.0 z.0.3 ws) ⊛ raw (fact 𝓤 (IsServed op number input.now output.now h ws.0 n ws.1.1.1.1.0)))))) (id⊢ 𝓤 _) $
     await ! tt $ pick ! (λ n. split ! $ split ! $ split ! $ lft_end ! tt $
     -- [α is over; the two tokens; the result; what the call left; what the lender keeps]
     move ! (3 ∷ []) $ pick ! (λ ws. split ! $ move ! (1 ∷ []) $ heard ! _ (λ did. fsplit ! $ fsplit ! $ move ! (3 ∷ 6 ∷ 0 ∷ []) $
@@ -104,4 +103,4 @@ depot_c_call_spec 𝓤 𝓛 𝓜 𝓡 wired =
     returns ! (look_at ! 0 refl) $ free_all ! refl $ keep ! (0 ∷ 1 ∷ 3 ∷ 5 ∷ []) $
     suffices ! _ (ends_at 𝓛 f.ended stayed c (y (block_ptr b o)) v n (tt, (tt, (tt, (tt, (ws.1.1.1.1.0, tt))))) (tt, (tt, (tt, (tt, (len, tt)))))) $
     nothing ! $ move ! (2 ∷ 0 ∷ []) $ join ! $ nothing ! $ join ! $ nothing ! $ join ! $ nothing ! $ join ! $ nothing ! $ join ! $ move ! (3 ∷ 0 ∷ 1 ∷ []) $ group ! 3 $
-    move ! (1 ∷ []) $ nothing ! $ fpack ! (Serves op number input.now (ghosts.view_of h) (answered h) output.now (ghosts.view_of ws.0) (answered ws.0) n ws.1.1.1.1.0) (λ _. ftrue) did $ move ! (1 ∷ 0 ∷ []) $ fjoin ! $ fpack ! R.Denot (λ x. fsep (lies_at R full_share (block_ptr b o) x) (fex (Serves op number input.now (ghosts.view_of h) (answered h) output.now (ghosts.view_of x) (answered x) n ws.1.1.1.1.0) (λ _. ftrue))) ws.0 $ move ! (1 ∷ 0 ∷ []) $ done !)))))))))))
+    move ! (1 ∷ []) $ nothing ! $ fpack ! (IsServed op number input.now output.now h ws.0 n ws.1.1.1.1.0) (λ _. ftrue) did $ move ! (1 ∷ 0 ∷ []) $ fjoin ! $ fpack ! R.Denot (λ x. fsep (lies_at R full_share (block_ptr b o) x) (fex (IsServed op number input.now output.now h x n ws.1.1.1.1.0) (λ _. ftrue))) ws.0 $ move ! (1 ∷ 0 ∷ []) $ done !)))))))))))

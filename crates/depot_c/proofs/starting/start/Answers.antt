@@ -8,7 +8,7 @@ use Rattle.depot_node.specs.Starting.{IsNotStarted, IsStartedFrom}
 use Rattle.depot_node.specs.declared.start_error.StartError.{StartError}
 use Rattle.depot_node.specs.declared.start_error.StartError.TheVariants as start_error
 use Rattle.depot_outside.specs.Stopping.{State}
-use Rattle.depot_winter.specs.Signer.{height_of, seed_of}
+use Rattle.depot_winter.specs.Signer.{height_of, signing_seed}
 use Rattle.depot_winter.specs.TreeSigning.{key_of_seed}
 use Rattle.depot_winter.specs.declared.signer.WinterSigner.{WinterSigner}
 use Rattle.depot_c.specs.NodeViews.{for_disk}
@@ -19,7 +19,7 @@ abbrev standing : ℕ → List RosterEntry → Setting
 standing me listed = record { verifies = winternitz_verifies; me = me; listed = listed }
 
 abbrev key_by : WinterSigner → PublicKey
-key_by w = key_of_seed (seed_of w) (height_of w)
+key_by w = key_of_seed (signing_seed w) (height_of w)
 
 pub returns-in-Ok-start-clause-started : goal.returns-in-Ok-start-clause-started
 returns-in-Ok-start-clause-started c =
@@ -32,7 +32,7 @@ returns-in-Ok-start-clause-started c =
     record {
       stands = did.node.stands ∙ ap (standing me) same;
       keyed = ap (λ (l : List RosterEntry). key_of l me) (sym same) ∙ did.node.keyed ∙ ap (λ (w : WinterSigner). Some (key_by w)) c.in-Ok.ensures;
-      signs = did.node.signs ∙ ap (λ (w : WinterSigner). winternitz_signature (seed_of w) (height_of w)) c.in-Ok.ensures;
+      signs = did.node.signs ∙ ap (λ (w : WinterSigner). winternitz_signature (signing_seed w) (height_of w)) c.in-Ok.ensures;
       runs = record { running = did.node.runs; none = calm.0.0; never = calm.0.1 };
       records = subst (λ (l : List RosterEntry). IsStartedFrom (standing me l) c.args.file.now records) same (subst (λ (f : List ℕ). IsStartedFrom (standing me c.in-Ok-Ok.roster) f records) file (did.started.from c.new-disk.ensures.tells));
     }

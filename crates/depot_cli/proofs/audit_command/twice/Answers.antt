@@ -2,11 +2,11 @@ use Rattle.std.proofs.Common.{ℕ, List, ◌++◌, codes, ap, ◌∙◌}
 use Rattle.std.proofs.lemmas.Result.{IfOk-weaker}
 use Rattle.std.specs.Fmt.{decimal}
 use Rattle.depot_cli.specs.declared.status.Status.TheVariants.{Input}
-use Rattle.depot_cli.specs.declared.outcome.Outcome.{Outcome}
+use Rattle.depot_cli.specs.declared.outcome.CommandOutcome.{CommandOutcome}
 use Rattle.depot_cli.proofs.PrintedLines.{behind_three}
 use Rattle.depot_cli.proofs.audit_command.twice.Goals as goal
 
-abbrev printed : List ℕ → Outcome
+abbrev printed : List ℕ → CommandOutcome
 printed text = record { status = Input; text = text }
 
 pub returns : goal.returns

@@ -3,9 +3,9 @@ use Rattle.depot_outside.specs.Told.{disks, loads, shelves, sinks}
 use Rattle.depot_session.specs.ScriptTelling.{asked}
 use Rattle.depot_session.specs.Sessions.{shelf_line}
 use Rattle.depot_session.proofs.ToldFaults.{never_rose}
-use Rattle.depot_cli.specs.declared.invocation.Command.TheVariants.{Node}
+use Rattle.depot_cli.specs.declared.invocation.Invocation.TheVariants.{Node}
 use Rattle.depot_cli.specs.declared.status.Status.TheVariants.{Shelf}
-use Rattle.depot_cli.specs.Runs.{Answers, Begins}
+use Rattle.depot_cli.specs.Runs.{AnswersCommand, Begins}
 use Rattle.depot_cli.proofs.Endings.{finished, finished_by}
 use Rattle.depot_cli.proofs.NodeRuns.{IsBehind, file_run, no_roster_answers, same_shelves}
 use Rattle.depot_cli.proofs.node_command.node.Goals as goal
@@ -20,7 +20,7 @@ returns-in-Ok-None-clause-results g c =
     let named = rw c.text.ensures at c.load.ensures.loads in
     inl (
       (refl {a = c.args.disk.now}, (c.load.ensures.files, c.load.ensures.stores)),
-      finished_by (Answers shelf loaded command) (Begins shelf loaded command) (sinks g.S.Sink c.args.out.now c.finish.new.out) c.no_file.result (record { status = Shelf; text = line }) c.finish.result (rw c.text-in-Ok-None.ensures at c.no_file.ensures)
+      finished_by (AnswersCommand shelf loaded command) (Begins shelf loaded command) (sinks g.S.Sink c.args.out.now c.finish.new.out) c.no_file.result (record { status = Shelf; text = line }) c.finish.result (rw c.text-in-Ok-None.ensures at c.no_file.ensures)
           (inl (named, (refl {a = Shelf}, (lacks, refl {a = line})))) (inl (inr named), refl) c.finish.ensures.finishes,
     )
 
@@ -51,7 +51,7 @@ returns g c =
     record {
       results = inl (
         (refl {a = c.args.disk.now}, (c.load.ensures.files, c.load.ensures.stores)),
-        finished (Answers shelf loaded command) (Begins shelf loaded command) (sinks g.S.Sink c.args.out.now c.finish-in-Err-parse.new.out) c.refused_roster.result c.finish-in-Err-parse.result
+        finished (AnswersCommand shelf loaded command) (Begins shelf loaded command) (sinks g.S.Sink c.args.out.now c.finish-in-Err-parse.new.out) c.refused_roster.result c.finish-in-Err-parse.result
             (no_roster_answers shelf loaded c.args.words.now c.in-Ok-Some.text c.in-Err-parse.error c.refused_roster.result named there.0 refused told) (inl (inr named), refl) c.finish-in-Err-parse.ensures.finishes,
       );
       first_fault = inr (inr (inr there.1));

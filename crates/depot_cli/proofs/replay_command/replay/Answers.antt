@@ -1,9 +1,9 @@
 use Rattle.std.proofs.Common.{[], Some, inl, inr, refl, sym, append-nil}
-use Rattle.depot_cli.specs.declared.invocation.Command.TheVariants.{Replay}
+use Rattle.depot_cli.specs.declared.invocation.Invocation.TheVariants.{Replay}
 use Rattle.depot_cli.specs.declared.status.Status.TheVariants.{Shelf}
 use Rattle.depot_outside.specs.Told.{loads, shelves, sinks}
 use Rattle.depot_session.specs.Sessions.{shelf_line}
-use Rattle.depot_cli.specs.Runs.{Answers, Begins}
+use Rattle.depot_cli.specs.Runs.{AnswersCommand, Begins}
 use Rattle.depot_cli.proofs.Endings.{finished_by, replay_ends}
 use Rattle.depot_cli.proofs.replay_command.replay.Goals as goal
 
@@ -21,7 +21,7 @@ returns-in-Ok-None-clause-ends g c =
     let command = Some (Replay c.args.name.now) in
     let line = shelf_line c.args.name.now in
     let lacks = rw c.in-Ok-None.field-0-is at c.in-Ok-None.ensures.loaded in
-    finished_by (Answers shelf loaded command) (Begins shelf loaded command) (sinks g.S.Sink c.args.out.now c.finish.new.out) c.no_file.result (record { status = Shelf; text = line }) c.finish.result c.no_file.ensures (c.load.ensures.loads, (lacks, refl {a = line})) (inr c.load.ensures.loads, inl refl) c.finish.ensures.finishes
+    finished_by (AnswersCommand shelf loaded command) (Begins shelf loaded command) (sinks g.S.Sink c.args.out.now c.finish.new.out) c.no_file.result (record { status = Shelf; text = line }) c.finish.result c.no_file.ensures (c.load.ensures.loads, (lacks, refl {a = line})) (inr c.load.ensures.loads, inl refl) c.finish.ensures.finishes
 
 pub returns-in-Err-clause-ends : goal.returns-in-Err-clause-ends
 returns-in-Err-clause-ends g c = inr (inl (record { is = refl; text = []; begun = (inr c.load.ensures.loads, inl refl); wrote = λ told. sym (append-nil (g.S.Sink.written c.args.out.now)) }))

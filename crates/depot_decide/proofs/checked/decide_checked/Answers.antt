@@ -9,6 +9,7 @@ use Rattle.depot_accept.specs.declared.answer.Pass.{Pass}
 use Rattle.depot_accept.specs.declared.answer.Pass.TheVariants as pass
 use Rattle.depot_decide.proofs.Decided.{if_decided, made_decision}
 use Rattle.depot_decide.proofs.Dues.{checked_as, voucher_is_new, update_is_new, decided_known}
+use Rattle.depot_decide.proofs.RowsOfNew.{none_come, update_comes, voucher_comes}
 use Rattle.depot_decide.proofs.checked.decide_checked.Goals as goal
 
 pub accept-requires-clause-new : goal.accept-requires-clause-new
@@ -46,3 +47,19 @@ pub returns-clause-decided : goal.returns-clause-decided
 returns-clause-decided g c =
     let here = setting g.S.Scheme.verifies c.args.state.now in
     if_decided c.refuse.result (λ d is J state checked. is J state (rw c.in-Err-Refused.field-0-is (subst (IsChecked here J c.args.signed) (c.in-Err-Refused.is ∙ ap (λ (e : CheckError). Err e) c.in-Err-Refused.field-0-is) checked))) c.refuse.ensures.decided
+
+-- ---- the row of its parents
+
+pub accept-requires-clause-row : goal.accept-requires-clause-row
+accept-requires-clause-row g c =
+    let here = setting g.S.Scheme.verifies c.args.state.now in
+    voucher_comes here c.args.state.now c.args.signed (checked_as here c.args.state.now c.args.signed c.args.checked (Ok pass.Voucher) (c.in-Ok-Voucher.is ∙ ap (λ (p : Pass). Ok p) c.in-Ok-Voucher.field-0-is) c.requires.checked)
+
+pub accept-requires-in-Ok-Update-clause-row : goal.accept-requires-in-Ok-Update-clause-row
+accept-requires-in-Ok-Update-clause-row g c =
+    let here = setting g.S.Scheme.verifies c.args.state.now in
+    update_comes here c.args.state.now c.args.signed c.in-Ok-Update.against c.in-Ok-Update.parents
+    (checked_as here c.args.state.now c.args.signed c.args.checked (Ok (pass.Update c.in-Ok-Update.against c.in-Ok-Update.parents)) (c.in-Ok-Update.is ∙ ap (λ (p : Pass). Ok p) c.in-Ok-Update.field-0-is) c.requires.checked)
+
+pub returns-in-Ok-Known-clause-row : goal.returns-in-Ok-Known-clause-row
+returns-in-Ok-Known-clause-row g c = none_come c.args.state.now.accepted (Ok Known) _ c.of.ensures

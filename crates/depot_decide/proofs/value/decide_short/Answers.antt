@@ -25,12 +25,12 @@ returns-then-not-is_wanted-clause-decided g c =
     (hash_is_wanted c.args.readings.now.records c.args.bytes.now c.hash_of-hash.result _ _ c.hash_of-hash.ensures c.is_wanted.ensures c.if-not-is_wanted.true))
 
 pub held-requires : goal.held-requires
-held-requires g c = record { hash = c.hash_of-hash.ensures ∙ ap sha256 (sym c.in-Ok.ensures.1) }
+held-requires g c = record { hash = c.hash_of-hash.ensures ∙ ap sha256 (sym (c.from_bytes-value.ensures ∙ c.in_ok-from_slice.ensures)) }
 
 pub returns-clause-decided : goal.returns-clause-decided
 returns-clause-decided g c =
     let here = standing g.S.Scheme.verifies c.args.readings.now in
-    made_growth here c.args.readings.now.records (given_value c.args.bytes.now) (Ok New) (Held c.in-Ok.value ∷ []) _ c.held.ensures
-    (value_new here c.args.readings.now.records c.args.bytes.now c.in-Ok.value c.in-Ok.ensures.1
+    made_growth here c.args.readings.now.records (given_value c.args.bytes.now) (Ok New) (Held c.from_bytes-value.result ∷ []) _ c.held.ensures
+    (value_new here c.args.readings.now.records c.args.bytes.now c.from_bytes-value.result (c.from_bytes-value.ensures ∙ c.in_ok-from_slice.ensures)
     (hash_is_held c.args.readings.now.records c.args.bytes.now c.hash_of-hash.result c.value.result _ _ c.hash_of-hash.ensures c.value.ensures c.is_some.ensures c.if-is_some.false)
     (hash_is_wanted c.args.readings.now.records c.args.bytes.now c.hash_of-hash.result _ _ c.hash_of-hash.ensures c.is_wanted.ensures c.if-not-is_wanted.false))

@@ -3,7 +3,7 @@ use Rattle.std.proofs.lemmas.List.{nil_from_length}
 use Rattle.std.proofs.lemmas.Result.{err_from_is_err_and}
 use Rattle.std.proofs.lemmas.Grind.{common_steps}
 use Rattle.std.proofs.lemmas.Bool.Decides.{nat_tests}
-use Rattle.depot_frames.specs.FrameHeads.{missing}
+use Rattle.depot_frames.specs.FrameHeads.{bytes_missing}
 use Rattle.depot_feeds.specs.Pieces.{at_work}
 use Rattle.depot_feeds.specs.NodeCalls.{stream_by}
 use Rattle.depot_feeds.proofs.ChunkLaws.{in_reach}
@@ -23,7 +23,7 @@ loop-rest-init g c = record {
 pub feed_chunk-requires-clause-some : goal.feed_chunk-requires-clause-some
 feed_chunk-requires-clause-some g c =
     let reach = in_reach c.loop-rest.begun.items c.loop-rest.invariant.begun in
-    let same : c.missing.result ≡ missing c.loop-rest.begun.items = c.missing.ensures ∙ ap missing c.as_slice.ensures.value in
+    let same : c.missing.result ≡ bytes_missing c.loop-rest.begun.items = c.missing.ensures ∙ ap bytes_missing c.as_slice.ensures.value in
     grind (arith, common_steps, nat_tests, reach.some, same, c.min-count.ensures, c.split_at.ensures.front_len, c.is_empty.ensures, c.loop-rest-test)
 
 pub feed_chunk-requires-clause-running : goal.feed_chunk-requires-clause-running
@@ -54,7 +54,7 @@ returns-clause-call g c =
 pub loop-rest-smaller : goal.loop-rest-smaller
 loop-rest-smaller g c =
     let reach = in_reach c.loop-rest.begun.items c.loop-rest.invariant.begun in
-    let same : c.missing.result ≡ missing c.loop-rest.begun.items = c.missing.ensures ∙ ap missing c.as_slice.ensures.value in
+    let same : c.missing.result ≡ bytes_missing c.loop-rest.begun.items = c.missing.ensures ∙ ap bytes_missing c.as_slice.ensures.value in
     grind (arith, common_steps, nat_tests, reach.some, same, c.min-count.ensures, c.split_at.ensures.back_len, c.is_empty.ensures, c.loop-rest-test)
 
 pub loop-rest-preserved : goal.loop-rest-preserved

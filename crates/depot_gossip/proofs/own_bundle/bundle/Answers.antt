@@ -23,7 +23,7 @@ returns-in_err-chosen-clause-bundles g c =
 pub returns-in_err-chosen-clause-call : goal.returns-in_err-chosen-clause-call
 returns-in_err-chosen-clause-call g c =
     let p = err_from_is_err_and c.from_residual.result c.from_residual.ensures.1 in
-    rw (p.1, p.2) (idle_on g.R.NodeState (g.met.R.Replica.only_now) (g.met.R.Replica.after_none) _ c.args.node.now _ (g.met.R.Replica.lawful c.args.node.now) c.prepare.ensures.stable
+    rw (p.1, p.2) (idle_on g.R.NodeState (g.met.R.Replica.only_now) (g.met.R.Replica.after_none) c.args.node.now _ (g.met.R.Replica.lawful c.args.node.now) c.prepare.ensures.stable
     (not_prepared_answers (g.R.NodeState.stands c.args.node.now) (g.R.NodeState.signature_of c.args.node.now) (g.R.NodeState.records c.args.node.now) (g.R.NodeState.stopped c.args.node.now) c.args.hello.now c.in_err-chosen.field-0.0 c.in_err-chosen.ensures.prepares)
     (no_disk (g.R.NodeState.stands c.args.node.now) (g.R.NodeState.signature_of c.args.node.now) (g.R.NodeState.records c.args.node.now) (g.R.NodeState.stopped c.args.node.now) c.args.hello.now c.in_err-chosen.field-0.0 c.in_err-chosen.ensures.prepares))
 
@@ -55,24 +55,24 @@ returns-in_err-own_vouchers-clause-call g c =
 
 -- ---- the stream
 
-pub told_of-requires : goal.told_of-requires
-told_of-requires g c = runs_on (g.R.NodeState.stopped c.args.node.now) c.in_ok-chosen.ensures.prepares.runs c.in_ok-own_vouchers.ensures.call.journal.stops (λ e. cc)
+pub bundle_for-requires : goal.bundle_for-requires
+bundle_for-requires g c = runs_on (g.R.NodeState.stopped c.args.node.now) c.in_ok-chosen.ensures.prepares.runs c.in_ok-own_vouchers.ensures.call.journal.stops (λ e. cc)
 
-pub returns-in_err-told_of-clause-bundles : goal.returns-in_err-told_of-clause-bundles
-returns-in_err-told_of-clause-bundles g c =
-    let p = err_from_is_err_and c.from_residual-in_err-told_of.result c.from_residual-in_err-told_of.ensures.1 in
+pub returns-in_err-bundle_for-clause-bundles : goal.returns-in_err-bundle_for-clause-bundles
+returns-in_err-bundle_for-clause-bundles g c =
+    let p = err_from_is_err_and c.from_residual-in_err-bundle_for.result c.from_residual-in_err-bundle_for.ensures.1 in
     rw (p.1, p.2) (only_vouched (g.R.NodeState.stands c.args.node.now) (g.R.NodeState.signature_of c.args.node.now) (g.R.NodeState.records c.args.node.now) (g.R.NodeState.stopped c.args.node.now) c.args.hello.now c.in_ok-chosen.chosen (g.R.NodeState.records c.own_vouchers.new.self) c.in_ok-chosen.ensures.prepares c.in_ok-own_vouchers.ensures.vouches)
 
-pub returns-in_err-told_of-clause-call : goal.returns-in_err-told_of-clause-call
-returns-in_err-told_of-clause-call g c =
-    let p = err_from_is_err_and c.from_residual-in_err-told_of.result c.from_residual-in_err-told_of.ensures.1 in
+pub returns-in_err-bundle_for-clause-call : goal.returns-in_err-bundle_for-clause-call
+returns-in_err-bundle_for-clause-call g c =
+    let p = err_from_is_err_and c.from_residual-in_err-bundle_for.result c.from_residual-in_err-bundle_for.ensures.1 in
     rw (p.1, p.2) (vouched_call g.R.NodeState c.args.hello.now c.in_ok-chosen.chosen c.args.node.now c.own_vouchers.new.self (g.met.R.Replica.lawful c.args.node.now) (g.met.R.Replica.some c.args.node.now) c.in_ok-chosen.ensures.prepares _ (λ e. cc) (λ e. cc) c.in_ok-own_vouchers.ensures.vouches c.in_ok-own_vouchers.ensures.call)
 
 pub returns-clause-bundles : goal.returns-clause-bundles
 returns-clause-bundles g c =
     let then = g.R.NodeState.records c.own_vouchers.new.self in
-    all_bundled (g.R.NodeState.stands c.args.node.now) (g.R.NodeState.signature_of c.args.node.now) (g.R.NodeState.records c.args.node.now) (g.R.NodeState.stopped c.args.node.now) c.args.hello.now c.in_ok-chosen.chosen c.in_ok-told_of.field-0 then c.in_ok-chosen.ensures.prepares c.in_ok-own_vouchers.ensures.vouches
-    (subst (λ (sign : Signs). IsStream sign then c.in_ok-chosen.chosen.hello c.in_ok-chosen.chosen.sending c.in_ok-told_of.field-0) c.own_vouchers.ensures.call.same.signs c.in_ok-told_of.ensures)
+    all_bundled (g.R.NodeState.stands c.args.node.now) (g.R.NodeState.signature_of c.args.node.now) (g.R.NodeState.records c.args.node.now) (g.R.NodeState.stopped c.args.node.now) c.args.hello.now c.in_ok-chosen.chosen c.in_ok-bundle_for.field-0 then c.in_ok-chosen.ensures.prepares c.in_ok-own_vouchers.ensures.vouches
+    (subst (λ (sign : Signs). IsStream sign then c.in_ok-chosen.chosen.hello c.in_ok-chosen.chosen.sending c.in_ok-bundle_for.field-0) c.own_vouchers.ensures.call.same.signs c.in_ok-bundle_for.ensures)
 
 pub returns-clause-call : goal.returns-clause-call
 returns-clause-call g c = vouched_call g.R.NodeState c.args.hello.now c.in_ok-chosen.chosen c.args.node.now c.own_vouchers.new.self (g.met.R.Replica.lawful c.args.node.now) (g.met.R.Replica.some c.args.node.now) c.in_ok-chosen.ensures.prepares _ (λ e. cc) (λ e. cc) c.in_ok-own_vouchers.ensures.vouches c.in_ok-own_vouchers.ensures.call

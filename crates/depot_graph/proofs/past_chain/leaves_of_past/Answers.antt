@@ -3,10 +3,10 @@ use Rattle.std.specs.List.{AllByRecursion}
 use Rattle.depot_model.specs.Items.{children_of}
 use Rattle.depot_model.specs.Lists.{IsIn}
 use Rattle.depot_model.proofs.Members.{all_push}
-use Rattle.depot_virtual.specs.Spots.{IsAt}
+use Rattle.depot_virtual.specs.Spots.{IsSpotAt}
 use Rattle.depot_graph.specs.Kept.{updates_in, prev_places}
 use Rattle.depot_graph.specs.UpdateRows.{IsJoinedRow}
-use Rattle.depot_graph.specs.PastChains.{IsLast}
+use Rattle.depot_graph.specs.PastChains.{IsLastOfChain}
 use Rattle.depot_graph.proofs.ChainLeaves.{AreFound, found_none, found_one, found_all, last_is_counted, none_is_counted, at_within}
 use Rattle.depot_graph.proofs.past_chain.leaves_of_past.Goals as goal
 use Rattle.depot_graph.proofs.past_chain.leaves_of_past.Goals.{then-not-has_covered_child+in_ok-push, else-not-has_covered_child}
@@ -31,13 +31,13 @@ loop-chain-preserved c =
     let row = c.args.row.now in
     let counted = c.in-Some.ensures.some in
     let within : m < length us = at_within us m i counted.place counted.at in
-    let one : (items : List ℕ) → IsJoinedRow us items row → (n place : ℕ) → IsAt (prev_places us) n i place → IsLast us items n → m ≡ n = λ items joined n place at last. last_is_counted us items row i m n place joined counted at last in
+    let one : (items : List ℕ) → IsJoinedRow us items row → (n place : ℕ) → IsSpotAt (prev_places us) n i place → IsLastOfChain us items n → m ≡ n = λ items joined n place at last. last_is_counted us items row i m n place joined counted at last in
     let old = c.loop-chain.found.items in
     elim c.if-not-has_covered_child.branch as (λ _. record { inside : AllByRecursion (λ n. n < length us) c.if-not-has_covered_child.found.items; found : (items : List ℕ) → IsJoinedRow us items row → AreFound us items c.if-not-has_covered_child.found.items (i + 1) }) [
       | then-not-has_covered_child+in_ok-push w ↦ rw (w.found-is, w.in_ok-push.ensures.items) (record {
         inside = all_push (λ n. n < length us) old m c.loop-chain.invariant.inside within;
         found = λ items joined.
-            let here : IsLast us items m = record {
+            let here : IsLastOfChain us items m = record {
               covered = joined.only m i counted.place counted.at counted.counted;
               childless = λ child on covered. let hit = (c.has_covered_child.ensures items joined).1 (child, (on, covered)) in let none = w.if-not-has_covered_child.true in absurd cc;
             } in

@@ -1,10 +1,10 @@
 use Rattle.std.proofs.Common.{◌≡◌, ◌++◌, length, map}
 use Rattle.depot_lines.specs.Language.{split}
-use Rattle.depot_load.specs.TranscriptLines.{told_of, told_lines_of}
+use Rattle.depot_load.specs.TranscriptLines.{line_of_words, told_lines_of}
 use Rattle.depot_load.proofs.transcript_lines.told_lines_of.Given as goal
 
 abbrev pub decreases-loop-line : goal.decreases-loop-line
 decreases-loop-line l = length l.lines
 
 abbrev pub invariant-loop-line : goal.invariant-loop-line
-invariant-loop-line l = told_lines_of l.text ≡ l.told_lines.items ++ map (λ line. told_of (split 32 line)) l.lines
+invariant-loop-line l = told_lines_of l.text ≡ l.told_lines.items ++ map (λ line. line_of_words (split 32 line)) l.lines

@@ -12,7 +12,7 @@ use Rattle.depot_decide.specs.PlannedPuts.{IsPlanned, IsRefused}
 use Rattle.depot_decide.specs.declared.plan_errors.PlanError.{PlanError}
 use Rattle.depot_decide.specs.declared.plan_errors.PlanError.TheVariants as plan
 use Rattle.depot_node.specs.Commits.{Commits}
-use Rattle.depot_node.specs.Holdings.{journal_on, standing}
+use Rattle.depot_node.specs.Holdings.{journal_on, node_setting}
 use Rattle.depot_node.specs.StoreCalls.{IsCommitCall}
 use Rattle.depot_node.specs.declared.commit.CommitError.{CommitError}
 use Rattle.depot_node.specs.declared.commit.CommitError.TheVariants as refused
@@ -35,36 +35,36 @@ not_stopped (plan.Tips n) is = cc
 not_stopped (plan.Collides h) is = cc
 
 -- what is planned
-planned : (g : Over) (c : In_ok-plan g) → IsPlanned (standing g.S.Scheme.verifies c.args.store.now) c.args.store.now.records c.args.changes c.in_ok-plan.plan.done c.in_ok-plan.plan.growth
+planned : (g : Over) (c : In_ok-plan g) → IsPlanned (node_setting g.S.Scheme.verifies c.args.store.now) c.args.store.now.records c.args.changes c.in_ok-plan.plan.done c.in_ok-plan.plan.growth
 planned g c = subst (λ (r : Known). IsPlanned (readings.standing g.S.Scheme.verifies r) r.records c.args.changes c.in_ok-plan.plan.done c.in_ok-plan.plan.growth) c.readings.ensures c.in_ok-plan.ensures.planned
 
 -- and what a refusal says
-refusal : (g : Over) (c : In_err-plan g) → IsRefused (standing g.S.Scheme.verifies c.args.store.now) c.args.store.now.records c.args.changes c.in_err-plan.field-0.0
+refusal : (g : Over) (c : In_err-plan g) → IsRefused (node_setting g.S.Scheme.verifies c.args.store.now) c.args.store.now.records c.args.changes c.in_err-plan.field-0.0
 refusal g c = subst (λ (r : Known). IsRefused (readings.standing g.S.Scheme.verifies r) r.records c.args.changes c.in_err-plan.field-0.0) c.readings.ensures c.in_err-plan.ensures.refused
 
 pub commit-requires-clause-given : goal.commit-requires-clause-given
 commit-requires-clause-given g c = subst (λ (rs : List Record). IsGiven rs []) (sym (planned g (goal.at.commit-requires-clause-given g c).In_ok-plan).grows) tt
 
 pub commit-requires-clause-may : goal.commit-requires-clause-may
-commit-requires-clause-may g c = plan_may_grow (standing g.S.Scheme.verifies c.args.store.now) c.args.store.now.records c.args.changes c.in_ok-plan.plan.done c.in_ok-plan.plan.growth (planned g (goal.at.commit-requires-clause-may g c).In_ok-plan)
+commit-requires-clause-may g c = plan_may_grow (node_setting g.S.Scheme.verifies c.args.store.now) c.args.store.now.records c.args.changes c.in_ok-plan.plan.done c.in_ok-plan.plan.growth (planned g (goal.at.commit-requires-clause-may g c).In_ok-plan)
 
 pub returns-in-Ok-clause-puts : goal.returns-in-Ok-clause-puts
-returns-in-Ok-clause-puts g c = plan_is_put (standing g.S.Scheme.verifies c.args.store.now) c.args.store.now.records c.args.changes c.in_ok-plan.plan.done c.in_ok-plan.plan.growth _ (planned g (goal.at.returns-in-Ok-clause-puts g c).In_ok-plan) c.in-Ok.ensures.commits
+returns-in-Ok-clause-puts g c = plan_is_put (node_setting g.S.Scheme.verifies c.args.store.now) c.args.store.now.records c.args.changes c.in_ok-plan.plan.done c.in_ok-plan.plan.growth _ (planned g (goal.at.returns-in-Ok-clause-puts g c).In_ok-plan) c.in-Ok.ensures.commits
 
 pub returns-in-Err-Full-clause-puts : goal.returns-in-Err-Full-clause-puts
 returns-in-Err-Full-clause-puts g c =
-    rw c.in-Err-Full.field-0-is (plan_has_no_room (standing g.S.Scheme.verifies c.args.store.now) c.args.store.now.records c.args.changes c.in_ok-plan.plan.done c.in_ok-plan.plan.growth _ c.in-Err-Full.full (planned g (goal.at.returns-in-Err-Full-clause-puts g c).In_ok-plan)
+    rw c.in-Err-Full.field-0-is (plan_has_no_room (node_setting g.S.Scheme.verifies c.args.store.now) c.args.store.now.records c.args.changes c.in_ok-plan.plan.done c.in_ok-plan.plan.growth _ c.in-Err-Full.full (planned g (goal.at.returns-in-Err-Full-clause-puts g c).In_ok-plan)
     (subst (λ (e : CommitError). Commits c.args.store.now.me c.args.store.now.records c.in_ok-plan.plan.growth (Err e) c.commit.new.self.records) c.in-Err-Full.field-0-is c.in-Err-Full.ensures.commits))
 
 pub returns-in_err-plan-clause-puts : goal.returns-in_err-plan-clause-puts
 returns-in_err-plan-clause-puts g c =
     let p = err_from_is_err_and c.from_residual.result c.from_residual.ensures.1 in
-    rw (p.1, p.2) (refused_puts (standing g.S.Scheme.verifies c.args.store.now) c.args.store.now.records c.args.changes c.in_err-plan.field-0.0 (refusal g (goal.at.returns-in_err-plan-clause-puts g c).In_err-plan))
+    rw (p.1, p.2) (refused_puts (node_setting g.S.Scheme.verifies c.args.store.now) c.args.store.now.records c.args.changes c.in_err-plan.field-0.0 (refusal g (goal.at.returns-in_err-plan-clause-puts g c).In_err-plan))
 
 pub returns-in-Err-Disk-clause-puts : goal.returns-in-Err-Disk-clause-puts
 returns-in-Err-Disk-clause-puts g c =
     let cut = subst (λ (e : CommitError). Commits c.args.store.now.me c.args.store.now.records c.in_ok-plan.plan.growth (Err e) c.commit.new.self.records) c.in-Err-Disk.field-0-is c.in-Err-Disk.ensures.commits in
-    plan_is_cut (standing g.S.Scheme.verifies c.args.store.now) c.args.store.now.records c.args.changes c.in_ok-plan.plan.done c.in_ok-plan.plan.growth _ (planned g (goal.at.returns-in-Err-Disk-clause-puts g c).In_ok-plan) cut.0 cut.1
+    plan_is_cut (node_setting g.S.Scheme.verifies c.args.store.now) c.args.store.now.records c.args.changes c.in_ok-plan.plan.done c.in_ok-plan.plan.growth _ (planned g (goal.at.returns-in-Err-Disk-clause-puts g c).In_ok-plan) cut.0 cut.1
 
 -- ---- the call
 

@@ -8,7 +8,7 @@ use Rattle.depot_base.specs.declared.record.Record.{Record}
 use Rattle.depot_model.specs.Records.{text_of_record}
 use Rattle.depot_model.specs.Stops.{calls_to_record}
 use Rattle.depot_model.specs.RecordFaults.{AreTextsOf}
-use Rattle.depot_node.specs.Holdings.{Holding, standing}
+use Rattle.depot_node.specs.Holdings.{Holding, node_setting}
 use Rattle.depot_node.specs.Starting.{AreNotRead, IsDiskThen, LeavesNew, birth_after, calls_to_start_node, of_journal, started}
 use Rattle.depot_node.proofs.Fills.{says_damaged}
 use Rattle.depot_node.proofs.StartCalls.{calls_of_start, cause_behind, disk_of_journal, reading_fails, start_fails}
@@ -46,7 +46,7 @@ then g c = record {
   same = c.fill.ensures.disk.same ∙ ap g.D.Disk.handle (mid g c) ∙ c.in-Ok.ensures.handle;
   told = c.fill.ensures.left.told ∙ ap g.D.Disk.tells (mid g c) ∙ c.in-Ok.ensures.tells;
   any_moment = λ told.
-      let stands = ap (λ (v : Holding g.row.D.Denot). birth_after (standing g.S.Scheme.verifies v) []) c.new-store.ensures in
+      let stands = ap (λ (v : Holding g.row.D.Denot). birth_after (node_setting g.S.Scheme.verifies v) []) c.new-store.ensures in
       left g c (birth_after (here g c) []) told
       (subst (λ (new : List Record). LeavesOnly g.D.Disk.moment g.D.Disk.left_since c.new-store.result.disk c.fill.new.store.disk (LeavesNew new (c.new-store.result.unread ≡ []) (g.D.Disk.may_leave c.new-store.result.disk))) stands (c.fill.ensures.left.any_moment (told_in g c told)));
   faultless = λ w.
@@ -78,7 +78,7 @@ returns-in-Err-clause-disk g c = record {
 
 pub returns-in-Ok-fill-clause-lawful : goal.returns-in-Ok-fill-clause-lawful
 returns-in-Ok-fill-clause-lawful g c =
-    let J = subst (λ (v : Holding g.row.D.Denot). (K : List Record) × (AreTextsOf (standing g.S.Scheme.verifies v) K v.unread × (c.fill.new.store.records ≡ started (standing g.S.Scheme.verifies v) K))) c.new-store.ensures c.in-Ok-fill.ensures.filled.records in
+    let J = subst (λ (v : Holding g.row.D.Denot). (K : List Record) × (AreTextsOf (node_setting g.S.Scheme.verifies v) K v.unread × (c.fill.new.store.records ≡ started (node_setting g.S.Scheme.verifies v) K))) c.new-store.ensures c.in-Ok-fill.ensures.filled.records in
     (J.0, (J.1.0.lawful, J.1.1))
 
 pub returns-in-Ok-fill-clause-whole : goal.returns-in-Ok-fill-clause-whole
@@ -87,13 +87,13 @@ returns-in-Ok-fill-clause-whole g c = c.in-Ok-fill.ensures.filled.whole
 pub returns-in-Ok-fill-clause-started : goal.returns-in-Ok-fill-clause-started
 returns-in-Ok-fill-clause-started g c =
     let at = (goal.at.returns-in-Ok-fill-clause-started g c).After-fill in
-    let J = subst (λ (v : Holding g.row.D.Denot). (K : List Record) × (AreTextsOf (standing g.S.Scheme.verifies v) K v.unread × (c.fill.new.store.records ≡ started (standing g.S.Scheme.verifies v) K))) c.new-store.ensures c.in-Ok-fill.ensures.filled.records in
+    let J = subst (λ (v : Holding g.row.D.Denot). (K : List Record) × (AreTextsOf (node_setting g.S.Scheme.verifies v) K v.unread × (c.fill.new.store.records ≡ started (node_setting g.S.Scheme.verifies v) K))) c.new-store.ensures c.in-Ok-fill.ensures.filled.records in
     let before : g.D.Disk.faults c.new-store.result.disk ≡ g.D.Disk.faults c.args.disk = ap (λ (v : Holding g.row.D.Denot). g.D.Disk.faults v.disk) c.new-store.ensures ∙ c.in-Ok.ensures.calm in
     record {
       from = λ told. started_from (setting g.S.Scheme.verifies c.args.state) (g.D.Disk.seen c.args.disk) c.in-Ok.journal.records c.fill.new.store.records J (c.in-Ok.ensures.read told);
       stable = λ told. c.in-Ok-fill.ensures.filled.stable (told_in g at told);
       calls = λ told J has.
-          let filled = subst (λ (v : Holding g.row.D.Denot). (K : List Record) → v.unread ≡ map text_of_record K → g.D.Disk.after v.disk (made (calls_to_record K (birth_after (standing g.S.Scheme.verifies v) K))) c.fill.new.store.disk) c.new-store.ensures c.in-Ok-fill.ensures.filled.calls in
+          let filled = subst (λ (v : Holding g.row.D.Denot). (K : List Record) → v.unread ≡ map text_of_record K → g.D.Disk.after v.disk (made (calls_to_record K (birth_after (node_setting g.S.Scheme.verifies v) K))) c.fill.new.store.disk) c.new-store.ensures c.in-Ok-fill.ensures.filled.calls in
           calls_of_start g.D.Disk.after g.met.D.Disk.after_more (setting g.S.Scheme.verifies c.args.state) (g.D.Disk.seen c.args.disk) c.args.disk c.in-Ok.journal.disk c.fill.new.store.disk c.in-Ok.journal.records (c.in-Ok.ensures.read told) (c.in-Ok.ensures.made told) filled J has;
       calm = unrisen _ _ c.in-Ok-fill.ensures.disk.cause.never_falls (λ rose. (let never = c.in-Ok-fill.ensures.disk.cause.only rose in absurd cc)) ∙ before;
     }
@@ -108,7 +108,7 @@ returns-in-Ok-fill-clause-disk g c = then g (goal.at.returns-in-Ok-fill-clause-d
 
 pub returns-in-Err-fill-clause-refused : goal.returns-in-Err-fill-clause-refused
 returns-in-Err-fill-clause-refused g c =
-    let wrong = subst (λ (v : Holding g.row.D.Denot). AreNotRead (standing g.S.Scheme.verifies v) v.unread c.in-Err-fill.error) c.new-store.ensures c.in-Err-fill.ensures.refused.wrong in
+    let wrong = subst (λ (v : Holding g.row.D.Denot). AreNotRead (node_setting g.S.Scheme.verifies v) v.unread c.in-Err-fill.error) c.new-store.ensures c.in-Err-fill.ensures.refused.wrong in
     reading_fault (setting g.S.Scheme.verifies c.args.state) (IsTrue (g.D.Disk.tells c.args.disk)) (g.D.Disk.seen c.args.disk) c.in-Ok.journal.records c.in-Err-fill.error c.in-Ok.ensures.read wrong
 
 pub returns-in-Err-fill-clause-back : goal.returns-in-Err-fill-clause-back
@@ -118,13 +118,13 @@ returns-in-Err-fill-clause-back g c =
     let before : g.D.Disk.faults c.new-store.result.disk ≡ g.D.Disk.faults c.args.disk = ap (λ (v : Holding g.row.D.Denot). g.D.Disk.faults v.disk) c.new-store.ensures ∙ c.in-Ok.ensures.calm in
     record {
       unchanged = λ leaves.
-          let wrong = subst (λ (v : Holding g.row.D.Denot). AreNotRead (standing g.S.Scheme.verifies v) v.unread c.in-Err-fill.error) c.new-store.ensures c.in-Err-fill.ensures.refused.wrong in
+          let wrong = subst (λ (v : Holding g.row.D.Denot). AreNotRead (node_setting g.S.Scheme.verifies v) v.unread c.in-Err-fill.error) c.new-store.ensures c.in-Err-fill.ensures.refused.wrong in
           let disk = c.into_disk.ensures ∙ c.in-Err-fill.ensures.refused.unchanged leaves ∙ ap (λ (v : Holding g.row.D.Denot). v.disk) c.new-store.ensures in
           ap g.D.Disk.seen disk ∙ c.in-Ok.ensures.same (fault_has_text spot c.in-Ok.journal.records c.in-Err-fill.error wrong leaves);
       unborn = λ other told.
           subst (λ (d : g.row.D.Denot). LeavesOnly g.D.Disk.moment g.D.Disk.left_since c.args.disk d (LeavesNew [] (IsFileOf (g.D.Disk.seen c.args.disk) []) (g.D.Disk.may_leave c.args.disk))) (sym c.into_disk.ensures) (left g at [] told (c.in-Err-fill.ensures.refused.unborn other (told_in g at told)));
       failing = λ failed told J has.
-          let filled = subst (λ (v : Holding g.row.D.Denot). (K : List Record) → v.unread ≡ map text_of_record K → FailsAmong g.D.Disk.after v.disk c.fill.new.store.disk (calls_to_record K (birth_after (standing g.S.Scheme.verifies v) K))) c.new-store.ensures (c.in-Err-fill.ensures.refused.failing failed) in
+          let filled = subst (λ (v : Holding g.row.D.Denot). (K : List Record) → v.unread ≡ map text_of_record K → FailsAmong g.D.Disk.after v.disk c.fill.new.store.disk (calls_to_record K (birth_after (node_setting g.S.Scheme.verifies v) K))) c.new-store.ensures (c.in-Err-fill.ensures.refused.failing failed) in
           let fails = reading_fails g.D.Disk.after g.met.D.Disk.after_more spot (g.D.Disk.seen c.args.disk) c.args.disk c.in-Ok.journal.disk c.fill.new.store.disk c.in-Ok.journal.records (c.in-Ok.ensures.read told) (c.in-Ok.ensures.made told) filled J has in
           subst (λ (d : g.row.D.Denot). FailsAmong g.D.Disk.after c.args.disk d (calls_to_start_node spot (g.D.Disk.seen c.args.disk) J)) (sym c.into_disk.ensures) fails;
       cause = cause_behind _ _ _ _ _ _ before (ap g.D.Disk.faults c.into_disk.ensures) (λ is. ap Err is) (λ is. cc) c.in-Err-fill.ensures.disk.cause;

@@ -5,7 +5,7 @@ use Rattle.depot_base.specs.declared.record.Record.TheVariants.{Birth}
 use Rattle.depot_model.specs.Lawful.{IsLawful}
 use Rattle.depot_model.specs.Texts.{hash_of_roster}
 use Rattle.depot_readings.specs.RecordTexts.{IsGiven}
-use Rattle.depot_node.specs.Holdings.{standing}
+use Rattle.depot_node.specs.Holdings.{node_setting}
 use Rattle.depot_node.specs.Starting.{birth_after}
 use Rattle.depot_node.specs.StoreCalls.{IsWriteCall}
 use Rattle.depot_node.specs.declared.commit.WriteError.{WriteError}
@@ -17,21 +17,21 @@ use Rattle.depot_node.proofs.start_reading.add_birth.Goals as goal
 use Rattle.depot_node.proofs.start_reading.add_birth.Goals.{After-hash-hash, After-birth-birth}
 
 -- the journal with it is lawful
-lawful : (g : Over) (c : After-hash-hash g) → IsLawful (standing g.S.Scheme.verifies c.args.store.now) (c.args.store.now.records ++ Birth c.me-node.result c.hash-hash.result.now ∷ [])
+lawful : (g : Over) (c : After-hash-hash g) → IsLawful (node_setting g.S.Scheme.verifies c.args.store.now) (c.args.store.now.records ++ Birth c.me-node.result c.hash-hash.result.now ∷ [])
 lawful g c =
-    birth_begins (standing g.S.Scheme.verifies c.args.store.now) c.args.store.now.records c.me-node.result c.roster-roster.result.now c.hash-hash.result.now
+    birth_begins (node_setting g.S.Scheme.verifies c.args.store.now) c.args.store.now.records c.me-node.result c.roster-roster.result.now c.hash-hash.result.now
     c.requires.none c.me-node.ensures c.roster-roster.ensures c.entries-entries.ensures.roster c.hash-hash.ensures c.requires.listed
 
 -- it is what a start appends
-is_birth : (g : Over) (c : After-birth-birth g) → c.birth-birth.result ≡ birth_after (standing g.S.Scheme.verifies c.args.store.now) []
+is_birth : (g : Over) (c : After-birth-birth g) → c.birth-birth.result ≡ birth_after (node_setting g.S.Scheme.verifies c.args.store.now) []
 is_birth g c = c.birth-birth.ensures ∙ (λ i. Birth (c.me-node.ensures i) ((c.hash-hash.ensures ∙ ap hash_of_roster c.roster-roster.ensures) i) ∷ [])
 
 pub birth-birth-requires : goal.birth-birth-requires
-birth-birth-requires g c = record { text = last_has_text (standing g.S.Scheme.verifies c.args.store.now) c.args.store.now.records (Birth c.me-node.result c.hash-hash.result.now) (lawful g (goal.at.birth-birth-requires g c).After-hash-hash) }
+birth-birth-requires g c = record { text = last_has_text (node_setting g.S.Scheme.verifies c.args.store.now) c.args.store.now.records (Birth c.me-node.result c.hash-hash.result.now) (lawful g (goal.at.birth-birth-requires g c).After-hash-hash) }
 
 pub append-requires-clause-lawful : goal.append-requires-clause-lawful
 append-requires-clause-lawful g c =
-    subst (λ (rs : List Record). IsLawful (standing g.S.Scheme.verifies c.args.store.now) (c.args.store.now.records ++ rs)) (sym c.birth-birth.ensures) (lawful g (goal.at.append-requires-clause-lawful g c).After-hash-hash)
+    subst (λ (rs : List Record). IsLawful (node_setting g.S.Scheme.verifies c.args.store.now) (c.args.store.now.records ++ rs)) (sym c.birth-birth.ensures) (lawful g (goal.at.append-requires-clause-lawful g c).After-hash-hash)
 
 pub append-requires-clause-given : goal.append-requires-clause-given
 append-requires-clause-given g c = subst (λ (rs : List Record). IsGiven rs []) (sym c.birth-birth.ensures) tt

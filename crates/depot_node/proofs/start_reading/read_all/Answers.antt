@@ -3,14 +3,14 @@ use Rattle.std.proofs.lemmas.Result.{err_from_is_err_and}
 use Rattle.depot_model.specs.Checks.{Setting}
 use Rattle.depot_model.specs.Stops.{LeavesAll}
 use Rattle.depot_model.specs.RecordFaults.{AreTextsOf}
-use Rattle.depot_node.specs.Holdings.{Holding, IsWhole, standing}
+use Rattle.depot_node.specs.Holdings.{Holding, IsWhole, node_setting}
 use Rattle.depot_node.proofs.RecordReads.{reading_begins, reading_ends, reading_goes_on, reading_is_shorter, reading_runs, reading_stands, reading_stops}
 use Rattle.depot_node.proofs.start_reading.read_all.Given.{Over}
 use Rattle.depot_node.proofs.start_reading.read_all.Goals as goal
 
 -- where the node stands
 abbrev at : (g : Over) → Holding g.row.D.Denot → Setting
-at g v = standing g.S.Scheme.verifies v
+at g v = node_setting g.S.Scheme.verifies v
 
 pub loop-init : goal.loop-init
 loop-init g c = reading_begins (at g c.args.store.now) c.args.store.now c.requires.none

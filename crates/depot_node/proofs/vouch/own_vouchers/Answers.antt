@@ -13,7 +13,7 @@ use Rattle.depot_decide.specs.declared.plan_errors.VoucherPlanError.{VoucherPlan
 use Rattle.depot_decide.specs.declared.plan_errors.VoucherPlanError.TheVariants as plan_error
 use Rattle.depot_decide.proofs.VoucherPlans.{cut_vouchers, may_vouch, no_room, refused_vouches, vouched}
 use Rattle.depot_node.specs.Commits.{Commits}
-use Rattle.depot_node.specs.Holdings.{journal_on, standing}
+use Rattle.depot_node.specs.Holdings.{journal_on, node_setting}
 use Rattle.depot_node.specs.StoreCalls.{IsCommitCall}
 use Rattle.depot_node.specs.declared.commit.CommitError.{CommitError}
 use Rattle.depot_node.specs.declared.commit.CommitError.TheVariants as refused
@@ -33,40 +33,40 @@ not_stopped plan_error.Memory is = cc
 not_stopped (plan_error.Spent n) is = cc
 
 -- what is planned of these ids
-plan : (g : Over) (c : In_ok-growth g) → ArePlanned (standing g.S.Scheme.verifies c.args.store.now) c.args.store.now.records c.args.ids.now c.in_ok-growth.growth
+plan : (g : Over) (c : In_ok-growth g) → ArePlanned (node_setting g.S.Scheme.verifies c.args.store.now) c.args.store.now.records c.args.ids.now c.in_ok-growth.growth
 plan g c =
-    subst (λ (ids : List (List ℕ)). ArePlanned (standing g.S.Scheme.verifies c.args.store.now) c.args.store.now.records ids c.in_ok-growth.growth) c.as_slice.ensures
+    subst (λ (ids : List (List ℕ)). ArePlanned (node_setting g.S.Scheme.verifies c.args.store.now) c.args.store.now.records ids c.in_ok-growth.growth) c.as_slice.ensures
     (subst (λ (r : Known). ArePlanned (readings.standing g.S.Scheme.verifies r) r.records c.as_slice.result.now c.in_ok-growth.growth) c.readings.ensures c.in_ok-growth.ensures.planned)
 
 -- and what a refusal says of them
-refusal : (g : Over) (c : In_err-growth g) → AreRefused (standing g.S.Scheme.verifies c.args.store.now) c.args.store.now.records c.args.ids.now c.in_err-growth.field-0.0
+refusal : (g : Over) (c : In_err-growth g) → AreRefused (node_setting g.S.Scheme.verifies c.args.store.now) c.args.store.now.records c.args.ids.now c.in_err-growth.field-0.0
 refusal g c =
-    subst (λ (ids : List (List ℕ)). AreRefused (standing g.S.Scheme.verifies c.args.store.now) c.args.store.now.records ids c.in_err-growth.field-0.0) c.as_slice.ensures
+    subst (λ (ids : List (List ℕ)). AreRefused (node_setting g.S.Scheme.verifies c.args.store.now) c.args.store.now.records ids c.in_err-growth.field-0.0) c.as_slice.ensures
     (subst (λ (r : Known). AreRefused (readings.standing g.S.Scheme.verifies r) r.records c.as_slice.result.now c.in_err-growth.field-0.0) c.readings.ensures c.in_err-growth.ensures.refused)
 
 pub commit-requires-clause-may : goal.commit-requires-clause-may
-commit-requires-clause-may g c = may_vouch (standing g.S.Scheme.verifies c.args.store.now) c.args.store.now.records c.args.ids.now _ (plan g (goal.at.commit-requires-clause-may g c).In_ok-growth)
+commit-requires-clause-may g c = may_vouch (node_setting g.S.Scheme.verifies c.args.store.now) c.args.store.now.records c.args.ids.now _ (plan g (goal.at.commit-requires-clause-may g c).In_ok-growth)
 
 pub returns-in-Ok-clause-vouches : goal.returns-in-Ok-clause-vouches
-returns-in-Ok-clause-vouches g c = vouched (standing g.S.Scheme.verifies c.args.store.now) c.args.store.now.records c.args.ids.now _ _ (plan g (goal.at.returns-in-Ok-clause-vouches g c).In_ok-growth) c.in-Ok.ensures.commits
+returns-in-Ok-clause-vouches g c = vouched (node_setting g.S.Scheme.verifies c.args.store.now) c.args.store.now.records c.args.ids.now _ _ (plan g (goal.at.returns-in-Ok-clause-vouches g c).In_ok-growth) c.in-Ok.ensures.commits
 
 pub returns-in-Err-Full-clause-vouches : goal.returns-in-Err-Full-clause-vouches
 returns-in-Err-Full-clause-vouches g c =
-    no_room (standing g.S.Scheme.verifies c.args.store.now) c.args.store.now.records c.args.ids.now _ _ c.in-Err-Full.full (plan g (goal.at.returns-in-Err-Full-clause-vouches g c).In_ok-growth)
+    no_room (node_setting g.S.Scheme.verifies c.args.store.now) c.args.store.now.records c.args.ids.now _ _ c.in-Err-Full.full (plan g (goal.at.returns-in-Err-Full-clause-vouches g c).In_ok-growth)
     (subst (λ (e : CommitError). Commits c.args.store.now.me c.args.store.now.records c.in_ok-growth.growth (Err e) c.commit.new.self.records) c.in-Err-Full.field-0-is c.in-Err-Full.ensures.commits)
 
 pub returns-in_err-growth-clause-vouches : goal.returns-in_err-growth-clause-vouches
 returns-in_err-growth-clause-vouches g c =
     let p = err_from_is_err_and c.from_residual.result c.from_residual.ensures.1 in
-    rw (p.1, p.2) (refused_vouches (standing g.S.Scheme.verifies c.args.store.now) c.args.store.now.records c.args.ids.now c.in_err-growth.field-0.0 (refusal g (goal.at.returns-in_err-growth-clause-vouches g c).In_err-growth))
+    rw (p.1, p.2) (refused_vouches (node_setting g.S.Scheme.verifies c.args.store.now) c.args.store.now.records c.args.ids.now c.in_err-growth.field-0.0 (refusal g (goal.at.returns-in_err-growth-clause-vouches g c).In_err-growth))
 
 pub returns-in-Err-Disk-clause-vouches : goal.returns-in-Err-Disk-clause-vouches
 returns-in-Err-Disk-clause-vouches g c =
     let cut = subst (λ (e : CommitError). Commits c.args.store.now.me c.args.store.now.records c.in_ok-growth.growth (Err e) c.commit.new.self.records) c.in-Err-Disk.field-0-is c.in-Err-Disk.ensures.commits in
-    cut_vouchers (standing g.S.Scheme.verifies c.args.store.now) c.args.store.now.records c.args.ids.now _ _ (plan g (goal.at.returns-in-Err-Disk-clause-vouches g c).In_ok-growth) cut.0 cut.1
+    cut_vouchers (node_setting g.S.Scheme.verifies c.args.store.now) c.args.store.now.records c.args.ids.now _ _ (plan g (goal.at.returns-in-Err-Disk-clause-vouches g c).In_ok-growth) cut.0 cut.1
 
 pub commit-requires-clause-given : goal.commit-requires-clause-given
-commit-requires-clause-given g c = subst (λ (rs : List Record). IsGiven rs []) (sym (plan g (goal.at.commit-requires-clause-given g c).In_ok-growth).grows) (vouchers_given (new_vouchers (standing g.S.Scheme.verifies c.args.store.now).me c.args.store.now.records c.args.ids.now) [])
+commit-requires-clause-given g c = subst (λ (rs : List Record). IsGiven rs []) (sym (plan g (goal.at.commit-requires-clause-given g c).In_ok-growth).grows) (vouchers_given (new_vouchers (node_setting g.S.Scheme.verifies c.args.store.now).me c.args.store.now.records c.args.ids.now) [])
 
 -- ---- the call
 

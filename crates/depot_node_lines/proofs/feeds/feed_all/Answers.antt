@@ -8,7 +8,7 @@ use Rattle.depot_feeds.proofs.FedCalls.{all_fed, chunk_fails, chunk_left, none_l
 use Rattle.depot_feeds.proofs.PieceLaws.{under_way_fails, under_way_first}
 use Rattle.depot_model.specs.Feeding.{feeding_from}
 use Rattle.depot_model.proofs.JournalCallLaws.{never_answered, never_stopped, runs_on}
-use Rattle.depot_node_lines.proofs.FedStreams.{goes_on, renamed_fed, same_disk, same_failure, told_all, under_way_on}
+use Rattle.depot_node_lines.proofs.FedStreams.{goes_on, renamed_fed, same_failure, told_all, under_way_on}
 use Rattle.depot_node_lines.proofs.feeds.feed_all.Goals as goal
 
 pub returns-in_default-clause-call : goal.returns-in_default-clause-call
@@ -65,7 +65,7 @@ returns-in-Err-clause-call g c =
     let same = c.closed.ensures.same in
     let runs = runs_left g.R.NodeState c.args.node.now c.loop-rest.node c.requires.runs c.loop-rest.invariant.left in
     let went = IfOk-weaker r _ _ (λ told _ is. never_answered _ runs c.in-Err.ensures.call.left.node.journal.stops (ap Err is)) c.closed.ensures.ran in
-    renamed_fed g.R.NodeState c.args.node.now c.piece.new.node (same_failure e error.Stopped r went same) (same_failure e error.Disk r c.closed.ensures.ran same) (same_disk e r c.closed.ensures.ran same)
+    renamed_fed g.R.NodeState c.args.node.now c.piece.new.node (same_failure e error.Stopped r went same) (same_failure e error.Disk r c.closed.ensures.ran same)
     (chunk_fails g.R.NodeState (g.met.R.Replica.after_more) c.args.node.now c.loop-rest.node c.piece.new.node c.requires.runs c.loop-rest.invariant.left (feeding_from (g.R.NodeState.records c.args.node.now)) (at_work c.loop-rest.feed (g.R.NodeState.records c.loop-rest.node)) c.args.stream.now c.loop-rest.rest.now c.split_at.result.0.now c.split_at.result.1.now
     c.loop-rest.invariant.under_way c.split_at.ensures.by_index.0 c.in-Err.ensures.call)
 

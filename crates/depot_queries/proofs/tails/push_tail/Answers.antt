@@ -2,7 +2,7 @@ use Rattle.std.proofs.Common.{◌≡◌, ◌∙◌, ◌<◌, ◌≤◌, [], ℕ,
 use Rattle.std.specs.Prelude.{slice_get}
 use Rattle.depot_base.specs.declared.update.Update.{Update}
 use Rattle.depot_virtual.specs.declared.Spot.{Spot}
-use Rattle.depot_virtual.specs.Spots.{IsAt, spots}
+use Rattle.depot_virtual.specs.Spots.{IsSpotAt, spots}
 use Rattle.depot_graph.specs.Causal.{causal_from_test}
 use Rattle.depot_graph.specs.Kept.{updates_in, prev_places}
 use Rattle.depot_graph.proofs.ChainLeaves.{at_within, prevs_are_earlier}
@@ -10,7 +10,7 @@ use Rattle.depot_queries.proofs.TailLaws.{IsPassed, passed_tip, passed_next, pas
 use Rattle.depot_queries.proofs.tails.push_tail.Goals as goal
 
 -- the place that was read is that of the item
-read : (us : List Update) (n chain place : ℕ) (s : Spot) → IsAt (prev_places us) n chain place → slice_get (spots (prev_places us)) n ≡ Some s → s.place ≡ place
+read : (us : List Update) (n chain place : ℕ) (s : Spot) → IsSpotAt (prev_places us) n chain place → slice_get (spots (prev_places us)) n ≡ Some s → s.place ≡ place
 read us n chain place s at told = let both : Some s ≡ Some (record { chain = chain; place = place }) = sym told ∙ at in let same : s ≡ record { chain = chain; place = place } = cc in ap (λ (x : Spot). x.place) same
 
 pub spot-requires : goal.spot-requires

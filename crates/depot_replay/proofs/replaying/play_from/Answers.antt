@@ -1,8 +1,12 @@
-use Rattle.std.proofs.Common.{◌≡◌, ◌++◌, ℕ, List, rules, refl, sym, subst}
+use Rattle.std.proofs.Common.{◌≡◌, ◌++◌, ℕ, List, true, rules, refl, sym, subst, ◌∙◌}
+use Rattle.std.specs.List.{list_any}
 use Rattle.std.proofs.lemmas.List.{append-nil}
 use Rattle.std.proofs.lemmas.Result.{on_err_weaker, on_ok_weaker}
 use Rattle.depot_base.proofs.Writing.{on_err_from}
 use Rattle.depot_base.specs.Reading.{AddsFrontOf}
+use Rattle.depot_model.proofs.Members.{any_from}
+use Rattle.depot_model.specs.Lists.{IsIn}
+use Rattle.depot_schedule.specs.declared.event.Event.{Event}
 use Rattle.depot_schedule.specs.declared.schedule.Schedule.{Schedule}
 use Rattle.depot_schedule.specs.declared.member.Member.{Member}
 use Rattle.depot_schedule.specs.Schedules.{IsSchedule}
@@ -12,6 +16,7 @@ use Rattle.depot_world.specs.Transcript.{printed, transcript_of}
 use Rattle.depot_world.proofs.SoundRuns.{runs_are_sound}
 use Rattle.depot_scenario.specs.MemberSigners.{AreSigners, member_signers_of}
 use Rattle.depot_scenario.specs.Scenarios.{IsSet, MayHappen}
+use Rattle.depot_simulation.specs.Asking.{asks}
 use Rattle.depot_simulation.specs.Playing.{StaysSound}
 use Rattle.depot_simulation.proofs.BegunRuns.{schedule_may}
 use Rattle.depot_replay.specs.BegunSchedules.{with_events}
@@ -48,13 +53,18 @@ play_all-requires-clause-played g c =
       run = run_of (setup_of s) s.members;
       on = set_by g (goal.at.play_all-requires-clause-played g c).After-as_slice;
       sound = stays_sound s c.requires.schedule;
-      at = c.in_ok-play.ensures;
+      at = c.in_ok-play.ensures.at;
     }
 
 pub play_all-requires-clause-may : goal.play_all-requires-clause-may
 play_all-requires-clause-may g c = λ e on.
     let s = with_events c.args.begin.now c.args.events in
     subst (λ (ms : List Member). MayHappen s.height ms e) (sym c.as_slice.ensures) (schedule_may s c.requires.schedule e on)
+
+pub play_all-requires-clause-asked : goal.play_all-requires-clause-asked
+play_all-requires-clause-asked g c = λ e on is.
+    let seen : list_any asks c.as_slice-2.result.now ≡ true = any_from asks e c.as_slice-2.result.now (subst (λ (es : List Event). IsIn e es) (sym c.as_slice-2.ensures) on) is in
+    c.in_ok-play.ensures.asked ∙ c.any_asks-asked.ensures ∙ seen
 
 -- what is printed of its events is its transcript
 transcript_is : (s : Schedule) → printed (setup_of s) (run_of (setup_of s) s.members) s.events ≡ transcript_of s
@@ -68,7 +78,7 @@ returns-clause-done g c =
     let setup = setup_of s in
     let set = set_by g (goal.at.returns-clause-done g c).After-as_slice in
     λ tells. on_ok_weaker c.play_all.result (λ wrote. subst (λ (t : List ℕ). g.K.Sink.written c.play_all.new.out ≡ g.K.Sink.written c.args.out.now ++ t) (transcript_is s) (wrote tells))
-    (c.play_all.ensures.done setup (run_of setup s.members) set (stays_sound s c.requires.schedule) c.in_ok-play.ensures)
+    (c.play_all.ensures.done setup (run_of setup s.members) set (stays_sound s c.requires.schedule) c.in_ok-play.ensures.at)
 
 pub returns-clause-front : goal.returns-clause-front
 unfolding setup_of
@@ -77,7 +87,7 @@ returns-clause-front g c =
     let setup = setup_of s in
     let set = set_by g (goal.at.returns-clause-front g c).After-as_slice in
     λ tells. on_err_weaker c.play_all.result (λ wrote. subst (λ (t : List ℕ). AddsFrontOf (g.K.Sink.written c.args.out.now) t (g.K.Sink.written c.play_all.new.out)) (transcript_is s) (wrote tells))
-    (c.play_all.ensures.front setup (run_of setup s.members) set (stays_sound s c.requires.schedule) c.in_ok-play.ensures)
+    (c.play_all.ensures.front setup (run_of setup s.members) set (stays_sound s c.requires.schedule) c.in_ok-play.ensures.at)
 
 -- no memory was found for the nodes, and nothing was written
 pub returns-in_err-play-clause-front : goal.returns-in_err-play-clause-front

@@ -9,7 +9,7 @@ use Rattle.depot_search.proofs.Journals.{all_told, all_of, all_few, few_reads}
 use Rattle.depot_search.proofs.Tables.{table_of}
 use Rattle.depot_search.specs.Search.{HasFewRecords, HasFewReads, found_among}
 use Rattle.depot_search.specs.Writes.{with_journals}
-use Rattle.depot_search.specs.declared.journal.Journal.{Journal}
+use Rattle.depot_search.specs.declared.journal.TracedJournal.{TracedJournal}
 use Rattle.depot_traces.specs.SeenTraces.{finding_of}
 use Rattle.depot_search.proofs.finding.search.Goals as goal
 
@@ -24,12 +24,12 @@ first_found-requires-clause-records c =
     let W = c.requires.world.0 in
     let of = c.requires.world.1 in
     let j = c.in_ok-journals.ensures in
-    subst (λ (js : List Journal). AllByRecursion HasFewRecords js) (sym c.deref-3.ensures.value)
+    subst (λ (js : List TracedJournal). AllByRecursion HasFewRecords js) (sym c.deref-3.ensures.value)
     (all_few (λ t. t.now) W.verifies W.listed c.args.traces.now W.nodes c.in_ok-journals.journals.items of.nodes (all_of (λ t. t.now) W.verifies W.listed c.args.traces.now W.nodes c.in_ok-journals.journals.items of.nodes j.fit j.nodes j.texts j.reads))
 
 pub first_found-requires-clause-reads : goal.first_found-requires-clause-reads
 first_found-requires-clause-reads c =
-    subst (λ (js : List Journal). AllByRecursion HasFewReads js) (sym c.deref-3.ensures.value)
+    subst (λ (js : List TracedJournal). AllByRecursion HasFewReads js) (sym c.deref-3.ensures.value)
     (few_reads (λ t. t.now) 1000000 c.args.traces.now c.in_ok-journals.journals.items (omega arith) c.requires.few c.in_ok-journals.ensures.reads)
 
 pub returns : goal.returns
@@ -39,11 +39,11 @@ returns c = IfOk-weaker c.first_found.result _ _ (λ found e W of.
     let vs = c.in_ok-writes.writes.items in
     let rows = map (λ r. r.items) c.in_ok-table.table.items in
     ap (option_map finding_of) (e
-    ∙ ap (λ (ks : List Journal). found_among ks c.deref-4.result.now (map (λ r. r.items) c.deref-5.result.now)) c.deref-3.ensures.value
+    ∙ ap (λ (ks : List TracedJournal). found_among ks c.deref-4.result.now (map (λ r. r.items) c.deref-5.result.now)) c.deref-3.ensures.value
     ∙ ap (λ (us : List Update). found_among js us (map (λ r. r.items) c.deref-5.result.now)) c.deref-4.ensures.value
     ∙ ap (λ (table : List (Vec Bool Global)). found_among js vs (map (λ r. r.items) table)) c.deref-5.ensures.value)
-    ∙ found_is W of.is js (all_of (λ t. t.now) W.verifies W.listed c.args.traces.now W.nodes js of.nodes j.fit j.nodes j.texts j.reads) vs rows
+    ∙ found_is W of.is_world js (all_of (λ t. t.now) W.verifies W.listed c.args.traces.now W.nodes js of.nodes j.fit j.nodes j.texts j.reads) vs rows
     (is_made (λ r. r.items) js vs c.in_ok-parents.parents.items rows
-    (c.in_ok-writes.ensures ∙ ap (λ (ks : List Journal). with_journals [] ks) c.deref.ensures.value)
+    (c.in_ok-writes.ensures ∙ ap (λ (ks : List TracedJournal). with_journals [] ks) c.deref.ensures.value)
     (c.in_ok-parents.ensures ∙ ap (λ (us : List Update). table_of is_parent us) c.deref-2.ensures.value)
     c.in_ok-table.ensures)) c.first_found.ensures

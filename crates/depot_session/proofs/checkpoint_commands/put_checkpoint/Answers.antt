@@ -5,7 +5,7 @@ use Rattle.depot_base.proofs.GeneralLaws.{is_none}
 use Rattle.depot_outside.specs.Told.{shelves, sinks}
 use Rattle.depot_session.specs.SessionRuns.{disk_line}
 use Rattle.depot_session.specs.ScriptTelling.{StoresUnder}
-use Rattle.depot_session.specs.declared.ending.Ending.TheVariants as ending
+use Rattle.depot_session.specs.declared.ending.ScriptEnding.TheVariants as ending
 use Rattle.depot_session.proofs.AskedShelves.{stored_once}
 use Rattle.depot_session.proofs.BundleTurns.{isnt_nothing}
 use Rattle.depot_session.proofs.Called.{not_where_some}

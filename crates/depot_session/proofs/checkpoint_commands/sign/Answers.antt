@@ -2,7 +2,7 @@ use Rattle.std.proofs.Common.{Some, refl, sym, ap, subst, ◌∙◌, arith}
 use Rattle.depot_model.proofs.JournalCallLaws.{never_answered}
 use Rattle.depot_outside.specs.Told.{shelves, sinks}
 use Rattle.depot_session.specs.SessionRuns.{disk_line}
-use Rattle.depot_session.specs.declared.ending.Ending.TheVariants as ending
+use Rattle.depot_session.specs.declared.ending.ScriptEnding.TheVariants as ending
 use Rattle.depot_session.proofs.Called.{not_where_some}
 use Rattle.depot_session.proofs.SignTurns.{sign_ends_calmly, sign_keeps, sign_to_disk, sign_told, sign_without_memory, signs_absent}
 use Rattle.depot_session.proofs.ToldFaults.{EndsCalmly, disk_is_fault, memory_is_fault, names_fault, names_memory, names_told, never_rose}

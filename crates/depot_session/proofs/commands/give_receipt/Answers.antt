@@ -1,7 +1,7 @@
 use Rattle.std.proofs.Common.{refl, sym, subst, arith}
 use Rattle.depot_model.proofs.JournalCallLaws.{never_answered}
 use Rattle.depot_outside.specs.Told.{sinks}
-use Rattle.depot_session.specs.declared.ending.Ending.TheVariants as ending
+use Rattle.depot_session.specs.declared.ending.ScriptEnding.TheVariants as ending
 use Rattle.depot_session.proofs.Called.{not_where_some}
 use Rattle.depot_session.proofs.FittingScripts.{asked_id}
 use Rattle.depot_session.proofs.ReceiptTurns.{one_receipt_is, receipt_ends_calmly, receipt_keeps, receipt_to_disk, receipt_told, receipt_without_memory}

@@ -2,9 +2,9 @@ use Rattle.std.proofs.Common.{ℕ, List, [], ◌∷◌, ◌++◌, Some, refl, sy
 use Rattle.depot_outside.specs.Told.{shelves, sinks}
 use Rattle.depot_model.specs.Bundle.{bundle_answer}
 use Rattle.depot_model.proofs.JournalCallLaws.{never_answered, runs_on}
-use Rattle.depot_session.specs.declared.ending.Ending.TheVariants as ending
+use Rattle.depot_session.specs.declared.ending.ScriptEnding.TheVariants as ending
 use Rattle.depot_session.proofs.AskedShelves.{goes_on_anyhow, not_going_on, not_stored, stored_once, unstored}
-use Rattle.depot_session.proofs.BundleTurns.{bundle_ends_calmly, bundle_told, bundled_whole, bundles_absent, finds_none, goes_on_made, isnt_nothing, made_to_disk, made_without_memory, refused_told}
+use Rattle.depot_session.proofs.BundleTurns.{bundle_ends_calmly, bundle_told, bundled_whole, bundles_absent, goes_on_made, isnt_nothing, made_to_disk, made_without_memory, refused_told}
 use Rattle.depot_session.proofs.Called.{keeps_running, keeps_to_disk, keeps_without_memory, not_where_some}
 use Rattle.depot_session.proofs.StoredFiles.{stored_from}
 use Rattle.depot_session.proofs.ToldFaults.{EndsCalmly, names_fault, names_memory, names_stored, names_told, never_rose}
@@ -34,7 +34,7 @@ returns-in_default-clause-turns g c = λ s tells at.
 pub returns-in_err-bundle_printed-clause-keeps : goal.returns-in_err-bundle_printed-clause-keeps
 returns-in_err-bundle_printed-clause-keeps g c =
     let made = c.bundle-made.ensures in
-    keeps_without_memory g.R.NodeState c.args.node.now c.bundle-made.new.node _ _ _ made.call.node.same made.call.node.journal.disk made.call.lasts (omega arith) c.from_residual-in_err-bundle_printed.result c.from_residual-in_err-bundle_printed.ensures.1 (never_rose _ _)
+    keeps_without_memory g.R.NodeState c.args.node.now c.bundle-made.new.node _ _ made.call.node.same made.call.node.journal.disk made.call.lasts (omega arith) c.from_residual-in_err-bundle_printed.result c.from_residual-in_err-bundle_printed.ensures.1 (never_rose _ _)
 
 pub returns-in_err-bundle_printed-clause-turns : goal.returns-in_err-bundle_printed-clause-turns
 returns-in_err-bundle_printed-clause-turns g c = λ s tells at.
@@ -46,7 +46,7 @@ returns-in_err-bundle_printed-clause-turns g c = λ s tells at.
 pub returns-in-None-clause-keeps : goal.returns-in-None-clause-keeps
 returns-in-None-clause-keeps g c =
     let made = c.bundle-made.ensures in
-    keeps_to_disk g.R.NodeState c.args.node.now c.bundle-made.new.node _ _ _ made.call.node.same made.call.node.journal.disk made.call.lasts c.disk_failed.ensures.later _ c.disk_failed.result (c.in_ok-bundle_printed.ensures.stopped.0 c.in-None.is) c.disk_failed.ensures.told c.disk_failed.ensures.only
+    keeps_to_disk g.R.NodeState c.args.node.now c.bundle-made.new.node _ _ made.call.node.same made.call.node.journal.disk made.call.lasts c.disk_failed.ensures.later _ c.disk_failed.result (c.in_ok-bundle_printed.ensures.stopped.0 c.in-None.is) c.disk_failed.ensures.told c.disk_failed.ensures.only
 
 pub returns-in-None-clause-turns : goal.returns-in-None-clause-turns
 returns-in-None-clause-turns g c = λ s tells at.
@@ -58,7 +58,7 @@ pub returns-in-Some-2-clause-keeps : goal.returns-in-Some-2-clause-keeps
 returns-in-Some-2-clause-keeps g c =
     let made = c.bundle-made.ensures in
     let not = not_where_some _ _ _ c.in-Some-2.is c.in_ok-bundle_printed.ensures.stopped.1 in
-    keeps_running g.R.NodeState c.args.node.now c.bundle-made.new.node _ _ _ made.call.node.same made.call.node.journal.disk made.call.lasts c.store_and_tell.result (finds_none c.bundle-made.result not) (runs_on (g.R.NodeState.stopped c.args.node.now) c.requires.running.runs made.call.node.journal.stops not) not
+    keeps_running g.R.NodeState c.args.node.now c.bundle-made.new.node _ _ made.call.node.same made.call.node.journal.disk made.call.lasts c.store_and_tell.result (runs_on (g.R.NodeState.stopped c.args.node.now) c.requires.running.runs made.call.node.journal.stops not) not
     (names_stored _ _ c.store_and_tell.ensures.later _ _ _ _ c.store_and_tell.result c.store_and_tell.ensures.stores c.store_and_tell.ensures.only)
 
 pub returns-in-Some-2-clause-turns : goal.returns-in-Some-2-clause-turns
@@ -97,7 +97,7 @@ returns-clause-keeps g c =
     let not = not_where_some _ _ _ c.in-Some-2-2.is c.in_ok-bundle_printed.ensures.stopped.1 in
     let bundles = rw c.requires.running.runs at made.bundles in
     let ends = c.ending_of_bundle-ends.ensures.ends here sign (g.R.NodeState.records n) text (g.R.NodeState.records m) settled not bundles in
-    keeps_running g.R.NodeState n m _ _ _ made.call.node.same made.call.node.journal.disk made.call.lasts c.tell.result (finds_none c.bundle-made.result not) (runs_on (g.R.NodeState.stopped c.args.node.now) c.requires.running.runs made.call.node.journal.stops not) not
+    keeps_running g.R.NodeState n m _ _ made.call.node.same made.call.node.journal.disk made.call.lasts c.tell.result (runs_on (g.R.NodeState.stopped c.args.node.now) c.requires.running.runs made.call.node.journal.stops not) not
     (names_told _ _ c.tell.ensures.later _ c.ending_of_bundle-ends.result c.tell.result (subst EndsCalmly (sym ends) (bundle_ends_calmly (bundle_answer here sign (g.R.NodeState.records n) text))) c.tell.ensures.tells c.tell.ensures.only)
 
 pub returns-clause-turns : goal.returns-clause-turns

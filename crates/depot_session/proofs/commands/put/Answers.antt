@@ -1,7 +1,7 @@
 use Rattle.std.proofs.Common.{refl, sym, ap, subst, ◌∙◌, arith}
 use Rattle.depot_model.proofs.JournalCallLaws.{never_answered}
 use Rattle.depot_outside.specs.Told.{sinks}
-use Rattle.depot_session.specs.declared.ending.Ending.TheVariants as ending
+use Rattle.depot_session.specs.declared.ending.ScriptEnding.TheVariants as ending
 use Rattle.depot_session.specs.Turns.{ends_of_put}
 use Rattle.depot_session.proofs.Called.{not_where_some}
 use Rattle.depot_session.proofs.PutTurns.{put_ends_calmly, put_keeps, put_to_disk, put_told, put_without_memory, puts_at, step_of_put}

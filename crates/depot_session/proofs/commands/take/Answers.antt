@@ -1,10 +1,9 @@
 use Rattle.std.proofs.Common.{Some, refl, sym, ap, subst, ◌∙◌, arith}
-use Rattle.depot_feeds.specs.NodeCalls.{says_disk}
 use Rattle.depot_outside.specs.Told.{shelves, sinks}
 use Rattle.depot_model.specs.Feeding.{feed_of}
-use Rattle.depot_session.specs.declared.ending.Ending.TheVariants as ending
+use Rattle.depot_session.specs.declared.ending.ScriptEnding.TheVariants as ending
 use Rattle.depot_session.proofs.Called.{keeps_running, keeps_to_disk, keeps_without_memory, not_where_some}
-use Rattle.depot_session.proofs.TakeTurns.{ends_fed, is_fed, of_fed, take_ends_calmly, taken_told, taken_to_disk, taken_without_memory, takes_absent}
+use Rattle.depot_session.proofs.TakeTurns.{ends_fed, of_fed, take_ends_calmly, taken_told, taken_to_disk, taken_without_memory, takes_absent}
 use Rattle.depot_session.proofs.ToldFaults.{EndsCalmly, names_fault, names_memory, names_told, never_rose}
 use Rattle.depot_session.proofs.Uncalled.{keeps_uncalled, uncalled_without_file, uncalled_without_memory}
 use Rattle.depot_session.proofs.commands.take.Goals as goal
@@ -28,7 +27,7 @@ returns-in_default-clause-turns g c = λ s tells at.
 pub returns-in_err-printed-clause-keeps : goal.returns-in_err-printed-clause-keeps
 returns-in_err-printed-clause-keeps g c =
     let fed = c.feed_whole-fed.ensures in
-    keeps_without_memory g.R.NodeState c.args.node.now c.feed_whole-fed.new.node _ _ _ fed.call.left.node.same fed.call.left.node.journal.disk fed.call.left.lasts (omega arith) c.from_residual-in_err-printed.result c.from_residual-in_err-printed.ensures.1 (never_rose _ _)
+    keeps_without_memory g.R.NodeState c.args.node.now c.feed_whole-fed.new.node _ _ fed.call.left.node.same fed.call.left.node.journal.disk fed.call.left.lasts (omega arith) c.from_residual-in_err-printed.result c.from_residual-in_err-printed.ensures.1 (never_rose _ _)
 
 pub returns-in_err-printed-clause-turns : goal.returns-in_err-printed-clause-turns
 returns-in_err-printed-clause-turns g c = λ s tells at.
@@ -45,7 +44,7 @@ returns-in-Some-2-clause-keeps g c =
     let settled = c.in_ok-printed.ensures.settled in
     let not = not_where_some _ _ _ c.in-Some-2.is c.in_ok-printed.ensures.stopped.1 in
     let ends = ends_fed c.feed_whole-fed.result x c.ending_of_take-ends.result settled not fed.told c.ending_of_take-ends.ensures.ends in
-    keeps_running g.R.NodeState n c.feed_whole-fed.new.node _ _ _ fed.call.left.node.same fed.call.left.node.journal.disk fed.call.left.lasts c.tell.result (ap says_disk (is_fed c.feed_whole-fed.result settled not).1) (of_fed c.feed_whole-fed.result _ settled not fed.runs) not
+    keeps_running g.R.NodeState n c.feed_whole-fed.new.node _ _ fed.call.left.node.same fed.call.left.node.journal.disk fed.call.left.lasts c.tell.result (of_fed c.feed_whole-fed.result _ settled not fed.runs) not
     (names_told _ _ c.tell.ensures.later _ c.ending_of_take-ends.result c.tell.result (subst EndsCalmly (sym ends) (take_ends_calmly x.closed)) c.tell.ensures.tells c.tell.ensures.only)
 
 pub returns-in-Some-2-clause-turns : goal.returns-in-Some-2-clause-turns
@@ -64,7 +63,7 @@ returns-in-Some-2-clause-turns g c = λ s tells at.
 pub returns-clause-keeps : goal.returns-clause-keeps
 returns-clause-keeps g c =
     let fed = c.feed_whole-fed.ensures in
-    keeps_to_disk g.R.NodeState c.args.node.now c.feed_whole-fed.new.node _ _ _ fed.call.left.node.same fed.call.left.node.journal.disk fed.call.left.lasts c.disk_failed.ensures.later _ c.disk_failed.result (c.in_ok-printed.ensures.stopped.0 c.in-None.is) c.disk_failed.ensures.told c.disk_failed.ensures.only
+    keeps_to_disk g.R.NodeState c.args.node.now c.feed_whole-fed.new.node _ _ fed.call.left.node.same fed.call.left.node.journal.disk fed.call.left.lasts c.disk_failed.ensures.later _ c.disk_failed.result (c.in_ok-printed.ensures.stopped.0 c.in-None.is) c.disk_failed.ensures.told c.disk_failed.ensures.only
 
 pub returns-clause-turns : goal.returns-clause-turns
 returns-clause-turns g c = λ s tells at.

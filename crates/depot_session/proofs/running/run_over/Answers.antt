@@ -7,7 +7,7 @@ use Rattle.depot_outside.specs.Told.{disks, shelves, sinks}
 use Rattle.depot_model.specs.Stops.{HasAll, HasRecords}
 use Rattle.depot_session.specs.ScriptTelling.{asked}
 use Rattle.depot_session.specs.Sessions.{session_from}
-use Rattle.depot_session.specs.declared.ending.Ending.TheVariants as ending
+use Rattle.depot_session.specs.declared.ending.ScriptEnding.TheVariants as ending
 use Rattle.depot_session.proofs.AskedShelves.{asks_nothing}
 use Rattle.depot_session.proofs.LeftJournals.{all_there}
 use Rattle.depot_model.proofs.StopLaws.{front_longer}

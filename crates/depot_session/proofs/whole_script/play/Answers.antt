@@ -2,7 +2,7 @@ use Rattle.std.proofs.Common.{◌∙◌, [], ◌∷◌, ◌++◌, is_some, Err, 
 use Rattle.std.proofs.lemmas.List.{append-nil}
 use Rattle.std.proofs.lemmas.Result.{err_from_is_err_and}
 use Rattle.depot_outside.specs.Told.{sinks}
-use Rattle.depot_session.specs.declared.ending.Ending.TheVariants as ending
+use Rattle.depot_session.specs.declared.ending.ScriptEnding.TheVariants as ending
 use Rattle.depot_session.specs.KeptReads.{AreOfRun}
 use Rattle.depot_session.specs.Sessions.{loads_given, loads_of}
 use Rattle.depot_session.specs.Turns.{KeepsReader}

@@ -48,16 +48,16 @@ loop-place-preserved-then-not-member g c =
     let m = c.index-scenario-place.result in
     faulty_more (setup_of c.args.schedule.now) scenario.members.now place m (map (participant_by g.A.Actor.view) c.loop-place.participants.items) c.loop-place-test.true c.index-scenario-place.is (ap (λ (x : Member). x.correct) c.index-scenario-place.is ∙ not-true _ c.if-not-member.true) c.loop-place.invariant
 
-pub returns : goal.returns
+pub returns-clause-at : goal.returns-clause-at
 unfolding run_of
-returns g c =
+returns-clause-at g c =
     let setup = setup_of c.args.schedule.now in
     let members = c.args.schedule.now.members in
     let whole : take c.loop-place.place c.args.scenario.now.members.now ≡ members = take_all c.loop-place.place c.args.scenario.now.members.now c.loop-place-test.false ∙ c.requires.members in
     record {
       hosted = subst (λ (ms : List Member). AreHosted setup (hosts_of setup ms) (map (participant_by g.A.Actor.view) c.loop-place.participants.items)) whole c.loop-place.invariant;
       labels_are = c.new-2.ensures;
-      seen_are = c.new-3.ensures;
+      seen_are = c.new-3.ensures.none;
       readers_are = c.new-4.ensures;
       remembered = begun setup members;
     }

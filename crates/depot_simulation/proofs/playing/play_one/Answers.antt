@@ -12,9 +12,9 @@ returns-in_err-lines-clause-front g c = on_err_from c.from_residual.result (inl 
 pub returns-clause-done : goal.returns-clause-done
 returns-clause-done g c =
     lines_written c.write.result (PlaysEvent g.S.Scheme.verifies g.G.Signer.key_of g.G.Signer.signature_of c.args.scenario.now g.A.Actor.view g.A.Reader.Reading.reads c.args.simulation.now c.args.event.now)
-    (sinks g.K.Sink c.args.out.now c.write.new.out) c.event.new.self c.as_slice.result.now c.in_ok-lines.lines (sym c.as_slice.ensures) c.in_ok-lines.ensures c.write.ensures.done
+    (sinks g.K.Sink c.args.out.now c.write.new.out) c.event.new.self c.as_slice.result.now c.in_ok-lines.lines (sym c.as_slice.ensures) c.in_ok-lines.ensures.lines c.write.ensures.done
 
 pub returns-clause-front : goal.returns-clause-front
 returns-clause-front g c =
     front_written c.write.result (PlaysEvent g.S.Scheme.verifies g.G.Signer.key_of g.G.Signer.signature_of c.args.scenario.now g.A.Actor.view g.A.Reader.Reading.reads c.args.simulation.now c.args.event.now)
-    (sinks g.K.Sink c.args.out.now c.write.new.out) c.event.new.self c.as_slice.result.now c.in_ok-lines.lines (sym c.as_slice.ensures) c.in_ok-lines.ensures c.write.ensures.front
+    (sinks g.K.Sink c.args.out.now c.write.new.out) c.event.new.self c.as_slice.result.now c.in_ok-lines.lines (sym c.as_slice.ensures) c.in_ok-lines.ensures.lines c.write.ensures.front

@@ -1,14 +1,14 @@
 use Rattle.std.proofs.Common.{◌≡◌, ◌+◌, ◌-◌, ◌<◌, ℕ, List, [], ◌∷◌, ◌++◌, length, refl, sym, ap, subst, arith}
 use Rattle.std.proofs.lemmas.List.{length-append}
-use Rattle.depot_clocks.specs.ChainItems.{ChainItem, IsAt, chain_length, number_of_chains}
+use Rattle.depot_clocks.specs.ChainItems.{ChainItem, IsChainItemAt, chain_length, number_of_chains}
 use Rattle.depot_clocks.proofs.ChainCounts.{chain_length-own, chain_length-other, number_of_chains-first, number_of_chains-later}
 use Rattle.depot_base.proofs.GeneralLaws.{get_last}
 use Rattle.depot_tests_orders.proofs.rows.grow.Goals as goal
 
 -- where the item that was added stands
-last_at : (items new : List ChainItem) (x : ChainItem) (n place : ℕ) → new ≡ items ++ x ∷ [] → length items ≡ n → x.place ≡ place → IsAt new n x.chain place
+last_at : (items new : List ChainItem) (x : ChainItem) (n place : ℕ) → new ≡ items ++ x ∷ [] → length items ≡ n → x.place ≡ place → IsChainItemAt new n x.chain place
 last_at items new x n place is long place_is =
-    subst (λ (l : List ChainItem). IsAt l n x.chain place) (sym is) (subst (λ (k : ℕ). IsAt (items ++ x ∷ []) k x.chain place) long (x, (get_last items x, (refl, place_is))))
+    subst (λ (l : List ChainItem). IsChainItemAt l n x.chain place) (sym is) (subst (λ (k : ℕ). IsChainItemAt (items ++ x ∷ []) k x.chain place) long (x, (get_last items x, (refl, place_is))))
 
 pub loop-place-init : goal.loop-place-init
 loop-place-init c =

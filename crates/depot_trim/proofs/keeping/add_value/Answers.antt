@@ -15,5 +15,5 @@ add_hashed-requires c =
 
 pub returns : goal.returns
 returns c = λ held is wants kept.
-    one_added held c.args.name.now wants c.args.value.now (values.held c.args.values.now) (values.held c.add_hashed.new.self) (Ok c.in_ok-add_hashed.field-0) is c.in_ok-add_hashed.ensures.known.0
+    one_added held c.args.name.now wants c.args.value.now (values.held_in c.args.values.now) (values.held_in c.add_hashed.new.self) (Ok c.in_ok-add_hashed.field-0) is c.in_ok-add_hashed.ensures.known.0
     (λ e. c.in_ok-add_hashed.ensures.new e ∙ ap (λ (v : List ℕ). Some v) (c.from_bytes-value.ensures ∙ c.in_ok-from_slice.ensures)) c.in_ok-add_hashed.ensures.else_stays c.in_ok-add_hashed.ensures.others_stay kept

@@ -29,14 +29,14 @@ loop-item-preserved g c = λ ts h are.
     let u = at_place us i (omega (arith, c.loop-item-test.true, c.count-item-end.ensures, ap length c.graph-graph.ensures)) in
     let there = ap (λ (bs : List Bool). slice_get bs i) are ∙ map_at (λ (x : Update). has_id ts (id_of_update x)) us i u.0 u.1 in
     let told : has_id ts (id_of_update u.0) ≡ c.flag_at.result = let both : Some (has_id ts (id_of_update u.0)) ≡ Some c.flag_at.result = sym there ∙ c.flag_at.ensures in cc in
-    elim c.if-not-flag_at.branch as (λ _. values.held c.if-not-flag_at.values h ≡ kept_of (held J) (is_wanted (left_of ts (take (i + 1) us))) h) [
+    elim c.if-not-flag_at.branch as (λ _. values.held_in c.if-not-flag_at.values h ≡ kept_of (held J) (is_wanted (left_of ts (take (i + 1) us))) h) [
       | then-not-flag_at+in_ok-add_values w ↦
           let one : w.update.result.now ≡ u.0 = let both : Some w.update.result.now ≡ Some u.0 = sym w.update.ensures ∙ ap (λ (us : List Update). slice_get us i) c.graph-graph.ensures ∙ u.1 in cc in
           let longer = ap (λ (x : Update). left_of ts (take i us) ++ x ∷ []) one ∙ sym (filter_next left us i u.0 true u.1 (ap not (told ∙ w.if-not-flag_at.true))) in
-          ap (λ v. values.held v h) w.values-is ∙ w.in_ok-add_values.ensures (is_wanted (left_of ts (take i us))) (λ k. c.loop-item.invariant ts k are) h
+          ap (λ v. values.held_in v h) w.values-is ∙ w.in_ok-add_values.ensures (is_wanted (left_of ts (take i us))) (λ k. c.loop-item.invariant ts k are) h
           ∙ kept_alike (held J) (λ k size. is_wanted (left_of ts (take i us)) k size || names_value w.update.result.now k size) (is_wanted (left_of ts (take (i + 1) us))) h (λ size. sym (wants_more (left_of ts (take i us)) w.update.result.now h size) ∙ ap (λ (xs : List Update). is_wanted xs h size) longer)
       | else-not-flag_at w ↦
-          ap (λ v. values.held v h) w.values-is ∙ c.loop-item.invariant ts h are
+          ap (λ v. values.held_in v h) w.values-is ∙ c.loop-item.invariant ts h are
           ∙ ap (λ (xs : List Update). kept_of (held J) (is_wanted xs) h) (sym (filter_next left us i u.0 false u.1 (ap not (told ∙ w.if-not-flag_at.false)) ∙ append-nil (left_of ts (take i us))))
     ]
 

@@ -7,4 +7,4 @@ use Rattle.depot_trim.specs.Trimmings.{given_up, kept_of}
 use Rattle.depot_trim.proofs.keeping.values_left.Given as goal
 
 abbrev pub invariant-loop-item : goal.invariant-loop-item
-invariant-loop-item g l = (ts : List Update) (h : List ℕ) → l.trimmed ≡ given_up ts (accepted (g.N.NodeState.records l.node)) → values.held l.values h ≡ kept_of (held (g.N.NodeState.records l.node)) (is_wanted (left_of ts (take l.item (accepted (g.N.NodeState.records l.node))))) h
+invariant-loop-item g l = (ts : List Update) (h : List ℕ) → l.trimmed ≡ given_up ts (accepted (g.N.NodeState.records l.node)) → values.held_in l.values h ≡ kept_of (held (g.N.NodeState.records l.node)) (is_wanted (left_of ts (take l.item (accepted (g.N.NodeState.records l.node))))) h

@@ -4,7 +4,8 @@ use Rattle.std.proofs.lemmas.Result.{IfOk-weaker}
 use Rattle.depot_model.specs.World.{Correct, World}
 use Rattle.depot_traces.specs.SeenTraces.{trace_of}
 use Rattle.depot_apart.specs.MetTexts.{AreToldBy, IsMetOf}
-use Rattle.depot_apart.specs.TracedWorlds.{IsWorldOf, IsMetIn}
+use Rattle.depot_model.specs.Traces.{IsWorldOf}
+use Rattle.depot_apart.specs.TracedWorlds.{IsMetIn}
 use Rattle.depot_apart.proofs.NodesOfTraces.{told_in}
 use Rattle.depot_apart.proofs.met.Met.of_traces.Goals as goal
 

@@ -1,7 +1,8 @@
 use Rattle.std.proofs.Common.{[], ◌∷◌, ◌++◌, sym, subst}
 use Rattle.std.proofs.lemmas.Result.{on_ok_weaker}
 use Rattle.depot_base.specs.declared.record.Record.{Record}
-use Rattle.depot_apart.specs.MetTexts.{IsTextOf, IsMetOf}
+use Rattle.depot_model.specs.Records.{IsTextOf}
+use Rattle.depot_apart.specs.MetTexts.{IsMetOf}
 use Rattle.depot_apart.proofs.met.Met.take_text.Goals as goal
 
 pub take-requires : goal.take-requires

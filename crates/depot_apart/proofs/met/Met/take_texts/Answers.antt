@@ -1,7 +1,8 @@
 use Rattle.std.proofs.Common.{◌<◌, ℕ, List, [], ◌∷◌, ◌++◌, length, take, sym, ap, subst, ◌∙◌, append_assoc, arith}
 use Rattle.std.proofs.lemmas.List.{append-nil, take_all}
 use Rattle.depot_base.specs.declared.record.Record.{Record}
-use Rattle.depot_apart.specs.MetTexts.{IsTextOf, AreTexts, IsMetOf}
+use Rattle.depot_model.specs.Records.{IsTextOf}
+use Rattle.depot_apart.specs.MetTexts.{AreTexts, IsMetOf}
 use Rattle.depot_apart.proofs.ListLaws.{pair_in, pair_next, pair_last, no_pairs}
 use Rattle.depot_apart.proofs.met.Met.take_texts.Goals as goal
 

@@ -1,6 +1,6 @@
 use Rattle.std.proofs.Common.{List, subst, arith}
 use Rattle.depot_clocks.specs.ChainItems.{ChainItem}
-use Rattle.depot_clocks.specs.declared.row.Entry.{Entry}
+use Rattle.depot_clocks.specs.declared.row.RowEntry.{RowEntry}
 use Rattle.depot_clocks.specs.KeptRows.{AreRaised, KeepsItems}
 use Rattle.depot_clocks.proofs.KeptCounts.{row_of, joined_changed}
 use Rattle.depot_clocks.proofs.clocks.Clocks.+join_with.Goals as goal
@@ -9,5 +9,5 @@ pub returns-in-Changed : goal.returns-in-Changed
 returns-in-Changed t c = λ chain low.
     let keeps = subst (λ (l : List ChainItem). KeepsItems l c.self.inside.kept.items c.self.inside.chains) c.self.view_is c.self.invariant.0 in
     let row = row_of c.args.self.now c.self.inside.kept.items c.self.inside.chains c.args.item c.index.result.now _ keeps c.requires.item c.index.ensures c.in-Changed.is in
-    let raised = subst (λ (es : List Entry). AreRaised es c.join_with.new.row c.raise_entries.new.row) c.as_slice-in-Changed.ensures.value c.raise_entries.ensures in
+    let raised = subst (λ (es : List RowEntry). AreRaised es c.join_with.new.row c.raise_entries.new.row) c.as_slice-in-Changed.ensures.value c.raise_entries.ensures in
     joined_changed c.args.self.now c.args.item c.in-Changed.behind c.in-Changed.entries.items c.args.row.now c.join_with.new.row c.raise_entries.new.row chain keeps.chained row (c.join_with.ensures chain (omega arith)) raised

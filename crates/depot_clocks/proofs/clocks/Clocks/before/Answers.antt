@@ -1,6 +1,6 @@
 use Rattle.std.proofs.Common.{◌<◌, ℕ, List, true≢false, sym, subst}
 use Rattle.std.proofs.lemmas.Bool.{ltb-true, lt-ltb}
-use Rattle.depot_clocks.specs.ChainItems.{ChainItem, Precedes, IsCount}
+use Rattle.depot_clocks.specs.ChainItems.{ChainItem, ItemPrecedes, IsCount}
 use Rattle.depot_clocks.specs.KeptRows.{KeepsItems}
 use Rattle.depot_clocks.proofs.ItemPaths.{standing}
 use Rattle.depot_clocks.proofs.RowCounts.{precedes_by_count, never_itself}
@@ -22,5 +22,5 @@ pub returns-then-a-b-clause-answer : goal.returns-then-a-b-clause-answer
 returns-then-a-b-clause-answer g c =
     let keeps = subst (λ (l : List ChainItem). KeepsItems l c.self.inside.kept.items c.self.inside.chains) c.self.view_is c.self.invariant.0 in (
       (λ never. absurd (true≢false (sym never))),
-      (λ p. absurd (never_itself c.args.self.now c.args.a keeps.chained (subst (λ (k : ℕ). Precedes c.args.self.now c.args.a k) (sym c.if-a-b.true) p))),
+      (λ p. absurd (never_itself c.args.self.now c.args.a keeps.chained (subst (λ (k : ℕ). ItemPrecedes c.args.self.now c.args.a k) (sym c.if-a-b.true) p))),
     )

@@ -8,7 +8,7 @@ use Rattle.depot_feeds.specs.Pieces.{at_work}
 use Rattle.depot_feeds.specs.NodeCalls.{stream_by, frame_of}
 use Rattle.depot_feeds.proofs.GivenLaws.{end_is_passed, counted_is_fed, error_leaves, given_byte}
 use Rattle.depot_model.proofs.JournalCallLaws.{never_stopped}
-use Rattle.depot_feeds.proofs.LawfulCalls.{idle_on}
+use Rattle.depot_feeds.proofs.LawfulCalls.{idle_on, renamed_on}
 use Rattle.depot_feeds.proofs.tally.Tally.take.Goals as goal
 
 pub returns-in-End-clause-takes : goal.returns-in-End-clause-takes
@@ -38,9 +38,14 @@ returns-clause-takes g c =
 -- ---- what the node is left as
 
 pub returns-in-End-clause-call : goal.returns-in-End-clause-call
-returns-in-End-clause-call g c = idle_on g.R.NodeState (g.met.R.Replica.only_now) (g.met.R.Replica.after_none) false c.args.node.now _ (g.met.R.Replica.lawful c.args.node.now) c.requires.stable (never_stopped _ c.requires.running (λ e. cc)) (λ e. cc)
+returns-in-End-clause-call g c = idle_on g.R.NodeState (g.met.R.Replica.only_now) (g.met.R.Replica.after_none) c.args.node.now _ (g.met.R.Replica.lawful c.args.node.now) c.requires.stable (never_stopped _ c.requires.running (λ e. cc)) (λ e. cc)
 
 pub returns-in_err-reserve-clause-call : goal.returns-in_err-reserve-clause-call
 returns-in_err-reserve-clause-call g c =
     let p = err_from_is_err_and c.from_residual.result c.from_residual.ensures.1 in
-    rw (p.1, p.2) (idle_on g.R.NodeState (g.met.R.Replica.only_now) (g.met.R.Replica.after_none) false c.args.node.now _ (g.met.R.Replica.lawful c.args.node.now) c.requires.stable (never_stopped _ c.requires.running (λ e. cc)) (λ e. cc))
+    rw (p.1, p.2) (idle_on g.R.NodeState (g.met.R.Replica.only_now) (g.met.R.Replica.after_none) c.args.node.now _ (g.met.R.Replica.lawful c.args.node.now) c.requires.stable (never_stopped _ c.requires.running (λ e. cc)) (λ e. cc))
+
+pub returns-in_err-answer-clause-call : goal.returns-in_err-answer-clause-call
+returns-in_err-answer-clause-call g c =
+    let p = err_from_is_err_and c.from_residual-in_err-answer.result c.from_residual-in_err-answer.ensures.1 in
+    rw (p.1, p.2) (renamed_on g.R.NodeState c.args.node.now c.give.new.node _ ((λ e. cc), (λ e. cc)) ((λ e. cc), (λ e. cc)) c.in_err-answer.ensures.call)

@@ -1,7 +1,6 @@
 use Rattle.std.proofs.Common.{◌∙◌, ◌<◌, List, length, get_or, ap, subst}
-use Rattle.std.specs.BTreeMap.{get}
 use Rattle.depot_fork.specs.declared.heads.Fresh.{Fresh}
-use Rattle.depot_fork.specs.Heads.{mark_cmp}
+use Rattle.depot_fork.specs.Settled.{settled}
 use Rattle.depot_fork.proofs.HeadLaws.{newest_more}
 use Rattle.depot_fork.proofs.heads.Heads.get.Goals as goal
 
@@ -10,5 +9,5 @@ loop-fresh-preserved c =
     let all = c.as_slice-fresh-items.ensures.value in
     let i = c.loop-fresh.fresh-index in
     let f = c.fresh-item.result in
-    newest_more (get mark_cmp c.args.self.now.settled c.args.mark.now) c.args.self.now.fresh.items i f c.args.mark.now c.loop-fresh.newest _
+    newest_more (settled c.args.self.now.settled c.args.mark.now) c.args.self.now.fresh.items i f c.args.mark.now c.loop-fresh.newest _
     (subst (λ (fs : List Fresh). i < length fs) all c.loop-fresh-test.true) (c.fresh-item.is ∙ ap (λ (fs : List Fresh). get_or fs i f) all) c.loop-fresh.invariant c.newest_with-newest.ensures

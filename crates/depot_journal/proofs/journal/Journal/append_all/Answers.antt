@@ -1,10 +1,10 @@
 use Rattle.std.proofs.Common.{rules, inr, ◌≡◌, ◌++◌, ◌+◌, ◌-◌, ◌*◌, ◌≤◌, [], List, ℕ, IsTrue, length, length-append, sym, ap, ◌∙◌, subst, arith, vec_len, false}
 use Rattle.depot_base.specs.Calls.{FailsAmong, calls_to_append_all, made}
 use Rattle.depot_base.specs.Disk.{LeavesOnly}
-use Rattle.depot_base.specs.File.{AreWithinLimits, HasFront, HasRoom, IsCutShort, PassesLimit, blocks}
+use Rattle.depot_base.specs.File.{AreWithinLimits, HasBodyFront, FitsFile, AreBodiesCutShort, PassesLimit, blocks}
 use Rattle.depot_base.proofs.CallLaws.{fails_later, made_later}
 use Rattle.depot_journal.specs.Mirrored.{bodies_at}
-use Rattle.depot_journal.specs.JournalView.{View}
+use Rattle.depot_journal.specs.JournalView.{JournalContents}
 use Rattle.depot_journal.proofs.Appends.{all_within, blocks_many, counted, cut_short, found, front_within, limit_counted, reserved_less, room_counted, then_appended, unmoved, with_none}
 use Rattle.depot_journal.proofs.AtRest.{one_more_at_most, rests}
 use Rattle.depot_journal.proofs.Walk.{stands_of}
@@ -29,7 +29,7 @@ returns-then-is_err-clause-any_moment g c = λ told running.
     let d = c.self.inside.mirror.disk in
     let was = c.self.invariant.3 (search rules) (search rules) in
     let found_only = found g.D.Disk.moment g.D.Disk.left_since d c.find_room.new.mirror.disk (g.D.Disk.may_leave d) (g.D.Disk.may_leave c.find_room.new.mirror.disk) (g.D.Disk.seen d) held (vec_len c.self.inside.mirror.bytes) was.0 c.self.invariant.1 was.1 (g.met.D.Disk.only_now d) c.find_room.ensures.time c.find_room.ensures.images in
-    subst (λ (v : View g.row.D.Denot). LeavesOnly g.D.Disk.moment g.D.Disk.left_since v.disk c.find_room.new.mirror.disk (HasFront v.records (with_rest c.args.texts.now c.args.rest.now))) c.self.view_is
+    subst (λ (v : JournalContents g.row.D.Denot). LeavesOnly g.D.Disk.moment g.D.Disk.left_since v.disk c.find_room.new.mirror.disk (HasBodyFront v.records (with_rest c.args.texts.now c.args.rest.now))) c.self.view_is
     (with_none g.D.Disk.moment g.D.Disk.left_since d c.find_room.new.mirror.disk held (with_rest c.args.texts.now c.args.rest.now) found_only)
 
 pub returns-in-Err-clause-any_moment : goal.returns-in-Err-clause-any_moment
@@ -38,7 +38,7 @@ returns-in-Err-clause-any_moment g c = λ told running.
     let d = c.self.inside.mirror.disk in
     let was = c.self.invariant.3 (search rules) (search rules) in
     let same = unmoved g.D.Disk.moment g.D.Disk.left_since d (g.D.Disk.may_leave d) (g.D.Disk.seen d) held (vec_len c.self.inside.mirror.bytes) was.0 c.self.invariant.1 was.1 (g.met.D.Disk.only_now d) in
-    subst (λ (v : View g.row.D.Denot). LeavesOnly g.D.Disk.moment g.D.Disk.left_since v.disk v.disk (HasFront v.records (with_rest c.args.texts.now c.args.rest.now))) c.self.view_is
+    subst (λ (v : JournalContents g.row.D.Denot). LeavesOnly g.D.Disk.moment g.D.Disk.left_since v.disk v.disk (HasBodyFront v.records (with_rest c.args.texts.now c.args.rest.now))) c.self.view_is
     (with_none g.D.Disk.moment g.D.Disk.left_since d d held (with_rest c.args.texts.now c.args.rest.now) same)
 
 pub returns-then-is_err-2-clause-disk : goal.returns-then-is_err-2-clause-disk
@@ -52,7 +52,7 @@ returns-then-is_err-2-clause-disk g c = λ failed.
     let at = bodies_at c.find_room.new.mirror.bytes.items c.find_room.new.mirror.spans.items in
     let same : at ≡ held = ap (λ (l : List ℕ). bodies_at l c.find_room.new.mirror.spans.items) c.find_room.ensures.bytes_same ∙ ap (bodies_at c.self.inside.mirror.bytes.items) c.find_room.ensures.spans_same in
     let fails = if_err c.append_each.result _ (sym c.is_err-2.ensures.value ∙ c.if-is_err-2.true) c.append_each.ensures.fails in
-    subst (λ (v : View g.row.D.Denot). IsCutShort v.records (with_rest c.args.texts.now c.args.rest.now) (bodies_at c.append_each.new.mirror.bytes.items c.append_each.new.mirror.spans.items) (IsTrue (g.D.Disk.tells v.disk)) (g.D.Disk.may_leave c.append_each.new.mirror.disk)) c.self.view_is
+    subst (λ (v : JournalContents g.row.D.Denot). AreBodiesCutShort v.records (with_rest c.args.texts.now c.args.rest.now) (bodies_at c.append_each.new.mirror.bytes.items c.append_each.new.mirror.spans.items) (IsTrue (g.D.Disk.tells v.disk)) (g.D.Disk.may_leave c.append_each.new.mirror.disk)) c.self.view_is
     (cut_short held at (with_rest c.args.texts.now c.args.rest.now) (bodies_at c.append_each.new.mirror.bytes.items c.append_each.new.mirror.spans.items) (IsTrue (g.D.Disk.tells c.find_room.new.mirror.disk)) (IsTrue (g.D.Disk.tells c.self.inside.mirror.disk))
     (λ told. subst IsTrue (sym c.find_room.ensures.tells) told) (g.D.Disk.may_leave c.append_each.new.mirror.disk) _ _ room many_new exact same fails)
 
@@ -70,7 +70,7 @@ returns-then-is_err-2-clause-any_moment g c = λ told running.
     let was = c.self.invariant.3 (search rules) (search rules) in
     let found_only = found g.D.Disk.moment g.D.Disk.left_since d c.find_room.new.mirror.disk (g.D.Disk.may_leave d) (g.D.Disk.may_leave c.find_room.new.mirror.disk) (g.D.Disk.seen d) held (vec_len c.self.inside.mirror.bytes) was.0 c.self.invariant.1 was.1 (g.met.D.Disk.only_now d) c.find_room.ensures.time c.find_room.ensures.images in
     let appended = then_appended g.D.Disk.moment g.D.Disk.left_since d c.find_room.new.mirror.disk c.append_each.new.mirror.disk held at (with_rest c.args.texts.now c.args.rest.now) _ _ room many_new exact same found_only (c.append_each.ensures.any_moment (search rules)) in
-    subst (λ (v : View g.row.D.Denot). LeavesOnly g.D.Disk.moment g.D.Disk.left_since v.disk c.append_each.new.mirror.disk (HasFront v.records (with_rest c.args.texts.now c.args.rest.now))) c.self.view_is
+    subst (λ (v : JournalContents g.row.D.Denot). LeavesOnly g.D.Disk.moment g.D.Disk.left_since v.disk c.append_each.new.mirror.disk (HasBodyFront v.records (with_rest c.args.texts.now c.args.rest.now))) c.self.view_is
     appended
 
 pub returns-clause-any_moment : goal.returns-clause-any_moment
@@ -87,7 +87,7 @@ returns-clause-any_moment g c = λ told running.
     let was = c.self.invariant.3 (search rules) (search rules) in
     let found_only = found g.D.Disk.moment g.D.Disk.left_since d c.find_room.new.mirror.disk (g.D.Disk.may_leave d) (g.D.Disk.may_leave c.find_room.new.mirror.disk) (g.D.Disk.seen d) held (vec_len c.self.inside.mirror.bytes) was.0 c.self.invariant.1 was.1 (g.met.D.Disk.only_now d) c.find_room.ensures.time c.find_room.ensures.images in
     let appended = then_appended g.D.Disk.moment g.D.Disk.left_since d c.find_room.new.mirror.disk c.append_each.new.mirror.disk held at (with_rest c.args.texts.now c.args.rest.now) _ _ room many_new exact same found_only (c.append_each.ensures.any_moment (search rules)) in
-    subst (λ (v : View g.row.D.Denot). LeavesOnly g.D.Disk.moment g.D.Disk.left_since v.disk c.append_each.new.mirror.disk (HasFront v.records (with_rest c.args.texts.now c.args.rest.now))) c.self.view_is
+    subst (λ (v : JournalContents g.row.D.Denot). LeavesOnly g.D.Disk.moment g.D.Disk.left_since v.disk c.append_each.new.mirror.disk (HasBodyFront v.records (with_rest c.args.texts.now c.args.rest.now))) c.self.view_is
     appended
 
 pub invariant_of-self-2 : goal.invariant_of-self-2
@@ -153,7 +153,7 @@ returns-then-is_err-2-clause-stands g c = λ told.
     let fails = if_err c.append_each.result _ (sym c.is_err-2.ensures.value ∙ c.if-is_err-2.true) c.append_each.ensures.fails in
     let cut = cut_short held at (with_rest c.args.texts.now c.args.rest.now) (bodies_at new.bytes.items new.spans.items) (IsTrue (g.D.Disk.tells c.find_room.new.mirror.disk)) (IsTrue (g.D.Disk.tells c.self.inside.mirror.disk))
     (λ told. subst IsTrue (sym c.find_room.ensures.tells) told) (g.D.Disk.may_leave new.disk) _ _ room many_new exact same fails in
-    one_more_at_most held (with_rest c.args.texts.now c.args.rest.now) (bodies_at new.bytes.items new.spans.items) _ (g.D.Disk.may_leave new.disk) cut (subst (λ (v : View g.row.D.Denot). IsTrue (g.D.Disk.tells v.disk)) (sym c.self.view_is) told)
+    one_more_at_most held (with_rest c.args.texts.now c.args.rest.now) (bodies_at new.bytes.items new.spans.items) _ (g.D.Disk.may_leave new.disk) cut (subst (λ (v : JournalContents g.row.D.Denot). IsTrue (g.D.Disk.tells v.disk)) (sym c.self.view_is) told)
 
 pub returns-clause-file : goal.returns-clause-file
 returns-clause-file g c = λ told running.
@@ -195,7 +195,7 @@ returns-then-is_err-2-clause-calls g c =
       same = search rules;
       told = search rules;
       all = tt;
-      failing = λ failed. subst (λ (v : View g.row.D.Denot). FailsAmong g.D.Disk.after v.disk c.append_each.new.mirror.disk (calls_to_append_all (length (blocks v.records)) (with_rest c.args.texts.now c.args.rest.now))) c.self.view_is
+      failing = λ failed. subst (λ (v : JournalContents g.row.D.Denot). FailsAmong g.D.Disk.after v.disk c.append_each.new.mirror.disk (calls_to_append_all (length (blocks v.records)) (with_rest c.args.texts.now c.args.rest.now))) c.self.view_is
           (subst (λ (n : ℕ). FailsAmong g.D.Disk.after c.self.inside.mirror.disk c.append_each.new.mirror.disk (calls_to_append_all n (with_rest c.args.texts.now c.args.rest.now))) gate
           (fails_later g.D.Disk.after g.met.D.Disk.after_more c.self.inside.mirror.disk mid.disk c.append_each.new.mirror.disk [] (calls_to_append_all (vec_len mid.bytes) (with_rest c.args.texts.now c.args.rest.now)) c.find_room.ensures.made failing));
       none = tt;
@@ -212,7 +212,7 @@ returns-clause-calls g c =
     record {
       same = search rules;
       told = search rules;
-      all = subst (λ (v : View g.row.D.Denot). g.D.Disk.after v.disk (made (calls_to_append_all (length (blocks v.records)) (with_rest c.args.texts.now c.args.rest.now))) c.append_each.new.mirror.disk) c.self.view_is
+      all = subst (λ (v : JournalContents g.row.D.Denot). g.D.Disk.after v.disk (made (calls_to_append_all (length (blocks v.records)) (with_rest c.args.texts.now c.args.rest.now))) c.append_each.new.mirror.disk) c.self.view_is
           (subst (λ (n : ℕ). g.D.Disk.after c.self.inside.mirror.disk (made (calls_to_append_all n (with_rest c.args.texts.now c.args.rest.now))) c.append_each.new.mirror.disk) gate
           (made_later g.D.Disk.after g.met.D.Disk.after_more c.self.inside.mirror.disk mid.disk c.append_each.new.mirror.disk [] (calls_to_append_all (vec_len mid.bytes) (with_rest c.args.texts.now c.args.rest.now)) c.find_room.ensures.made appended));
       failing = search rules;
@@ -300,7 +300,7 @@ returns-in-Err-clause-limits g c =
     let many : c.count.result ≡ length held = search rules in
     let whole : vec_len c.self.inside.mirror.bytes ≡ length (blocks held) = c.self.inside.mirror.bytes.ok.0 ∙ ap length c.self.invariant.0.parts in
     let passes = c.in-Err.ensures.full held many (c.len.ensures ∙ whole) in
-    subst (λ (v : View g.row.D.Denot). PassesLimit v.records (length (with_rest c.args.texts.now c.args.rest.now)) (length (blocks (with_rest c.args.texts.now c.args.rest.now))) c.in-Err.full.what c.in-Err.full.number) c.self.view_is
+    subst (λ (v : JournalContents g.row.D.Denot). PassesLimit v.records (length (with_rest c.args.texts.now c.args.rest.now)) (length (blocks (with_rest c.args.texts.now c.args.rest.now))) c.in-Err.full.what c.in-Err.full.number) c.self.view_is
     (limit_counted held (with_rest c.args.texts.now c.args.rest.now) _ _ c.in-Err.full.what c.in-Err.full.number (sym (rest_count c.args.texts.now c.args.rest.now)) c.bytes_of-long.ensures passes)
 
 pub returns-then-is_err-clause-limits : goal.returns-then-is_err-clause-limits
@@ -311,7 +311,7 @@ returns-then-is_err-clause-limits g c =
     let many_new : length c.args.texts.now ≡ length (with_rest c.args.texts.now c.args.rest.now) = sym (rest_count c.args.texts.now c.args.rest.now) in
     let room = c.in_default.ensures.room held many (c.len.ensures ∙ whole) in
     let exact : c.bytes_of-long.result ≡ length (blocks (with_rest c.args.texts.now c.args.rest.now)) = counted held (with_rest c.args.texts.now c.args.rest.now) _ _ room c.bytes_of-long.ensures in
-    subst (λ (v : View g.row.D.Denot). HasRoom v.records (length (with_rest c.args.texts.now c.args.rest.now)) (length (blocks (with_rest c.args.texts.now c.args.rest.now)))) c.self.view_is (room_counted held (with_rest c.args.texts.now c.args.rest.now) _ _ room many_new exact)
+    subst (λ (v : JournalContents g.row.D.Denot). FitsFile v.records (length (with_rest c.args.texts.now c.args.rest.now)) (length (blocks (with_rest c.args.texts.now c.args.rest.now)))) c.self.view_is (room_counted held (with_rest c.args.texts.now c.args.rest.now) _ _ room many_new exact)
 
 pub returns-then-is_err-2-clause-limits : goal.returns-then-is_err-2-clause-limits
 returns-then-is_err-2-clause-limits g c =
@@ -321,7 +321,7 @@ returns-then-is_err-2-clause-limits g c =
     let many_new : length c.args.texts.now ≡ length (with_rest c.args.texts.now c.args.rest.now) = sym (rest_count c.args.texts.now c.args.rest.now) in
     let room = c.in_default.ensures.room held many (c.len.ensures ∙ whole) in
     let exact : c.bytes_of-long.result ≡ length (blocks (with_rest c.args.texts.now c.args.rest.now)) = counted held (with_rest c.args.texts.now c.args.rest.now) _ _ room c.bytes_of-long.ensures in
-    subst (λ (v : View g.row.D.Denot). HasRoom v.records (length (with_rest c.args.texts.now c.args.rest.now)) (length (blocks (with_rest c.args.texts.now c.args.rest.now)))) c.self.view_is (room_counted held (with_rest c.args.texts.now c.args.rest.now) _ _ room many_new exact)
+    subst (λ (v : JournalContents g.row.D.Denot). FitsFile v.records (length (with_rest c.args.texts.now c.args.rest.now)) (length (blocks (with_rest c.args.texts.now c.args.rest.now)))) c.self.view_is (room_counted held (with_rest c.args.texts.now c.args.rest.now) _ _ room many_new exact)
 
 pub returns-clause-limits : goal.returns-clause-limits
 returns-clause-limits g c =
@@ -331,7 +331,7 @@ returns-clause-limits g c =
     let many_new : length c.args.texts.now ≡ length (with_rest c.args.texts.now c.args.rest.now) = sym (rest_count c.args.texts.now c.args.rest.now) in
     let room = c.in_default.ensures.room held many (c.len.ensures ∙ whole) in
     let exact : c.bytes_of-long.result ≡ length (blocks (with_rest c.args.texts.now c.args.rest.now)) = counted held (with_rest c.args.texts.now c.args.rest.now) _ _ room c.bytes_of-long.ensures in
-    subst (λ (v : View g.row.D.Denot). HasRoom v.records (length (with_rest c.args.texts.now c.args.rest.now)) (length (blocks (with_rest c.args.texts.now c.args.rest.now)))) c.self.view_is (room_counted held (with_rest c.args.texts.now c.args.rest.now) _ _ room many_new exact)
+    subst (λ (v : JournalContents g.row.D.Denot). FitsFile v.records (length (with_rest c.args.texts.now c.args.rest.now)) (length (blocks (with_rest c.args.texts.now c.args.rest.now)))) c.self.view_is (room_counted held (with_rest c.args.texts.now c.args.rest.now) _ _ room many_new exact)
 
 pub returns-then-is_err-clause-memory : goal.returns-then-is_err-clause-memory
 returns-then-is_err-clause-memory g c = λ covered _.

@@ -6,7 +6,7 @@ use Rattle.depot_model.specs.Checks.{Setting}
 use Rattle.depot_model.specs.Lawful.{IsLawful, is_empty}
 use Rattle.depot_model.specs.Roster.{key_of}
 use Rattle.depot_model.specs.Texts.{IsRoster}
-use Rattle.depot_node.specs.Holdings.{standing}
+use Rattle.depot_node.specs.Holdings.{node_setting}
 use Rattle.depot_node.specs.Starting.{IsDiskThen, IsHandedBack, IsStartedOn, started}
 use Rattle.depot_node.specs.declared.start_error.StartError.TheVariants as refused
 use Rattle.depot_decide.proofs.TakenTexts.{none_accepted}
@@ -20,7 +20,7 @@ use Rattle.depot_node.proofs.node.Node.start.Goals.{In-Ok-open}
 abbrev here : (g : Over) (c : In-Ok-open g) → Setting
 here g c = record { verifies = g.S.Scheme.verifies; me = c.args.me; listed = c.args.roster }
 
-stands : (g : Over) (c : In-Ok-open g) → standing g.S.Scheme.verifies c.in-Ok-open.store ≡ here g c
+stands : (g : Over) (c : In-Ok-open g) → node_setting g.S.Scheme.verifies c.in-Ok-open.store ≡ here g c
 stands g c = c.in-Ok-open.ensures.stands ∙ ap (λ (v : View g.row.S.Denot). setting g.S.Scheme.verifies v) c.in-Ok.ensures
 
 pub open-requires-clause-empty : goal.open-requires-clause-empty

@@ -1,4 +1,4 @@
-use Rattle.std.proofs.Common.{◌≡◌, ◌↔◌, ◌++◌, ◌*◌, ◌+◌, ◌≤◌, Bool, true, false, IsTrue, List, ℕ, length, take, Ok, Err, refl, sym, ap, subst, ◌∙◌, arith}
+use Rattle.std.proofs.Common.{rules, ◌≡◌, ◌↔◌, ◌++◌, ◌*◌, ◌+◌, ◌≤◌, Bool, true, false, IsTrue, List, ℕ, length, take, Ok, Err, refl, sym, ap, subst, ◌∙◌, arith}
 use Rattle.std.specs.Prelude.{IsErrOf}
 use Rattle.std.proofs.lemmas.Result.{err_from_is_err_and}
 use Rattle.depot_base.specs.WithRest.{with_rest}
@@ -13,12 +13,12 @@ use Rattle.depot_laws.proofs.OwnTexts.{lawful_is_light}
 use Rattle.depot_decide.specs.Deciding.{AreJoined}
 use Rattle.depot_journal.specs.declared.journal_error.AppendError.{AppendError}
 use Rattle.depot_journal.specs.declared.journal_error.AppendError.TheVariants as refused
-use Rattle.depot_readings.specs.NewRecords.{bytes_of}
+use Rattle.depot_readings.specs.NewRecords.{taken_bytes}
 use Rattle.depot_readings.specs.ReadingsView as readings
 use Rattle.depot_readings.specs.RecordTexts.{IsGiven, given_of}
 use Rattle.depot_readings.specs.ReadingsView.{Known}
-use Rattle.depot_node.specs.Holdings.{Holding, journal_on, standing}
-use Rattle.depot_node.specs.JournalRecords.{AreTextsFor, records_of}
+use Rattle.depot_node.specs.Holdings.{Holding, journal_on, node_setting}
+use Rattle.depot_node.specs.JournalRecords.{AreTextsFor, records_in_texts}
 use Rattle.depot_node.specs.StoreCalls.{IsWriteCall}
 use Rattle.depot_node.specs.declared.commit.WriteError.TheVariants as unwritten
 use Rattle.depot_node.proofs.AppendLaws.{IsFound, appended, covers, cut_appended, cut_short, disk_failed, store_over, unwritten_call, written_call}
@@ -30,7 +30,7 @@ use Rattle.depot_node.proofs.store.Store.append.Goals.{After-reserve, After-coun
 
 pub overflow_cast-size : goal.overflow_cast-size
 overflow_cast-size g c =
-    let light = lawful_is_light (standing g.S.Scheme.verifies c.args.self.now) (c.args.self.now.records ++ c.args.new) c.requires.lawful in
+    let light = lawful_is_light (node_setting g.S.Scheme.verifies c.args.self.now) (c.args.self.now.records ++ c.args.new) c.requires.lawful in
     omega (arith, light, c.bytes.ensures.behind c.args.self.now.records)
 
 pub overflow_sub-size : goal.overflow_sub-size
@@ -47,14 +47,14 @@ given-rest-requires g c = subst (λ (rs : List Record). IsGiven rs c.args.given.
 pub read-requires : goal.read-requires
 read-requires g c =
     let is = readings_are _ _ c.self.inside.readings c.self.view_is refl refl (c.self.invariant.2 (whole_inside _ _ c.self.view_is c.requires.whole).runs) in
-    let new = subst (λ (rs : List Record). IsLawful (standing g.S.Scheme.verifies c.args.self.now) (c.args.self.now.records ++ rs)) (sym c.take_texts.ensures.same) c.requires.lawful in
+    let new = subst (λ (rs : List Record). IsLawful (node_setting g.S.Scheme.verifies c.args.self.now) (c.args.self.now.records ++ rs)) (sym c.take_texts.ensures.same) c.requires.lawful in
     record { lawful = subst (λ (r : Known). IsLawful (readings.standing g.S.Scheme.verifies r) (r.records ++ c.take_texts.new.self)) (sym (c.keep_parents.ensures ∙ is)) new }
 
 -- ---- what stands when memory for the journal was found
 
 -- the records, as they stand inside
 abbrev J : (g : Over) (c : After-reserve g) → List Record
-J g c = records_of (take c.self.inside.read c.self.inside.journal.records)
+J g c = records_in_texts (take c.self.inside.read c.self.inside.journal.records)
 
 ran : (g : Over) (c : After-reserve g) → c.self.inside.journal.is_stopped ≡ false
 ran g c = (whole_inside _ _ c.self.view_is c.requires.whole).runs
@@ -75,16 +75,16 @@ unwritten_then g c then disk records stopped =
 
 pub returns-in_default-clause-call : goal.returns-in_default-clause-call
 returns-in_default-clause-call g c =
-    unwritten_then g (goal.at.returns-in_default-clause-call g c).After-reserve _ refl (ap (λ (x : List (List ℕ)). records_of (take c.self.inside.read x)) c.reserve.ensures.same) c.reserve.ensures.running
+    unwritten_then g (goal.at.returns-in_default-clause-call g c).After-reserve _ refl (ap (λ (x : List (List ℕ)). records_in_texts (take c.self.inside.read x)) c.reserve.ensures.same) c.reserve.ensures.running
 
 pub returns-in_default-take_texts-clause-call : goal.returns-in_default-take_texts-clause-call
 returns-in_default-take_texts-clause-call g c =
-    unwritten_then g (goal.at.returns-in_default-take_texts-clause-call g c).After-reserve _ refl (ap (λ (x : List (List ℕ)). records_of (take c.self.inside.read x)) c.reserve.ensures.same) c.reserve.ensures.running
+    unwritten_then g (goal.at.returns-in_default-take_texts-clause-call g c).After-reserve _ refl (ap (λ (x : List (List ℕ)). records_in_texts (take c.self.inside.read x)) c.reserve.ensures.same) c.reserve.ensures.running
 
 pub returns-in_err-read-clause-call : goal.returns-in_err-read-clause-call
 returns-in_err-read-clause-call g c =
     let p = err_from_is_err_and c.from_residual.result c.from_residual.ensures.1 in
-    rw (p.1, p.2) (unwritten_then g (goal.at.returns-in_err-read-clause-call g c).After-reserve _ refl (ap (λ (x : List (List ℕ)). records_of (take c.self.inside.read x)) c.reserve.ensures.same) c.reserve.ensures.running)
+    rw (p.1, p.2) (unwritten_then g (goal.at.returns-in_err-read-clause-call g c).After-reserve _ refl (ap (λ (x : List (List ℕ)). records_in_texts (take c.self.inside.read x)) c.reserve.ensures.same) c.reserve.ensures.running)
 
 -- ---- what stands when the texts were appended, or weren't
 
@@ -95,23 +95,23 @@ new_texts : (g : Over) (c : After-count-self-inside g) → AreTextsFor c.args.ne
 new_texts g c =
     let rest = c.given-rest.ensures ∙ ap given_of c.take_texts.ensures.same in
     subst (λ (ts : List (List ℕ)). AreTextsFor c.args.new (with_rest ts c.given-rest.result.now)) (sym c.as_slice.ensures.value)
-    (given_texts (standing g.S.Scheme.verifies c.args.self.now) c.args.self.now.records c.args.new _ c.given-rest.result.now c.requires.lawful c.in-Ok-take_texts.ensures.texts rest)
+    (given_texts (node_setting g.S.Scheme.verifies c.args.self.now) c.args.self.now.records c.args.new _ c.given-rest.result.now c.requires.lawful c.in-Ok-take_texts.ensures.texts rest)
 
-mid_texts : (g : Over) (c : After-count-self-inside g) → AreTextsFor (records_of (take c.self.inside.read c.self.inside.journal.records)) c.reserve.new.self.records
-mid_texts g c = subst (λ (x : List (List ℕ)). AreTextsFor (records_of (take c.self.inside.read c.self.inside.journal.records)) x) (sym c.reserve.ensures.same) (whole_texts c.self.inside.read c.self.inside.journal.records c.self.invariant.0 (whole_inside _ _ c.self.view_is c.requires.whole).read)
+mid_texts : (g : Over) (c : After-count-self-inside g) → AreTextsFor (records_in_texts (take c.self.inside.read c.self.inside.journal.records)) c.reserve.new.self.records
+mid_texts g c = subst (λ (x : List (List ℕ)). AreTextsFor (records_in_texts (take c.self.inside.read c.self.inside.journal.records)) x) (sym c.reserve.ensures.same) (whole_texts c.self.inside.read c.self.inside.journal.records c.self.invariant.0 (whole_inside _ _ c.self.view_is c.requires.whole).read)
 
-lawful_in : (g : Over) (c : After-count-self-inside g) → IsLawful (standing g.S.Scheme.verifies c.args.self.now) (records_of (take c.self.inside.read c.self.inside.journal.records) ++ c.args.new)
-lawful_in g c = subst (λ (K : List Record). IsLawful (standing g.S.Scheme.verifies c.args.self.now) (K ++ c.args.new)) (sym (ap (λ (v : Holding g.row.D.Denot). v.records) c.self.view_is)) c.requires.lawful
+lawful_in : (g : Over) (c : After-count-self-inside g) → IsLawful (node_setting g.S.Scheme.verifies c.args.self.now) (records_in_texts (take c.self.inside.read c.self.inside.journal.records) ++ c.args.new)
+lawful_in g c = subst (λ (K : List Record). IsLawful (node_setting g.S.Scheme.verifies c.args.self.now) (K ++ c.args.new)) (sym (ap (λ (v : Holding g.row.D.Denot). v.records) c.self.view_is)) c.requires.lawful
 
 -- what is told of the call, whatever comes of it
 written : (g : Over) (c : After-count-self-inside g) {failed nothing : Type 0} (K : List Record) (me : ℕ) (listed : List RosterEntry) (unread : List (List ℕ)) → AreTextsFor K c.append_all-written.new.self.records → (failed ↔ IsErrOf c.append_all-written.result refused.Disk)
-    → ((c.append_all-written.new.self.is_stopped ≡ true) ↔ failed) → (nothing → ⊥) → ((failed → ⊥) → (K ≡ records_of (take c.self.inside.read c.self.inside.journal.records) ++ c.args.new) × (c.append_all-written.result ≡ Ok tt))
+    → ((c.append_all-written.new.self.is_stopped ≡ true) ↔ failed) → (nothing → ⊥) → ((failed → ⊥) → (K ≡ records_in_texts (take c.self.inside.read c.self.inside.journal.records) ++ c.args.new) × (c.append_all-written.result ≡ Ok tt))
     → IsJournalCall (journal_on g.D.Disk) c.args.self.now (store_over me listed K unread c.append_all-written.new.self) c.args.new ⊥ failed nothing
 written g c {failed} {nothing} K me listed unread w fails stops never grew =
     let whole = whole_inside _ _ c.self.view_is c.requires.whole in
     let then = store_over me listed K unread c.append_all-written.new.self in
-    let all : IsTrue (g.D.Disk.tells c.self.inside.journal.disk) → LeavesAll (records_of (take c.self.inside.read c.self.inside.journal.records)) false (g.D.Disk.may_leave c.self.inside.journal.disk) = λ told.
-    subst (λ (b : Bool). LeavesAll (records_of (take c.self.inside.read c.self.inside.journal.records)) b (g.D.Disk.may_leave c.self.inside.journal.disk)) whole.runs
+    let all : IsTrue (g.D.Disk.tells c.self.inside.journal.disk) → LeavesAll (records_in_texts (take c.self.inside.read c.self.inside.journal.records)) false (g.D.Disk.may_leave c.self.inside.journal.disk) = λ told.
+    subst (λ (b : Bool). LeavesAll (records_in_texts (take c.self.inside.read c.self.inside.journal.records)) b (g.D.Disk.may_leave c.self.inside.journal.disk)) whole.runs
     (all_of_records _ _ _ _ (whole_texts c.self.inside.read c.self.inside.journal.records c.self.invariant.0 whole.read) (c.is_stopped-runs.ensures.stable told)) in
     subst (λ (v : Holding g.row.D.Denot). IsJournalCall (journal_on g.D.Disk) v then c.args.new ⊥ failed nothing) c.self.view_is
     (written_call g.D.Disk g.met.D.Disk.only_now g.met.D.Disk.after_more _ me listed K c.args.new unread (texts g c) c.reserve.new.self c.append_all-written.new.self c.append_all-written.result whole.runs (c.reserve.ensures.running ∙ whole.runs) (mid_texts g c) (new_texts g c) w
@@ -148,29 +148,35 @@ returns-in-Ok-written-clause-call g c =
 
 -- ---- the disk failed
 
--- for memory and room were found before
-failed : (g : Over) (c : After-count-self-inside g) (e : AppendError) → c.append_all-written.result ≡ Err e → length c.args.new ≤ c.reserve.new.self.room_records → bytes_of c.args.new ≤ c.reserve.new.self.room_bytes + 5 * length c.args.new → IsErrOf c.append_all-written.result refused.Disk
+-- nothing else can fail, for memory and room were found before
+failed : (g : Over) (c : After-count-self-inside g) (e : AppendError) → c.append_all-written.result ≡ Err e → length c.args.new ≤ c.reserve.new.self.room_records → taken_bytes c.args.new ≤ c.reserve.new.self.room_bytes + 5 * length c.args.new → IsErrOf c.append_all-written.result refused.Disk
 failed g c e is records bytes =
-    disk_failed (standing g.S.Scheme.verifies c.args.self.now) c.reserve.new.self _ c.args.new (texts g c) c.append_all-written.result e is (mid_texts g c) (new_texts g c) (lawful_in g c) (covers c.reserve.new.self c.args.new (texts g c) (new_texts g c) records bytes)
+    disk_failed (node_setting g.S.Scheme.verifies c.args.self.now) c.reserve.new.self _ c.args.new (texts g c) c.append_all-written.result e is (mid_texts g c) (new_texts g c) (lawful_in g c) (covers c.reserve.new.self c.args.new (texts g c) (new_texts g c) records bytes)
     (c.reserve.ensures.running ∙ (whole_inside _ _ c.self.view_is c.requires.whole).runs) c.append_all-written.ensures.limits c.append_all-written.ensures.memory c.append_all-written.ensures.stopped
 
-pub invariant_of-self-2 : goal.invariant_of-self-2
-invariant_of-self-2 g c =
-    let at = (goal.at.invariant_of-self-2 g c).After-count-self-inside in
-    let f = failed g at c.in-Err.field-0 c.in-Err.is (omega (arith, c.in-Ok.ensures.records, c.count-count.ensures.count)) (omega (arith, c.in-Ok.ensures.bytes, c.count-count.ensures.count, c.bytes.ensures.bytes)) in
+pub unreachable-requires : goal.unreachable-requires
+unreachable-requires g c =
+    let at = (goal.at.unreachable-requires g c).After-count-self-inside in
+    let f : c.append_all-written.result ≡ Err refused.Disk = failed g at c.in-Err.field-0 c.in-Err.is (omega (arith, c.in-Ok.ensures.records, c.count-count.ensures.count)) (omega (arith, c.in-Ok.ensures.bytes, c.count-count.ensures.count, c.bytes.ensures.bytes)) in
+    search rules
+
+pub invariant_of-self-in-Err-Disk : goal.invariant_of-self-in-Err-Disk
+invariant_of-self-in-Err-Disk g c =
+    let at = (goal.at.invariant_of-self-in-Err-Disk g c).After-count-self-inside in
+    let f = failed g at c.in-Err-Disk.field-0 c.in-Err-Disk.is (omega (arith, c.in-Ok.ensures.records, c.count-count.ensures.count)) (omega (arith, c.in-Ok.ensures.bytes, c.count-count.ensures.count, c.bytes.ensures.bytes)) in
     let cut = cut_appended c.count-self-inside.result _ c.args.new c.reserve.new.self.records (texts g at) c.append_all-written.new.self.records _ _ (mid_texts g at) (new_texts g at) (c.append_all-written.ensures.disk f) c.count-self-inside.ensures in
     (cut.reads.are, cut.reads.within, λ runs. (let never = sym (c.append_all-written.ensures.stops f) ∙ runs in absurd cc))
 
-pub returns-clause-appends : goal.returns-clause-appends
-returns-clause-appends g c =
-    let at = (goal.at.returns-clause-appends g c).After-count-self-inside in
-    let f = failed g at c.in-Err.field-0 c.in-Err.is (omega (arith, c.in-Ok.ensures.records, c.count-count.ensures.count)) (omega (arith, c.in-Ok.ensures.bytes, c.count-count.ensures.count, c.bytes.ensures.bytes)) in
+pub returns-in-Err-Disk-clause-appends : goal.returns-in-Err-Disk-clause-appends
+returns-in-Err-Disk-clause-appends g c =
+    let at = (goal.at.returns-in-Err-Disk-clause-appends g c).After-count-self-inside in
+    let f = failed g at c.in-Err-Disk.field-0 c.in-Err-Disk.is (omega (arith, c.in-Ok.ensures.records, c.count-count.ensures.count)) (omega (arith, c.in-Ok.ensures.bytes, c.count-count.ensures.count, c.bytes.ensures.bytes)) in
     let cut = cut_appended c.count-self-inside.result _ c.args.new c.reserve.new.self.records (texts g at) c.append_all-written.new.self.records _ _ (mid_texts g at) (new_texts g at) (c.append_all-written.ensures.disk f) c.count-self-inside.ensures in
-    subst (λ (v : Holding g.row.D.Denot). IsCutShort v.records c.args.new (records_of (take c.count-self-inside.result c.append_all-written.new.self.records))) c.self.view_is (cut_short c.count-self-inside.result _ c.args.new c.append_all-written.new.self.records cut)
+    subst (λ (v : Holding g.row.D.Denot). IsCutShort v.records c.args.new (records_in_texts (take c.count-self-inside.result c.append_all-written.new.self.records))) c.self.view_is (cut_short c.count-self-inside.result _ c.args.new c.append_all-written.new.self.records cut)
 
-pub returns-clause-call : goal.returns-clause-call
-returns-clause-call g c =
-    let at = (goal.at.returns-clause-call g c).After-count-self-inside in
-    let f = failed g at c.in-Err.field-0 c.in-Err.is (omega (arith, c.in-Ok.ensures.records, c.count-count.ensures.count)) (omega (arith, c.in-Ok.ensures.bytes, c.count-count.ensures.count, c.bytes.ensures.bytes)) in
+pub returns-in-Err-Disk-clause-call : goal.returns-in-Err-Disk-clause-call
+returns-in-Err-Disk-clause-call g c =
+    let at = (goal.at.returns-in-Err-Disk-clause-call g c).After-count-self-inside in
+    let f = failed g at c.in-Err-Disk.field-0 c.in-Err-Disk.is (omega (arith, c.in-Ok.ensures.records, c.count-count.ensures.count)) (omega (arith, c.in-Ok.ensures.bytes, c.count-count.ensures.count, c.bytes.ensures.bytes)) in
     let cut = cut_appended c.count-self-inside.result _ c.args.new c.reserve.new.self.records (texts g at) c.append_all-written.new.self.records _ _ (mid_texts g at) (new_texts g at) (c.append_all-written.ensures.disk f) c.count-self-inside.ensures in
     written g at _ _ _ _ (whole_texts c.count-self-inside.result c.append_all-written.new.self.records cut.reads.are cut.reads.left) (λ e. f, λ e. refl) (λ now. refl, λ e. c.append_all-written.ensures.stops f) (λ e. cc) (λ well. absurd (well refl))

@@ -4,7 +4,7 @@ use Rattle.depot_model.specs.Room.{full_by}
 use Rattle.depot_readings.specs.NewRecords.{AreNew}
 use Rattle.depot_readings.specs.ReadingsView as readings
 use Rattle.depot_readings.specs.ReadingsView.{Known}
-use Rattle.depot_node.specs.Commits.{Appends}
+use Rattle.depot_node.specs.Commits.{AppendsRecords}
 use Rattle.depot_node.specs.Holdings.{journal_on, known}
 use Rattle.depot_node.specs.StoreCalls.{IsWriteCall}
 use Rattle.depot_node.specs.declared.commit.WriteError.{WriteError}
@@ -53,11 +53,11 @@ pub returns-in-Ok-clause-call : goal.returns-in-Ok-clause-call
 returns-in-Ok-clause-call g c = commit_call g.D.Disk c.args.self.now c.append.new.self c.args.new (Ok tt) c.in-Ok.ensures.call
 
 pub returns-in-Err-Memory-clause-commits : goal.returns-in-Err-Memory-clause-commits
-returns-in-Err-Memory-clause-commits g c = subst (λ (e : WriteError). Appends c.args.self.now.records c.args.new (Err e) c.append.new.self.records) c.in-Err-Memory.field-0-is c.in-Err-Memory.ensures.appends
+returns-in-Err-Memory-clause-commits g c = subst (λ (e : WriteError). AppendsRecords c.args.self.now.records c.args.new (Err e) c.append.new.self.records) c.in-Err-Memory.field-0-is c.in-Err-Memory.ensures.appends
 
 pub returns-in-Err-Memory-clause-kept : goal.returns-in-Err-Memory-clause-kept
 returns-in-Err-Memory-clause-kept g c =
-    kept_same g.S.Scheme.verifies c.args.self.now c.append.new.self c.requires.kept c.append.ensures.read c.append.ensures.stands (subst (λ (e : WriteError). Appends c.args.self.now.records c.args.new (Err e) c.append.new.self.records) c.in-Err-Memory.field-0-is c.in-Err-Memory.ensures.appends)
+    kept_same g.S.Scheme.verifies c.args.self.now c.append.new.self c.requires.kept c.append.ensures.read c.append.ensures.stands (subst (λ (e : WriteError). AppendsRecords c.args.self.now.records c.args.new (Err e) c.append.new.self.records) c.in-Err-Memory.field-0-is c.in-Err-Memory.ensures.appends)
 
 pub returns-in-Err-Memory-clause-full : goal.returns-in-Err-Memory-clause-full
 returns-in-Err-Memory-clause-full g c = λ what is. (let none = sym c.in_default.is ∙ limit g (goal.at.returns-in-Err-Memory-clause-full g c).After-limit ∙ is in absurd cc)
@@ -69,13 +69,13 @@ returns-in-Err-Memory-clause-call g c =
 pub returns-in-Err-Disk-clause-commits : goal.returns-in-Err-Disk-clause-commits
 returns-in-Err-Disk-clause-commits g c = (
   sym (limit g (goal.at.returns-in-Err-Disk-clause-commits g c).After-limit) ∙ c.in_default.is,
-  subst (λ (e : WriteError). Appends c.args.self.now.records c.args.new (Err e) c.append.new.self.records) c.in-Err-Disk.field-0-is c.in-Err-Disk.ensures.appends,
+  subst (λ (e : WriteError). AppendsRecords c.args.self.now.records c.args.new (Err e) c.append.new.self.records) c.in-Err-Disk.field-0-is c.in-Err-Disk.ensures.appends,
 )
 
 pub returns-in-Err-Disk-clause-kept : goal.returns-in-Err-Disk-clause-kept
 returns-in-Err-Disk-clause-kept g c =
     kept_cut g.S.Scheme.verifies c.args.self.now c.append.new.self c.args.new c.requires.kept c.append.ensures.read c.append.ensures.stands (c.requires.may.lawful (sym (limit g (goal.at.returns-in-Err-Disk-clause-kept g c).After-limit) ∙ c.in_default.is))
-    (subst (λ (e : WriteError). Appends c.args.self.now.records c.args.new (Err e) c.append.new.self.records) c.in-Err-Disk.field-0-is c.in-Err-Disk.ensures.appends)
+    (subst (λ (e : WriteError). AppendsRecords c.args.self.now.records c.args.new (Err e) c.append.new.self.records) c.in-Err-Disk.field-0-is c.in-Err-Disk.ensures.appends)
 
 pub returns-in-Err-Disk-clause-full : goal.returns-in-Err-Disk-clause-full
 returns-in-Err-Disk-clause-full g c = λ what is. (let none = sym c.in_default.is ∙ limit g (goal.at.returns-in-Err-Disk-clause-full g c).After-limit ∙ is in absurd cc)

@@ -1,9 +1,9 @@
 use Rattle.std.proofs.Common.{◌≡◌, ◌||◌, ℕ, List, take}
-use Rattle.depot_readings.specs.Named.{names, is_name, HasRooms}
+use Rattle.depot_readings.specs.Named.{has_named_value, is_name, HasRooms}
 use Rattle.depot_readings.proofs.named.NamedValues.add_each.Given as goal
 
 abbrev pub invariant-loop-name : goal.invariant-loop-name
 invariant-loop-name l = record {
   room : HasRooms l.self l.given;
-  named : (hash : List ℕ) (size : ℕ) → names l.self hash size ≡ (names l.initial.self hash size || is_name (take l.name-index l.given) hash size);
+  named : (hash : List ℕ) (size : ℕ) → has_named_value l.self hash size ≡ (has_named_value l.initial.self hash size || is_name (take l.name-index l.given) hash size);
 }

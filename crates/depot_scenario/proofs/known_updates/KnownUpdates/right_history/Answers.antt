@@ -1,4 +1,5 @@
 use Rattle.std.proofs.Common.{◌≡◌, List, ℕ, ap, subst, sym, ◌∙◌, ◌<◌, length}
+use Rattle.depot_base.specs.declared.update.Update.{Update}
 use Rattle.std.specs.List.{AllByRecursion}
 use Rattle.std.proofs.lemmas.Result.{IfOk-weaker}
 use Rattle.depot_graph.specs.Kept.{updates_in}
@@ -17,5 +18,7 @@ history_hash-requires c =
 pub returns : goal.returns
 returns c =
     let us = updates_in c.args.self.now.graph.items.entries in
+    let all = c.args.self.now.listed.updates in
     let u = c.args.update.now in
-    IfOk-weaker c.history_hash.result (λ hash. hash ≡ history_hash (closure_of c.as_slice.result.now us)) (λ hash. hash ≡ history_hash (past u us)) (λ hash is. hash_of_items us u c.in_ok-items.items.items hash c.in_ok-items.ensures (is ∙ ap (λ (ns : List ℕ). history_hash (closure_of ns us)) c.as_slice.ensures.value)) c.history_hash.ensures
+    IfOk-weaker c.history_hash.result (λ hash. hash ≡ history_hash (closure_of c.as_slice.result.now us)) (λ hash. hash ≡ history_hash (past u all))
+    (λ hash is. hash_of_items us u c.in_ok-items.items.items hash c.in_ok-items.ensures (is ∙ ap (λ (ns : List ℕ). history_hash (closure_of ns us)) c.as_slice.ensures.value) ∙ ap (λ (ts : List Update). history_hash (past u ts)) (c.args.self.now.held c.requires.asked)) c.history_hash.ensures

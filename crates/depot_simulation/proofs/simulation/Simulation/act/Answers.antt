@@ -19,8 +19,8 @@ come_back-requires-clause-seen g c =
     let came = c.in_ok-actor.ensures p.setup p.run i.host i.labels_are i.hosted in
     effect_had_seen _ g.A.Actor.view g.A.Reader.Reading.reads p.setup p.run c.args.event.now c.args.self.now c.args.acting c.in_ok-actor.field-0.actor c.in_ok-actor.field-0.lines c.in_ok-actor.field-0.bytes i came
 
-pub returns : goal.returns
-returns g c = λ before left setup run at.
+pub returns-clause-lines : goal.returns-clause-lines
+returns-clause-lines g c = λ before left setup run at.
     let i = left_is _ g.A.Actor.view g.A.Reader.Reading.reads setup run (event_node c.args.event.now) before c.args.self.now c.args.acting left at in
     let came = c.in_ok-actor.ensures setup run i.host i.labels_are i.hosted in
     let reads = c.note_read.new.reads in

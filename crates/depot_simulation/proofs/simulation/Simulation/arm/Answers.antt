@@ -17,8 +17,8 @@ come_back-requires-clause-seen g c =
     let i = left_is _ g.A.Actor.view g.A.Reader.Reading.reads p.setup p.run node l.before c.args.self.now c.args.acting l.left p.at in
     pending_had_seen _ g.A.Actor.view g.A.Reader.Reading.reads p.setup p.run node c.args.self.now c.args.acting c.in_ok-actor.actor c.args.call c.args.image i c.in_ok-actor.ensures
 
-pub returns : goal.returns
-returns g c = λ node before left. λ setup run at.
+pub returns-clause-lines : goal.returns-clause-lines
+returns-clause-lines g c = λ node before left. λ setup run at.
     let view = g.A.Actor.view in
     let reads = g.A.Reader.Reading.reads in
     let i = left_is _ view reads setup run node before c.args.self.now c.args.acting left at in

@@ -17,8 +17,8 @@ come_back-requires-clause-seen g c =
     let i = left_is _ g.A.Actor.view g.A.Reader.Reading.reads p.setup p.run node l.before c.args.self.now c.args.acting l.left p.at in
     settled_had_seen _ g.A.Actor.view g.A.Reader.Reading.reads p.setup p.run node c.args.id.now c.args.k c.args.self.now c.args.acting t.actor t.lines t.bytes i (c.in_ok-actor.ensures p.setup i.host i.hosted)
 
-pub returns : goal.returns
-returns g c = λ node before left. λ setup run at.
+pub returns-clause-lines : goal.returns-clause-lines
+returns-clause-lines g c = λ node before left. λ setup run at.
     let t = c.in_ok-actor.field-0 in
     let i = left_is _ g.A.Actor.view g.A.Reader.Reading.reads setup run node before c.args.self.now c.args.acting left at in
     settled_told _ g.A.Actor.view g.A.Reader.Reading.reads setup run node c.args.id.now c.args.k before c.args.self.now c.come_back.new.self c.args.acting t.actor t.lines t.bytes (g.met.A.Actor.lawful t.actor) at i (c.in_ok-actor.ensures setup i.host i.hosted)

@@ -13,8 +13,8 @@ act-requires-clause-left g c = record {
   left = subst (λ (n : ℕ). HasLeft g.row.A.Denot g.A.Actor.view n c.args.self.now c.leave.new.self c.in-Some.acting) (sym c.requires.node) c.in-Some.ensures;
 }
 
-pub returns-in_ok-from_slice-in-None : goal.returns-in_ok-from_slice-in-None
-returns-in_ok-from_slice-in-None g c = λ setup run at.
+pub returns-in_ok-from_slice-in-None-clause-lines : goal.returns-in_ok-from_slice-in-None-clause-lines
+returns-in_ok-from_slice-in-None-clause-lines g c = λ setup run at.
     let view = g.A.Actor.view in
     let reads = g.A.Reader.Reading.reads in
     let e = c.args.event.now in

@@ -2,7 +2,6 @@ use Rattle.std.proofs.Common.{ℕ, ◌<◌, ◌≡◌, ◌^◌, true, Option, sy
 use Rattle.std.specs.Prelude.{IfSome}
 use Rattle.std.proofs.lemmas.Result.{on_ok_weaker}
 use Rattle.depot_base.specs.declared.update.Update.{Update}
-use Rattle.depot_graph.specs.Kept.{updates_in}
 use Rattle.depot_schedule.specs.EventWords.{is_declared}
 use Rattle.depot_simulation.specs.Doing.{with_update}
 use Rattle.depot_simulation.specs.Drafts.{IsNumbered}
@@ -25,7 +24,7 @@ sign-requires-clause-leaf g c = subst (λ (n : ℕ). n < 2 ^ c.args.scenario.now
 
 pub returns-in-Some-clause-at : goal.returns-in-Some-clause-at
 returns-in-Some-clause-at g c = on_ok_weaker c.sign.result (λ seen setup run at.
-    let us = updates_in c.args.self.now.seen.graph.items.entries in
+    let us = c.args.self.now.seen.listed.updates in
     let parents = subst (λ (o : Option Update). IfSome o (λ u. HasSeenParents us u)) c.in-Some.is c.requires.parents in
     subst (λ (o : Option Update). IsSimulationAt g.A.Actor.view g.A.Reader.Reading.reads setup (with_update run o) c.sign.new.self) (sym c.in-Some.is)
     (sees_update g.row.A.Denot g.A.Actor.view g.A.Reader.Reading.reads setup run c.in-Some.update c.args.self.now c.sign.new.self at parents c.sign.ensures.participants c.sign.ensures.labels c.sign.ensures.readers seen)) c.sign.ensures.seen

@@ -22,15 +22,15 @@ stop-requires-clause-image g c =
     let may = subst (λ (e : Event). MayHappen c.args.scenario.now.height c.args.scenario.now.members.now e) c.in-Stop.is c.requires.may in
     (stop_sizes may.before c.in-Stop.node c.in-Stop.call c.in-Stop.image may.fits).image_most
 
-pub returns-in-Judge : goal.returns-in-Judge
+pub returns-in-Judge-clause-lines : goal.returns-in-Judge-clause-lines
 unfolding done
-returns-in-Judge g c = IfOk-weaker c.judge.result _ _ (λ lines told setup run on sound at.
+returns-in-Judge-clause-lines g c = IfOk-weaker c.judge.result _ _ (λ lines told setup run on sound at.
     subst (λ (e : Event). HasDone g.row.A.Denot g.A.Actor.view g.A.Reader.Reading.reads setup (done setup run e) lines c.args.self.now) (sym c.in-Judge.is) (told setup run on at)) c.judge.ensures
 
-pub returns-in-Stop : goal.returns-in-Stop
+pub returns-in-Stop-clause-lines : goal.returns-in-Stop-clause-lines
 unfolding done
-returns-in-Stop g c = IfOk-weaker c.stop.result _ _ (λ lines told setup run on sound at.
-    subst (λ (e : Event). HasDone g.row.A.Denot g.A.Actor.view g.A.Reader.Reading.reads setup (done setup run e) lines c.stop.new.self) (sym c.in-Stop.is) (told setup run at)) c.stop.ensures
+returns-in-Stop-clause-lines g c = IfOk-weaker c.stop.result _ _ (λ lines told setup run on sound at.
+    subst (λ (e : Event). HasDone g.row.A.Denot g.A.Actor.view g.A.Reader.Reading.reads setup (done setup run e) lines c.stop.new.self) (sym c.in-Stop.is) (told setup run at)) c.stop.ensures.lines
 
 pub effect-requires-clause-changes : goal.effect-requires-clause-changes
 effect-requires-clause-changes g c = put_changes c.requires.may.before c.args.event.now c.requires.may.fits
@@ -43,32 +43,32 @@ receipt-requires-clause-few g c =
     let may = subst (λ (e : Event). MayHappen c.args.scenario.now.height c.args.scenario.now.members.now e) c.in-Receipt.is c.requires.may in
     rw c.as_slice.ensures (receipt_sizes may.before c.in-Receipt.node c.in-Receipt.refs may.fits)
 
-pub returns-in-Receipt : goal.returns-in-Receipt
+pub returns-in-Receipt-clause-lines : goal.returns-in-Receipt-clause-lines
 unfolding done
-returns-in-Receipt g c = IfOk-weaker c.receipt.result _ _ (λ lines told setup run on sound at.
-    subst (λ (e : Event). HasDone g.row.A.Denot g.A.Actor.view g.A.Reader.Reading.reads setup (done setup run e) lines c.receipt.new.self) (sym c.in-Receipt.is) (rw c.as_slice.ensures at (told setup run at))) c.receipt.ensures
+returns-in-Receipt-clause-lines g c = IfOk-weaker c.receipt.result _ _ (λ lines told setup run on sound at.
+    subst (λ (e : Event). HasDone g.row.A.Denot g.A.Actor.view g.A.Reader.Reading.reads setup (done setup run e) lines c.receipt.new.self) (sym c.in-Receipt.is) (rw c.as_slice.ensures at (told setup run at))) c.receipt.ensures.lines
 
-pub returns-in-Settled : goal.returns-in-Settled
+pub returns-in-Settled-clause-lines : goal.returns-in-Settled-clause-lines
 unfolding done
-returns-in-Settled g c = IfOk-weaker c.settled.result _ _ (λ lines told setup run on sound at.
-    subst (λ (e : Event). HasDone g.row.A.Denot g.A.Actor.view g.A.Reader.Reading.reads setup (done setup run e) lines c.settled.new.self) (sym c.in-Settled.is) (told setup run at)) c.settled.ensures
+returns-in-Settled-clause-lines g c = IfOk-weaker c.settled.result _ _ (λ lines told setup run on sound at.
+    subst (λ (e : Event). HasDone g.row.A.Denot g.A.Actor.view g.A.Reader.Reading.reads setup (done setup run e) lines c.settled.new.self) (sym c.in-Settled.is) (told setup run at)) c.settled.ensures.lines
 
-pub returns-in-Audit : goal.returns-in-Audit
+pub returns-in-Audit-clause-lines : goal.returns-in-Audit-clause-lines
 unfolding done
-returns-in-Audit g c = IfOk-weaker c.audit.result _ _ (λ lines told setup run on sound at.
+returns-in-Audit-clause-lines g c = IfOk-weaker c.audit.result _ _ (λ lines told setup run on sound at.
     subst (λ (e : Event). HasDone g.row.A.Denot g.A.Actor.view g.A.Reader.Reading.reads setup (done setup run e) lines c.args.self.now) (sym c.in-Audit.is) (told setup run on sound at)) c.audit.ensures
 
-pub returns-in-Trim : goal.returns-in-Trim
+pub returns-in-Trim-clause-lines : goal.returns-in-Trim-clause-lines
 unfolding done
-returns-in-Trim g c = IfOk-weaker c.trim.result _ _ (λ lines told setup run on sound at.
-    subst (λ (e : Event). HasDone g.row.A.Denot g.A.Actor.view g.A.Reader.Reading.reads setup (done setup run e) lines c.trim.new.self) (sym c.in-Trim.is) (told setup run at)) c.trim.ensures
+returns-in-Trim-clause-lines g c = IfOk-weaker c.trim.result _ _ (λ lines told setup run on sound at.
+    subst (λ (e : Event). HasDone g.row.A.Denot g.A.Actor.view g.A.Reader.Reading.reads setup (done setup run e) lines c.trim.new.self) (sym c.in-Trim.is) (told setup run at)) c.trim.ensures.lines
 
-pub returns-in-Tgive : goal.returns-in-Tgive
+pub returns-in-Tgive-clause-lines : goal.returns-in-Tgive-clause-lines
 unfolding done
-returns-in-Tgive g c = IfOk-weaker c.tgive.result _ _ (λ lines told setup run on sound at.
-    subst (λ (e : Event). HasDone g.row.A.Denot g.A.Actor.view g.A.Reader.Reading.reads setup (done setup run e) lines c.tgive.new.self) (sym c.in-Tgive.is) (told setup run at)) c.tgive.ensures
+returns-in-Tgive-clause-lines g c = IfOk-weaker c.tgive.result _ _ (λ lines told setup run on sound at.
+    subst (λ (e : Event). HasDone g.row.A.Denot g.A.Actor.view g.A.Reader.Reading.reads setup (done setup run e) lines c.tgive.new.self) (sym c.in-Tgive.is) (told setup run at)) c.tgive.ensures.lines
 
-pub returns-in-Tget : goal.returns-in-Tget
+pub returns-in-Tget-clause-lines : goal.returns-in-Tget-clause-lines
 unfolding done
-returns-in-Tget g c = IfOk-weaker c.tget.result _ _ (λ lines told setup run on sound at.
+returns-in-Tget-clause-lines g c = IfOk-weaker c.tget.result _ _ (λ lines told setup run on sound at.
     subst (λ (e : Event). HasDone g.row.A.Denot g.A.Actor.view g.A.Reader.Reading.reads setup (done setup run e) lines c.args.self.now) (sym c.in-Tget.is) (told setup run at)) c.tget.ensures

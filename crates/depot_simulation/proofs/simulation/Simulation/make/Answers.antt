@@ -4,8 +4,8 @@ use Rattle.depot_simulation.specs.Doing.{HasDone, text_by}
 use Rattle.depot_simulation.proofs.MadeTexts.{kept_by, made_is, no_update_seen, text_given}
 use Rattle.depot_simulation.proofs.simulation.Simulation.make.Goals as goal
 
-pub returns : goal.returns
-returns g c = λ setup run on at.
+pub returns-clause-lines : goal.returns-clause-lines
+returns-clause-lines g c = λ setup run on at.
     let view = g.A.Actor.view in
     let reads = g.A.Reader.Reading.reads in
     let e = c.args.event.now in

@@ -20,17 +20,17 @@ give_receipts-requires-clause-rising g c =
 pub give_receipts-requires-clause-left : goal.give_receipts-requires-clause-left
 give_receipts-requires-clause-left g c = (c.args.node, record { before = c.args.self.now; played = c.requires.played; left = c.in-Some-leave.ensures })
 
-pub returns-in_default : goal.returns-in_default
-returns-in_default g c = λ setup run at.
+pub returns-in_default-clause-lines : goal.returns-in_default-clause-lines
+returns-in_default-clause-lines g c = λ setup run at.
     subst (λ (lines : List ℕ). HasDone g.row.A.Denot g.A.Actor.view g.A.Reader.Reading.reads setup (receipt_for setup run c.args.node (all_referred run c.args.refs.now)) lines c.args.self.now) (sym c.in_ok-from_slice.ensures)
     (receipts_refused g.row.A.Denot g.A.Actor.view g.A.Reader.Reading.reads setup run c.args.node c.args.refs.now c.args.self.now (sym c.in_default.is ∙ c.in_ok-ids.ensures setup run at) at)
 
-pub returns-in-Some-leave : goal.returns-in-Some-leave
-returns-in-Some-leave g c = IfOk-weaker c.give_receipts.result _ _ (λ lines done setup run at.
-    receipts_done g.row.A.Denot g.A.Actor.view g.A.Reader.Reading.reads setup run c.args.node c.args.refs.now _ lines c.give_receipts.new.self (sym c.in-Some.is ∙ c.in_ok-ids.ensures setup run at) (done c.args.node c.args.self.now c.in-Some-leave.ensures setup run at)) c.give_receipts.ensures
+pub returns-in-Some-leave-clause-lines : goal.returns-in-Some-leave-clause-lines
+returns-in-Some-leave-clause-lines g c = IfOk-weaker c.give_receipts.result _ _ (λ lines done setup run at.
+    receipts_done g.row.A.Denot g.A.Actor.view g.A.Reader.Reading.reads setup run c.args.node c.args.refs.now _ lines c.give_receipts.new.self (sym c.in-Some.is ∙ c.in_ok-ids.ensures setup run at) (done c.args.node c.args.self.now c.in-Some-leave.ensures setup run at)) c.give_receipts.ensures.lines
 
-pub returns : goal.returns
-returns g c = λ setup run at.
+pub returns-clause-lines : goal.returns-clause-lines
+returns-clause-lines g c = λ setup run at.
     let view = g.A.Actor.view in
     let reads = g.A.Reader.Reading.reads in
     let done = receipt_for setup run c.args.node (all_referred run c.args.refs.now) in

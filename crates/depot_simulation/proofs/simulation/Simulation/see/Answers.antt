@@ -1,6 +1,5 @@
 use Rattle.std.proofs.Common.{◌≡◌, List, [], ◌∷◌, take, Some, refl, sym, ap, subst, ◌∙◌}
 use Rattle.depot_base.specs.declared.update.Update.{Update}
-use Rattle.depot_graph.specs.Kept.{updates_in}
 use Rattle.depot_model.specs.Journal.{accepted}
 use Rattle.depot_model.specs.Texts.{id_of_update}
 use Rattle.depot_world.specs.Run.{seen_with}
@@ -14,7 +13,8 @@ loop-item-init g c = record {
   participants = refl;
   labels = refl;
   readers = refl;
-  seen = sym (seen_add_nothing (updates_in c.args.self.now.seen.graph.items.entries) (take c.args.count (accepted (g.A.Actor.view c.args.actor.now).journal)) c.requires);
+  asked = refl;
+  seen = sym (seen_add_nothing c.args.self.now.seen.listed.updates (take c.args.count (accepted (g.A.Actor.view c.args.actor.now).journal)) c.requires);
 }
 
 pub add-requires-clause-id : goal.add-requires-clause-id
@@ -32,17 +32,18 @@ add-requires-clause-text g c =
 pub add-requires-clause-parents : goal.add-requires-clause-parents
 add-requires-clause-parents g c =
     let v = g.A.Actor.view c.args.actor.now in
-    let old = updates_in c.args.self.now.seen.graph.items.entries in
+    let old = c.args.self.now.seen.listed.updates in
     subst (λ (us : List Update). HasSeenParents us c.update.result.now) (sym c.loop-item.invariant.seen) (added_has_parents v.here v.journal c.loop-item.item c.update.result.now old (g.met.A.Actor.lawful c.args.actor.now) c.update.ensures)
 
 pub loop-item-preserved : goal.loop-item-preserved
 loop-item-preserved g c =
     let us = accepted (g.A.Actor.view c.args.actor.now).journal in
-    let old = updates_in c.args.self.now.seen.graph.items.entries in
+    let old = c.args.self.now.seen.listed.updates in
     let next = adding_goes_on us c.loop-item.item c.update.result.now old c.update.ensures in
     record {
       participants = c.loop-item.invariant.participants;
       labels = c.loop-item.invariant.labels;
       readers = c.loop-item.invariant.readers;
+      asked = c.in_ok-add.ensures.asked ∙ c.loop-item.invariant.asked;
       seen = c.in_ok-add.ensures.ok ∙ ap (λ (xs : List Update). seen_with xs (c.update.result.now ∷ [])) c.loop-item.invariant.seen ∙ next;
     }

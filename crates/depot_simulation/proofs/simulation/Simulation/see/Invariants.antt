@@ -1,5 +1,4 @@
 use Rattle.std.proofs.Common.{◌≡◌, take}
-use Rattle.depot_graph.specs.Kept.{updates_in}
 use Rattle.depot_model.specs.Journal.{accepted}
 use Rattle.depot_world.specs.Run.{seen_with}
 use Rattle.depot_simulation.proofs.simulation.Simulation.see.Given as goal
@@ -9,5 +8,6 @@ invariant-loop-item g l = record {
   participants : l.self.participants ≡ l.initial.self.participants;
   labels : l.self.labels ≡ l.initial.self.labels;
   readers : l.self.readers ≡ l.initial.self.readers;
-  seen : updates_in l.self.seen.graph.items.entries ≡ seen_with (updates_in l.initial.self.seen.graph.items.entries) (take l.item (accepted (g.A.Actor.view l.actor).journal));
+  asked : l.self.seen.asked ≡ l.initial.self.seen.asked;
+  seen : l.self.seen.listed.updates ≡ seen_with l.initial.self.seen.listed.updates (take l.item (accepted (g.A.Actor.view l.actor).journal));
 }

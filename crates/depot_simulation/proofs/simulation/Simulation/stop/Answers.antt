@@ -9,11 +9,11 @@ use Rattle.depot_simulation.proofs.simulation.Simulation.stop.Goals as goal
 pub arm-requires-clause-left : goal.arm-requires-clause-left
 arm-requires-clause-left g c = (c.args.node, record { before = c.args.self.now; played = c.requires.played; left = c.in-Some.ensures })
 
-pub returns-in-Some : goal.returns-in-Some
-returns-in-Some g c = IfOk-weaker c.arm.result _ _ (λ lines done. done c.args.node c.args.self.now c.in-Some.ensures) c.arm.ensures
+pub returns-in-Some-clause-lines : goal.returns-in-Some-clause-lines
+returns-in-Some-clause-lines g c = IfOk-weaker c.arm.result _ _ (λ lines done. done c.args.node c.args.self.now c.in-Some.ensures) c.arm.ensures.lines
 
-pub returns-in_ok-from_slice-in-None : goal.returns-in_ok-from_slice-in-None
-returns-in_ok-from_slice-in-None g c = λ setup run at.
+pub returns-in_ok-from_slice-in-None-clause-lines : goal.returns-in_ok-from_slice-in-None-clause-lines
+returns-in_ok-from_slice-in-None-clause-lines g c = λ setup run at.
     let view = g.A.Actor.view in
     let reads = g.A.Reader.Reading.reads in
     let done = pending_at run c.args.node c.args.call c.args.image in

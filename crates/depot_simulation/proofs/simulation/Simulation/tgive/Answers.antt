@@ -7,8 +7,8 @@ use Rattle.depot_simulation.proofs.simulation.Simulation.tgive.Goals as goal
 pub tgive-requires : goal.tgive-requires
 tgive-requires g c = (c.requires.run.readers, c.requires.at.readers_are)
 
-pub returns : goal.returns
-returns g c = if_and_on c.tgive.result c.tgive.ensures.lines c.tgive.ensures.readers (λ lines told goes setup run at.
+pub returns-clause-lines : goal.returns-clause-lines
+returns-clause-lines g c = if_and_on c.tgive.result c.tgive.ensures.lines c.tgive.ensures.readers (λ lines told goes setup run at.
     let view = g.A.Actor.view in
     let reads = g.A.Reader.Reading.reads in
     let old = c.args.self.now in

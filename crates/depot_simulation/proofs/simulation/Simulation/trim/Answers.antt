@@ -1,20 +1,20 @@
 use Rattle.std.proofs.Common.{ℕ, List, sym, subst}
-use Rattle.depot_world.specs.Run.{bytes_of}
+use Rattle.depot_world.specs.Run.{bytes_of_label}
 use Rattle.depot_world.specs.Transcript.{trim_at}
 use Rattle.depot_simulation.specs.Doing.{HasDone}
 use Rattle.depot_simulation.proofs.ReaderEvents.{nothing_trimmed, reader_trimmed}
 use Rattle.depot_simulation.proofs.simulation.Simulation.trim.Goals as goal
 
-pub returns-in_default : goal.returns-in_default
-returns-in_default g c = λ setup run at.
+pub returns-in_default-clause-lines : goal.returns-in_default-clause-lines
+returns-in_default-clause-lines g c = λ setup run at.
     let view = g.A.Actor.view in
     let reads = g.A.Reader.Reading.reads in
-    let text = bytes_of run c.args.label.now in
+    let text = bytes_of_label run c.args.label.now in
     subst (λ (lines : List ℕ). HasDone g.row.A.Denot view reads setup (trim_at setup run c.args.node text c.args.name.now) lines c.args.self.now) (sym c.in_ok-from_slice.ensures)
     (nothing_trimmed g.row.A.Denot view reads setup run c.args.node text c.args.name.now c.args.self.now (sym c.in_default.ensures) at)
 
-pub returns : goal.returns
-returns g c = λ setup run at.
+pub returns-clause-lines : goal.returns-clause-lines
+returns-clause-lines g c = λ setup run at.
     let view = g.A.Actor.view in
     let reads = g.A.Reader.Reading.reads in
     let old = c.args.self.now in

@@ -11,8 +11,8 @@ use Rattle.depot_simulation.proofs.MadeTexts.{kept_by, text_given}
 use Rattle.depot_simulation.proofs.SignedUpdates.{update_is}
 use Rattle.depot_simulation.proofs.simulation.Simulation.update.Goals as goal
 
-pub returns : goal.returns
-returns g c = λ setup run on at.
+pub returns-clause-lines : goal.returns-clause-lines
+returns-clause-lines g c = λ setup run on at.
     let view = g.A.Actor.view in
     let reads = g.A.Reader.Reading.reads in
     let e = c.args.event.now in

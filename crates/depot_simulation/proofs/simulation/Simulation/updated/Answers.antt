@@ -3,10 +3,9 @@ use Rattle.depot_base.specs.Zeros.{zeros}
 use Rattle.depot_base.specs.declared.write.Write.{Write}
 use Rattle.depot_model.specs.Own.{entry_of}
 use Rattle.depot_base.specs.declared.update.Update.{Update}
-use Rattle.depot_graph.specs.Kept.{updates_in}
 use Rattle.depot_world.specs.FaultySigning.{drafted, history_by, with_history}
 use Rattle.depot_scenario.specs.KnownUpdates.{HasSeenParents}
-use Rattle.depot_simulation.proofs.DraftTexts.{IsPutTogether, IsSeenUpdate, draft_is_seen, draft_is_updated, no_entries, no_prev, updated_is_seen}
+use Rattle.depot_simulation.proofs.DraftTexts.{IsPutTogether, IsSeenUpdate, draft_is_seen, draft_is_updated, may_ask, no_entries, no_prev, updated_is_seen}
 use Rattle.depot_simulation.proofs.LabelledUpdates.{named_here}
 use Rattle.depot_simulation.proofs.SignedUpdates.{is_numbered}
 use Rattle.depot_simulation.proofs.simulation.Simulation.updated.Given.{Over}
@@ -25,14 +24,22 @@ returns-in_default-2-clause-is g c = λ setup run at sign.
 made : (g : Over) (c : After-drafted-draft g) → IsPutTogether c.args.writer c.args.seq c.args.clock c.in-Some.prev c.args.changes.now c.in-Some-2.deps c.drafted-draft.result
 made g c = subst (λ (ws : List Write). (us : List Update) → c.in-Some-2.deps ≡ map entry_of us → c.drafted-draft.result ≡ with_history (drafted c.args.writer c.args.seq c.args.clock c.in-Some.prev ws us) zeros) c.in_ok-writes.ensures c.drafted-draft.ensures
 
-pub with_history-requires : goal.with_history-requires
-with_history-requires g c =
+pub with_history-requires-clause-parents : goal.with_history-requires-clause-parents
+with_history-requires-clause-parents g c =
     let setup = c.requires.played.setup in
     let run = c.requires.played.run in
     let at = c.requires.played.at in
     subst (λ (us : List Update). HasSeenParents us c.drafted-draft.result) (sym at.seen_are)
     (draft_is_seen run c.args.writer c.args.seq c.args.clock c.args.prev.now c.in-Some.prev c.args.changes.now c.args.deps.now c.args.history c.in-Some-2.deps c.drafted-draft.result
-    (named_here g.A.Actor.view g.A.Reader.Reading.reads setup run c.args.self.now g.met.A.Actor.lawful at) c.requires.fits (sym c.in-Some.is ∙ c.in_ok-prev.ensures setup run at) (sym c.in-Some-2.is ∙ c.in_ok-deps.ensures setup run at) (made g c))
+    (named_here g.A.Actor.view g.A.Reader.Reading.reads setup run c.args.self.now g.met.A.Actor.lawful at) c.requires.fits (sym c.in-Some.is ∙ c.in_ok-prev.ensures setup run at) (sym c.in-Some-2.is ∙ c.in_ok-deps.ensures setup run at) (made g (goal.at.with_history-requires-clause-parents g c).After-drafted-draft))
+
+pub with_history-requires-clause-asked : goal.with_history-requires-clause-asked
+with_history-requires-clause-asked g c =
+    let setup = c.requires.played.setup in
+    let run = c.requires.played.run in
+    let at = c.requires.played.at in
+    may_ask c.args.self.now.seen.asked run c.args.writer c.args.seq c.args.clock c.args.prev.now c.in-Some.prev c.args.changes.now c.args.deps.now c.args.history c.in-Some-2.deps c.drafted-draft.result
+    c.requires.asked (sym c.in-Some.is ∙ c.in_ok-prev.ensures setup run at) (sym c.in-Some-2.is ∙ c.in_ok-deps.ensures setup run at) (made g (goal.at.with_history-requires-clause-asked g c).After-drafted-draft)
 
 pub returns-clause-is : goal.returns-clause-is
 returns-clause-is g c = λ setup run at sign.
@@ -42,7 +49,7 @@ returns-clause-is g c = λ setup run at sign.
     (c.in_ok-with_history.ensures ∙ ap (λ (us : List Update). with_history draft (history_by us c.args.history draft)) at.seen_are)
 
 -- the update has a text, and its parents were seen
-seen : (g : Over) (c : In_ok-with_history g) → IsSeenUpdate (updates_in c.args.self.now.seen.graph.items.entries) c.in_ok-with_history.field-0
+seen : (g : Over) (c : In_ok-with_history g) → IsSeenUpdate c.args.self.now.seen.listed.updates c.in_ok-with_history.field-0
 seen g c =
     let setup = c.requires.played.setup in
     let run = c.requires.played.run in

@@ -1,7 +1,7 @@
 use Rattle.std.proofs.Common.{◌∙◌}
 use Rattle.depot_model.specs.Checks.{given_statement}
 use Rattle.depot_model.specs.Pruning.{pruned}
-use Rattle.depot_model.specs.Readers.{told_of, told_as_node}
+use Rattle.depot_model.specs.Readers.{reader_outcome, told_as_node}
 use Rattle.depot_trim.proofs.ReaderTold.{told_below, told_here}
 use Rattle.depot_trim.proofs.ReaderTakes.{becomes_as, passed_checked, statement_decided, first_below}
 use Rattle.depot_trim.proofs.trimmed.Trimmed.take_passed.Goals as goal
@@ -32,5 +32,5 @@ returns g c R is =
     let K = pruned R.trimmed R.journal in
     let above = first_below g.S.Scheme.verifies R c.args.self.now is c.args.signed c.first_named.result (c.requires.passed R is) (λ ts are. c.first_named.ensures ts are) ∙ c.in_default.is in
     let checked = passed_checked g.S.Scheme.verifies R c.args.self.now is c.args.signed c.check_after_signature-checked.result (c.requires.passed R is) (c.check_after_signature-checked.ensures K is.state) in
-    becomes_as g.S.Scheme.verifies R (told_of R (given_statement c.args.signed)) (told_as_node R (given_statement c.args.signed)) c.carry_out.result c.carry_out.new.self (told_here R c.args.signed above)
+    becomes_as g.S.Scheme.verifies R (reader_outcome R (given_statement c.args.signed)) (told_as_node R (given_statement c.args.signed)) c.carry_out.result c.carry_out.new.self (told_here R c.args.signed above)
     (c.carry_out.ensures R (given_statement c.args.signed) is (statement_decided g.S.Scheme.verifies R c.args.self.now is c.args.signed _ _ c.requires.signed above (c.in_ok-decision.ensures.decided K is.state checked)))

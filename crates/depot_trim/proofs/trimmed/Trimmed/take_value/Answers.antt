@@ -1,5 +1,5 @@
 use Rattle.depot_model.specs.Checks.{given_value}
-use Rattle.depot_model.specs.Readers.{told_of, reader_takes}
+use Rattle.depot_model.specs.Readers.{reader_outcome, reader_takes}
 use Rattle.depot_model.specs.Taking.{as_value}
 use Rattle.depot_trim.proofs.ReaderTexts.{value_read, value_too_long}
 use Rattle.depot_trim.proofs.ReaderTakes.{becomes_as}
@@ -11,4 +11,4 @@ returns-then-text-gt-MOST_VALUE g c R is = (R, (value_too_long R c.args.text.now
 pub returns : goal.returns
 returns g c R is =
     let text = c.args.text.now in
-    becomes_as g.S.Scheme.verifies R (reader_takes R as_value text) (told_of R (given_value text)) c.take_short.result c.take_short.new.self (value_read R text c.if-text-gt-MOST_VALUE.false) (c.take_short.ensures R is)
+    becomes_as g.S.Scheme.verifies R (reader_takes R as_value text) (reader_outcome R (given_value text)) c.take_short.result c.take_short.new.self (value_read R text c.if-text-gt-MOST_VALUE.false) (c.take_short.ensures R is)

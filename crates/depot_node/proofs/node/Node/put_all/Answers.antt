@@ -1,7 +1,0 @@
-use Rattle.std.proofs.Common.{refl}
-use Rattle.depot_model.proofs.JournalCallLaws.{call_within}
-use Rattle.depot_node.specs.Holdings.{journal_on}
-use Rattle.depot_node.proofs.node.Node.put_all.Goals as goal
-
-pub returns-clause-call : goal.returns-clause-call
-returns-clause-call g c = record { same = record { stands = c.put_all.ensures.stands; key = refl; signs = refl }; journal = call_within (λ n. n.store) {v = journal_on g.D.Disk} c.put_all.ensures.call }

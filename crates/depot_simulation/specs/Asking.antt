@@ -1,0 +1,24 @@
+-- Which events ask for right histories.
+use Rattle.std.specs.Prelude.{List, [], ◌∷◌, Bool, true, false, Option, Some, None}
+use Rattle.depot_schedule.specs.declared.event.Event.{Event}
+use Rattle.depot_schedule.specs.declared.event.Event.TheVariants as event
+use Rattle.depot_schedule.specs.declared.event.HistoryWord.{HistoryWord}
+use Rattle.depot_schedule.specs.declared.event.HistoryWord.TheVariants as history
+use Rattle.depot_schedule.specs.declared.event.Ref.{Ref}
+
+-- a prev and entries name parents
+abbrev pub names_parents : Option Ref → List Ref → Bool
+names_parents (Some r) rs = true
+names_parents None [] = false
+names_parents None (r ∷ rs) = true
+
+-- the right history is asked for of an update with parents
+abbrev pub asks_past : Option Ref → List Ref → HistoryWord → Bool
+asks_past prev deps history.Right = names_parents prev deps
+asks_past prev deps (history.Given h) = false
+
+-- an event asks for that of the update that it lets a faulty node sign
+abbrev pub asks : Event → Bool
+asks (event.Update label writer seq clock prev key value deps history) = asks_past prev deps history
+asks (event.Updates label writer seq clock prev changes deps history) = asks_past prev deps history
+asks e = false
