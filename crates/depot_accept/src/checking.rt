@@ -1,5 +1,5 @@
 //! The checks of a statement.
-ghost use Rattle.std.specs.Prelude.{◌≡◌, ◌<◌, ◌↔◌, List, length, IsTrue, Ok, None, Some, slice_get};
+ghost use Rattle.std.specs.Prelude.{◌≡◌, ◌<◌, List, length, Ok, None, Some, slice_get};
 ghost use Rattle.std.specs.List.{AllByRecursion, list_any};
 ghost use Rattle.depot_base.specs.declared.record.Record.{Record};
 ghost use Rattle.depot_base.specs.declared.statement.Signed.{Signed};
@@ -186,7 +186,7 @@ impl<S: Scheme> State<S> {
     {
         CheckError::Refused {
             check: Check::Forked {
-                kept: *self.seen.id_at(found.index),
+                kept: self.seen.at(found.index).id,
                 came: *id,
                 kind: found.kind,
             },

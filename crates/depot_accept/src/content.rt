@@ -2,15 +2,15 @@
 //!
 //! Each parent is looked up once, in one call of `Past::find`. The checks then go over the items that were found, the prev's
 //! before the entries'. Only the history is hashed, and that only where all checks before it hold.
-ghost use Rattle.std.specs.Prelude.{◌≡◌, ◌<◌, ◌≤◌, ◌+◌, ◌++◌, [], nat_lt, length, map, Ok, None, Some, IfOk};
-ghost use Rattle.std.specs.List.{flat_map, AllByRecursion};
+ghost use Rattle.std.specs.Prelude.{◌≡◌, ◌<◌, ◌≤◌, ◌+◌, ◌++◌, [], length, map, Ok, None, Some, IfOk};
+ghost use Rattle.std.specs.List.{AllByRecursion};
 ghost use Rattle.std.specs.Option.{option_copied, option_to_list};
 ghost use Rattle.depot_base.specs.declared.limits.TheConstants.{MOST_ENTRIES};
 ghost use Rattle.depot_model.specs.Lists.{first};
 ghost use Rattle.depot_model.specs.Order.{prevs, parents as parents_of};
 ghost use Rattle.depot_model.specs.Journal.{named, prev_of};
 ghost use Rattle.depot_model.specs.Items.{place_of_id, updates_at, places_of, AreItemsOf};
-ghost use Rattle.depot_model.specs.Checks.{sight, lost, missing, wrong_prev, wrong_entry, wrong_entries, wrong_dep, behind, backward, not_above, clock_low, greatest_of, clock_far, bad_history};
+ghost use Rattle.depot_model.specs.Checks.{sight, lost, missing, wrong_prev, wrong_entry, wrong_entries, wrong_dep, behind, clock_low, greatest_of, clock_far, bad_history};
 ghost use Rattle.depot_graph.specs.UpdateRows.{IsJoinedRow};
 ghost use Rattle.depot_accept.specs.Content.{checks_of_parents, IsContentOf};
 

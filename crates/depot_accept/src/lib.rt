@@ -17,7 +17,8 @@
 //! statement that it was due before (`convictions_may_come_late`).
 //!
 //! What always holds: convicted nodes are nodes of the roster, and there is room for the convictions of all; the own vouchers
-//! name this node. No text is read here, nothing is signed, and room for records is not asked.
+//! name this node. No text is read here, and none made but the body of a kept statement (`kept`); nothing is
+//! signed, and room for records is not asked.
 #![tactic(auto)]
 
 mod accept_laws;

@@ -13,6 +13,7 @@ use Rattle.depot_model.specs.Journal.{proof_by, accused}
 use Rattle.depot_model.specs.Lists.{first}
 use Rattle.depot_model.specs.Records.{tagged, record_text, tag_of, text_of_record}
 use Rattle.depot_model.specs.World.{Correct, World}
+use Rattle.depot_model.proofs.Members.{map_same}
 use Rattle.depot_traces.specs.declared.trace.Trace.{Trace}
 use Rattle.depot_apart.specs.Lookups.{nodes_in, accuses_one, first_accusing}
 use Rattle.depot_apart.specs.MetTexts.{AreToldBy}
@@ -30,10 +31,6 @@ places_same f g same n (x ∷ xs) = ap (λ (b : Bool). cond b (Some n) (position
 place_same : {X : Type 0} (f g : X → Bool) → ((x : X) → f x ≡ g x) → (xs : List X) → position f xs ≡ position g xs
 place_same f g same xs = position_from-zero f xs ∙ places_same f g same 0 xs ∙ sym (position_from-zero g xs)
 
-map_same : {X Y : Type 0} (f g : X → Y) → ((x : X) → f x ≡ g x) → (xs : List X) → map f xs ≡ map g xs
-map_same f g same [] = refl
-map_same f g same (x ∷ xs) = ap (λ (y : _). y ∷ map f xs) (same x) ∙ ap (λ (ys : List _). g x ∷ ys) (map_same f g same xs)
-
 -- a record names a node of a world where it accuses one by its number
 names_is : (W : World) (r : Record) → accuses_one (map (λ c. c.node) W.nodes) r ≡ names_one_of W r
 names_is W r = any_same _ _ (λ (p : Proof). any_map (λ (m : ℕ). m == accused p) (λ (c : Correct). c.node) W.nodes) (proof_by r)
@@ -42,7 +39,7 @@ pub named_is : (W : World) (ts : List Trace) → AreToldBy W.nodes ts → first_
 unfolding named_node
 named_is W ts told =
     ap (λ (ns : List ℕ). first_accusing ns W.nodes) (sym (nodes_told W.nodes ts told))
-    ∙ ap first (map_same _ _ (λ (c : Correct). ap (option_map (λ place. named_found c.node place)) (place_same _ _ (names_is W) c.journal)) W.nodes)
+    ∙ ap first (map_same _ _ W.nodes (λ c on. ap (option_map (λ place. named_found c.node place)) (place_same _ _ (names_is W) c.journal)))
 
 -- ---- the tag of a conviction's text
 

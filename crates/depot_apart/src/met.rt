@@ -6,9 +6,9 @@ ghost use Rattle.depot_base.specs.declared.record.Record.TheVariants.{OwnPut, Fo
 ghost use Rattle.depot_laws.specs.OneText.{HaveOneText};
 ghost use Rattle.depot_model.specs.Records.{IsRecord, IsTextOf};
 ghost use Rattle.depot_model.specs.World.{Correct, World, IsWorld};
+ghost use Rattle.depot_model.specs.Traces.{IsWorldOf};
 ghost use Rattle.depot_traces.specs.SeenTraces.{trace_of};
 ghost use Rattle.depot_apart.specs.MetTexts.{AreTexts, AreToldBy, IsMetOf};
-ghost use Rattle.depot_model.specs.Traces.{IsWorldOf};
 ghost use Rattle.depot_apart.specs.TracedWorlds.{IsMetIn};
 
 use crate::met_updates::MetUpdates;

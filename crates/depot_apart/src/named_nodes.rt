@@ -4,11 +4,11 @@ ghost use Rattle.depot_base.specs.declared.limits.TheConstants.{MOST_RECORDS};
 ghost use Rattle.depot_base.specs.declared.record.Record.{Record};
 ghost use Rattle.depot_model.specs.Audit.{named_node};
 ghost use Rattle.depot_model.specs.World.{Correct, World};
+ghost use Rattle.depot_model.specs.Records.{IsTextOf};
+ghost use Rattle.depot_model.specs.Traces.{IsWorldOf};
 ghost use Rattle.depot_traces.specs.SeenTraces.{finding_of, trace_of};
 ghost use Rattle.depot_apart.specs.Lookups.{nodes_in, accuses_one, first_accusing};
-ghost use Rattle.depot_model.specs.Records.{IsTextOf};
 ghost use Rattle.depot_apart.specs.MetTexts.{AreTexts, AreToldBy};
-ghost use Rattle.depot_model.specs.Traces.{IsWorldOf};
 
 use crate::record_text::record_of;
 use crate::traced_nodes::has_node;

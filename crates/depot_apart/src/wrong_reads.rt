@@ -4,10 +4,10 @@ ghost use Rattle.std.specs.List.{AllByRecursion};
 ghost use Rattle.depot_laws.specs.OneText.{HaveOneText};
 ghost use Rattle.depot_model.specs.Audit.{circle, wrong};
 ghost use Rattle.depot_model.specs.World.{World, IsWorld};
+ghost use Rattle.depot_model.specs.Traces.{IsWorldOf};
 ghost use Rattle.depot_traces.specs.SeenTraces.{finding_of, trace_of};
 ghost use Rattle.depot_traces.specs.declared.trace.TheConstants.{MOST_READS};
 ghost use Rattle.depot_apart.specs.Lookups.{nodes_in, is_unput_in, lists_unput, first_unput};
-ghost use Rattle.depot_model.specs.Traces.{IsWorldOf};
 ghost use Rattle.depot_apart.specs.TracedWorlds.{IsMetIn};
 
 use crate::met::Met;

@@ -19,7 +19,7 @@ use Rattle.depot_session.specs.ScriptTelling.{Asked, asked as calls_on}
 use Rattle.depot_session.specs.SessionRuns as runs
 use Rattle.depot_session.specs.Sessions.{answers_of, loads_given, session_from, shelf_line}
 use Rattle.depot_winter.specs.TreeSigning.{key_of_seed}
-use Rattle.depot_cli.specs.Runs.{Begins, CommandEnds, Ends, IsNoScript, IsRosterText, IsWell}
+use Rattle.depot_cli.specs.Runs.{CommandEnds, Ends, IsNoScript, IsRosterText, IsWell}
 use Rattle.depot_cli.specs.Statuses.{status_of}
 use Rattle.depot_cli.specs.declared.invocation.Invocation.{Invocation}
 use Rattle.depot_cli.specs.declared.invocation.Invocation.TheVariants as asked

@@ -1,5 +1,5 @@
 //! The commands, and which words ask for them.
-ghost use Rattle.std.specs.Prelude.{◌≡◌, ◌≤◌, IfOk, None, Some, option_map};
+ghost use Rattle.std.specs.Prelude.{◌≡◌, IfOk, None, Some};
 ghost use Rattle.std.specs.List.{list_all};
 ghost use Rattle.depot_model.specs.Lists.{when};
 ghost use Rattle.depot_lines.specs.FileNames.{is_file_name};

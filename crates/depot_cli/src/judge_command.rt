@@ -1,10 +1,8 @@
 //! `judge ROSTER PROOF`: whether a text proves a contradiction.
 ghost use Rattle.std.specs.Prelude.{◌≡◌, ◌≢◌, ◌++◌, ◌∷◌, [], IfOk, codes, Ok, Err};
 ghost use Rattle.depot_model.specs.Lines.{text_of_verdict, text_of_point, text_of_roster_error};
-ghost use Rattle.depot_model.specs.Judgement.{IsJudgementOf};
-ghost use Rattle.depot_model.specs.Winternitz.{winternitz_verifies};
 ghost use Rattle.depot_outside.specs.Told.{shelves, loads, HasLoaded};
-ghost use Rattle.depot_cli.specs.Runs.{EndsAtFault, Judges, JudgesProof, IsPoint, JudgementOf, LoadsBehindRoster};
+ghost use Rattle.depot_cli.specs.Runs.{EndsAtFault, Judges, JudgesProof, JudgementOf, LoadsBehindRoster};
 
 use crate::files::load;
 use crate::outcome::CommandOutcome;

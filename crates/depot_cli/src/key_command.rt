@@ -1,5 +1,5 @@
 //! `key SEED HEIGHT`: the root of a Winternitz key.
-ghost use Rattle.std.specs.Prelude.{◌≡◌, IfOk};
+ghost use Rattle.std.specs.Prelude.{IfOk};
 ghost use Rattle.depot_cli.specs.Runs.{PrintsKey};
 
 use crate::height::Height;

@@ -1,5 +1,5 @@
 //! What a command came to, and how it is written.
-ghost use Rattle.std.specs.Prelude.{◌≡◌, ◌<◌, ◌++◌, IfOk, codes, string_bytes};
+ghost use Rattle.std.specs.Prelude.{◌≡◌, ◌<◌, ◌++◌, IfOk, codes};
 ghost use Rattle.depot_outside.specs.Told.{sinks};
 ghost use Rattle.depot_answers.specs.AnswerTexts.{text_of_faulty_line};
 ghost use Rattle.depot_cli.specs.Runs.{Finishes};

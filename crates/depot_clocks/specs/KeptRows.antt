@@ -51,8 +51,8 @@ pub record HasCount (entries : List RowEntry) (chain n : ℕ) : Type 0 where
   pub counts : entry.count ≡ n
 
 -- each of the entries is of a chain below this number
-abbrev pub AreOfChains : List RowEntry → ℕ → Type 0
-AreOfChains entries chains = (k : ℕ) (e : RowEntry) → slice_get entries k ≡ Some e → e.chain < chains
+abbrev pub AreOfChainsBelow : List RowEntry → ℕ → Type 0
+AreOfChainsBelow entries chains = (k : ℕ) (e : RowEntry) → slice_get entries k ≡ Some e → e.chain < chains
 
 -- a row with these entries put into it
 abbrev pub ArePut : List RowEntry → List ℕ → List ℕ → Type 0

@@ -1,5 +1,5 @@
 //! The clocks, and what they keep of each item.
-ghost use Rattle.std.specs.Prelude.{◌≡◌, ◌<◌, ◌≤◌, ◌+◌, ◌↔◌, ℕ, [], ◌∷◌, ◌++◌, length, IsTrue, IfOk, OnOk, OnErr, All, EachIndex, Contains, IfSome, ◌-◌, slice_index};
+ghost use Rattle.std.specs.Prelude.{◌≡◌, ◌<◌, ◌≤◌, ◌+◌, ◌↔◌, [], ◌∷◌, ◌++◌, length, IsTrue, IfOk, OnOk, OnErr, All, EachIndex, Contains, IfSome, ◌-◌, slice_index};
 ghost use Rattle.depot_clocks.specs.KeptRows.{AreChained, IsNext, IsNextRow, IsChangedFrom, IsJoinedCount, KeepsRow};
 ghost use Rattle.depot_clocks.specs.ChainItems.{ItemPrecedes, IsChainItemAt, chain_length, number_of_chains, IsLinked, IsOfPast, IsTrueOf, IsCount, CountsAll, IsWithin, IsRowJoined};
 

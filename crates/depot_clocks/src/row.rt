@@ -1,6 +1,6 @@
 //! What is kept of an item, and what is done with its row.
 ghost use Rattle.std.specs.Prelude.{◌≡◌, ◌≤◌, ◌<◌, ◌↔◌, ℕ, length, max, slice_index, IsTrue, IfOk, IfSome, IfNone, OnOk, vec_len};
-ghost use Rattle.depot_clocks.specs.KeptRows.{HasEntry, HasCount, AreOfChains, ArePut, AreRaised, AreEntriesWithin, AreAbove, own_entry, NoneAbove, IsFirstFrom};
+ghost use Rattle.depot_clocks.specs.KeptRows.{HasEntry, HasCount, AreOfChainsBelow, ArePut, AreRaised, AreEntriesWithin, AreAbove, own_entry, NoneAbove, IsFirstFrom};
 
 use depot_base::Memory;
 use depot_lanes::{first_above, max_into};
@@ -55,7 +55,7 @@ pub fn count_among(entries: &[RowEntry], chain: u32) -> Option<u32>
 
 /// Whether no entry is above that of a row that has their chains.
 pub fn are_within(entries: &[RowEntry], row: &[u32]) -> bool
-    requires { AreOfChains entries.now (length row.now) }
+    requires { AreOfChainsBelow entries.now (length row.now) }
     ensures { IsTrue result ↔ AreEntriesWithin entries.now row.now }
 {
     for entry in entries {
@@ -68,7 +68,7 @@ pub fn are_within(entries: &[RowEntry], row: &[u32]) -> bool
 
 /// Puts the entries into a row that has their chains.
 pub fn put_entries(row: &mut [u32], entries: &[RowEntry])
-    requires { AreOfChains entries.now (length row.old) }
+    requires { AreOfChainsBelow entries.now (length row.old) }
     ensures { ArePut entries.now row.old row.new }
 {
     for entry in entries {
@@ -95,7 +95,7 @@ pub fn join_row(row: &mut [u32], with: &[u32])
 
 /// Makes each entry of a row that one of these is above that one.
 pub fn raise_entries(row: &mut [u32], entries: &[RowEntry])
-    requires { AreOfChains entries.now (length row.old) }
+    requires { AreOfChainsBelow entries.now (length row.old) }
     ensures { AreRaised entries.now row.old row.new }
 {
     for entry in entries {

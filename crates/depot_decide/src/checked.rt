@@ -151,5 +151,6 @@ fn proof_by<S: Scheme>(state: &State<S>, found: Found, signed: &Signed) -> Resul
     ensures made { IfOk result (λ p. (J : List Record) → IsStateOf J state.now → AreDue J signed.now (Some found) (Conviction p ∷ [])) }
     ensures proof { IfOk result IsProof }
 {
-    make_proof(found.kind, state.kept(found.index), signed)
+    let kept = state.kept(found.index)?;
+    make_proof(found.kind, &kept, signed)
 }

@@ -1,6 +1,7 @@
 -- What is kept, and what is listed of it.
-use Rattle.std.proofs.Common.{◌≡◌, ℕ, ◌+◌, ◌<◌, ◌≤◌, List, [], ◌∷◌, ◌++◌, length, length-append, Bool, true, false, ◌||◌, sym, ap, subst, ◌∙◌, arith, inl, inr, Some, if◌then◌else◌}
+use Rattle.std.proofs.Common.{◌≡◌, ℕ, ◌+◌, ◌<◌, ◌≤◌, List, [], ◌∷◌, ◌++◌, length, length-append, map, Bool, true, false, ◌||◌, sym, ap, subst, ◌∙◌, arith, inl, inr, Some, if◌then◌else◌}
 use Rattle.std.specs.List.{slice_get}
+use Rattle.std.proofs.lemmas.List.{map-append}
 use Rattle.depot_base.specs.Statement.{writer_of, seq_of}
 use Rattle.depot_base.specs.declared.statement.Statement.{Statement}
 use Rattle.depot_base.specs.declared.statement.Statement.TheVariants as statements
@@ -9,61 +10,76 @@ use Rattle.depot_base.specs.declared.update.Update.{Update}
 use Rattle.depot_base.specs.declared.voucher.Voucher.{Voucher}
 use Rattle.depot_model.specs.Lists.{IsIn}
 use Rattle.depot_model.specs.Texts.{IsSigned, id_of_statement}
+use Rattle.depot_model.proofs.BodyLaws.{body_is_text}
 use Rattle.depot_model.proofs.Elements.{each_at}
 use Rattle.depot_model.proofs.Members.{all_push}
 use Rattle.depot_base.proofs.GeneralLaws.{or_none}
-use Rattle.depot_fork.specs.declared.kept_entry.KeptEntry.{KeptEntry}
+use Rattle.depot_fork.specs.declared.kept_statement.KeptStatement.{KeptStatement}
 use Rattle.depot_fork.specs.declared.marks.StatementMark.{StatementMark}
 use Rattle.depot_fork.specs.declared.marks.StatementMark.TheVariants as marks
 use Rattle.depot_fork.specs.declared.table.PlaceTable.{PlaceTable}
 use Rattle.depot_fork.specs.Links.{same_mark}
 use Rattle.depot_fork.specs.Table.{link_count, places_with_mark}
 use Rattle.depot_fork.specs.StatementMarks.{has_mark}
-use Rattle.depot_fork.specs.Keeping.{IsEntry, AreEntries, IsKeeping, places_before, places_under, is_under}
+use Rattle.depot_fork.specs.Entries.{kept_signed, IsEntry, AreEntries}
+use Rattle.depot_fork.specs.Keeping.{IsKeeping, places_before, places_under, is_under}
 use Rattle.depot_fork.proofs.ListedPlaces.{one_more_place, is_listed, is_within}
-
--- ---- signed statements
 
 -- ---- entries
 
+-- what is kept of a signed statement
+abbrev pub entry_for : Signed → List ℕ → KeptStatement
+entry_for s id = record { statement = s.statement; signature = s.signature; id = id }
+
+-- it is that signed statement again, since the body is the text of the statement
+pub as_it_was : (s : Signed) (id : List ℕ) → IsSigned s → kept_signed (entry_for s id) ≡ s
+as_it_was s id text = ap (λ (body : List ℕ). record { statement = s.statement; body = body; signature = s.signature }) (sym (body_is_text s text))
+
 -- an entry at a place
-pub entry_of : (es : List KeptEntry) (i : ℕ) (e : KeptEntry) → AreEntries es → slice_get es i ≡ Some e → IsEntry e
+pub entry_of : (es : List KeptStatement) (i : ℕ) (e : KeptStatement) → AreEntries es → slice_get es i ≡ Some e → IsEntry e
 entry_of es i e all at = each_at IsEntry es i e all at
 
 -- ---- nothing, and one more
 
 -- nothing is listed where nothing is kept
-pub nothing_kept : (es : List KeptEntry) (table : PlaceTable) → es ≡ [] → ((mark : StatementMark) → places_with_mark table mark ≡ []) → link_count table ≡ 0 → IsKeeping es table
+pub nothing_kept : (es : List KeptStatement) (table : PlaceTable) → es ≡ [] → ((mark : StatementMark) → places_with_mark table mark ≡ []) → link_count table ≡ 0 → IsKeeping es table
 unfolding places_under
 nothing_kept es table none empty count = rw none (record { entries = tt; listed = empty; few = omega (arith, count) })
 
 -- what is kept with one statement more, listed under its marks
-pub kept_more : (es : List KeptEntry) (old between new : PlaceTable) (s : Signed) (id : List ℕ) (place : ℕ) → IsKeeping es old → IsSigned s → id ≡ id_of_statement s.statement → place ≡ length es → ((mark : StatementMark) → places_with_mark between mark ≡ places_with_mark old mark) → link_count new ≤ link_count old + 3 →
-    ((mark : StatementMark) → places_with_mark new mark ≡ (if has_mark s.statement id mark then place ∷ places_with_mark between mark else places_with_mark between mark)) → IsKeeping (es ++ record { signed = s; id = id } ∷ []) new
+pub kept_more : (es : List KeptStatement) (old between new : PlaceTable) (s : Signed) (id : List ℕ) (place : ℕ) → IsKeeping es old → IsSigned s → id ≡ id_of_statement s.statement → place ≡ length es → ((mark : StatementMark) → places_with_mark between mark ≡ places_with_mark old mark) → link_count new ≤ link_count old + 3 →
+    ((mark : StatementMark) → places_with_mark new mark ≡ (if has_mark s.statement id mark then place ∷ places_with_mark between mark else places_with_mark between mark)) → IsKeeping (es ++ entry_for s id ∷ []) new
 unfolding places_under
 kept_more es old between new s id place keeping text is last same count more =
     let last_place : place ≡ 0 + length es = omega arith in
     record {
-      entries = all_push IsEntry es (record { signed = s; id = id }) keeping.entries (record { signed = text; id = is });
+      entries = all_push IsEntry es (entry_for s id) keeping.entries (record { signed = subst IsSigned (sym (as_it_was s id text)) text; id = is });
       listed = λ mark.
           more mark
           ∙ ap (λ (k : ℕ). if has_mark s.statement id mark then k ∷ places_with_mark between mark else places_with_mark between mark) last_place
           ∙ ap (λ (ps : List ℕ). if has_mark s.statement id mark then (0 + length es) ∷ ps else ps) (same mark ∙ keeping.listed mark)
-          ∙ sym (one_more_place (is_under mark) 0 es (record { signed = s; id = id }) []);
-      few = let before = keeping.few in omega (arith, before, count, length-append es (record { signed = s; id = id } ∷ []));
+          ∙ sym (one_more_place (is_under mark) 0 es (entry_for s id) []);
+      few = let before = keeping.few in omega (arith, before, count, length-append es (entry_for s id ∷ []));
     }
+
+-- and so one signed statement more is seen
+pub seen_more : (es : List KeptStatement) (kept : List Signed) (s : Signed) (id : List ℕ) → IsSigned s → map kept_signed es ≡ kept → map kept_signed (es ++ entry_for s id ∷ []) ≡ kept ++ s ∷ []
+seen_more es kept s id text seen =
+    map-append kept_signed es (entry_for s id ∷ [])
+    ∙ ap (λ (l : List Signed). l ++ kept_signed (entry_for s id) ∷ []) seen
+    ∙ ap (λ (one : Signed). kept ++ one ∷ []) (as_it_was s id text)
 
 -- ---- places
 
 -- an entry with a mark is listed under it
-pub met : (es : List KeptEntry) (table : PlaceTable) (mark : StatementMark) (place : ℕ) (e : KeptEntry) → IsKeeping es table → slice_get es place ≡ Some e → is_under mark e ≡ true → IsIn place (places_with_mark table mark)
+pub met : (es : List KeptStatement) (table : PlaceTable) (mark : StatementMark) (place : ℕ) (e : KeptStatement) → IsKeeping es table → slice_get es place ≡ Some e → is_under mark e ≡ true → IsIn place (places_with_mark table mark)
 unfolding places_under
 met es table mark place e keeping at has =
     let here : 0 + place ≡ place = omega arith in
     rw (keeping.listed mark) (subst (λ (j : ℕ). IsIn j (places_before (is_under mark) 0 es [])) here (is_listed (is_under mark) 0 es [] place e at has))
 
 -- what is listed is the place of an entry
-pub place_low : (es : List KeptEntry) (table : PlaceTable) (mark : StatementMark) (place : ℕ) → IsKeeping es table → IsIn place (places_with_mark table mark) → place < length es
+pub place_low : (es : List KeptStatement) (table : PlaceTable) (mark : StatementMark) (place : ℕ) → IsKeeping es table → IsIn place (places_with_mark table mark) → place < length es
 unfolding places_under
 place_low es table mark place keeping known =
     let P : List ℕ → Type 0 = λ (l : List ℕ). IsIn place l in

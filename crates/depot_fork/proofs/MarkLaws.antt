@@ -14,10 +14,11 @@ use Rattle.depot_model.specs.Contradictions.{goes_back, is_of_kind, contradicts,
 use Rattle.depot_model.specs.Checks.{is_update_with}
 use Rattle.std.proofs.Math.Bool.{and-false}
 use Rattle.std.proofs.lemmas.Bool.{or_from}
-use Rattle.depot_fork.specs.declared.kept_entry.KeptEntry.{KeptEntry}
+use Rattle.depot_fork.specs.declared.kept_statement.KeptStatement.{KeptStatement}
 use Rattle.depot_fork.specs.declared.marks.StatementMark.TheVariants as marks
 use Rattle.depot_fork.specs.StatementMarks.{has_mark, asked_of}
-use Rattle.depot_fork.specs.Keeping.{IsEntry, is_under}
+use Rattle.depot_fork.specs.Entries.{IsEntry}
+use Rattle.depot_fork.specs.Keeping.{is_under}
 use Rattle.depot_model.proofs.BodyLaws.{update_id}
 
 -- ---- tests
@@ -78,5 +79,5 @@ by_id (statements.Update u) id h is = ap (λ (i : List ℕ). bytes_eq i h || fal
 by_id (statements.Voucher v) id h is = refl
 
 -- an entry is under an id where it is an update with it
-pub under_id : (e : KeptEntry) (h : List ℕ) → IsEntry e → is_under (marks.Id h) e ≡ is_update_with h e.signed.statement
-under_id e h entry = by_id e.signed.statement e.id h entry.id
+pub under_id : (e : KeptStatement) (h : List ℕ) → IsEntry e → is_under (marks.Id h) e ≡ is_update_with h e.statement
+under_id e h entry = by_id e.statement e.id h entry.id

@@ -18,15 +18,16 @@ use Rattle.depot_model.specs.Contradictions.{kind_of}
 use Rattle.depot_model.specs.Checks.{opponent, is_update_with}
 use Rattle.depot_model.proofs.Members.{in_left, in_right}
 use Rattle.depot_fork.specs.declared.Found.{Found}
-use Rattle.depot_fork.specs.declared.kept_entry.KeptEntry.{KeptEntry}
+use Rattle.depot_fork.specs.declared.kept_statement.KeptStatement.{KeptStatement}
 use Rattle.depot_fork.specs.declared.marks.StatementMark.{StatementMark}
 use Rattle.depot_fork.specs.declared.marks.StatementMark.TheVariants as marks
 use Rattle.depot_fork.specs.declared.table.PlaceTable.{PlaceTable}
 use Rattle.depot_fork.specs.declared.table.Places.{Places}
 use Rattle.depot_fork.specs.Table.{places_with_mark}
 use Rattle.depot_fork.specs.PlacesLeft.{left}
-use Rattle.depot_fork.specs.Keeping.{IsEntry, IsKeeping, is_under, places_under}
-use Rattle.depot_fork.specs.Firsts.{IsContradictedAt, IsBefore, IsFirstOf, kept_first}
+use Rattle.depot_fork.specs.Entries.{kept_signed, IsEntry}
+use Rattle.depot_fork.specs.Keeping.{IsKeeping, is_under, places_under}
+use Rattle.depot_fork.specs.Firsts.{IsContradictedAt, IsBefore, IsFirstOf, earlier_kept}
 use Rattle.depot_fork.specs.Opponents.{IsContradiction}
 use Rattle.depot_fork.proofs.MarkLaws.{asked_alone, under_id}
 use Rattle.depot_fork.proofs.ListedPlaces.{last_place, drained}
@@ -62,27 +63,27 @@ opponent_none (g ∷ gs) s all = opponent_step g gs s None (all 0 g refl) ∙ op
 -- ---- entries and their signed statements
 
 -- what holds of the entry at a place holds of the signed statement there
-by_entry : (es : List KeptEntry) (s : Statement) (j : ℕ) (g : Signed) → ((e : KeptEntry) → slice_get es j ≡ Some e → kind_of e.signed.statement s ≡ None) → slice_get (map (λ e. e.signed) es) j ≡ Some g → kind_of g.statement s ≡ None
-by_entry es s j g at e = by_read (slice_get es j) refl (sym (slice_get-map (λ (x : KeptEntry). x.signed) es j) ∙ e)
+by_entry : (es : List KeptStatement) (s : Statement) (j : ℕ) (g : Signed) → ((e : KeptStatement) → slice_get es j ≡ Some e → kind_of e.statement s ≡ None) → slice_get (map kept_signed es) j ≡ Some g → kind_of g.statement s ≡ None
+by_entry es s j g at e = by_read (slice_get es j) refl (sym (slice_get-map kept_signed es j) ∙ e)
   where
-    by_read : (o : Option KeptEntry) → slice_get es j ≡ o → option_map (λ (x : KeptEntry). x.signed) o ≡ Some g → kind_of g.statement s ≡ None
+    by_read : (o : Option KeptStatement) → slice_get es j ≡ o → option_map kept_signed o ≡ Some g → kind_of g.statement s ≡ None
     by_read None read is = absurd cc
-    by_read (Some x) read is = let same : x.signed ≡ g = cc in subst (λ (f : Signed). kind_of f.statement s ≡ None) same (at x read)
+    by_read (Some x) read is = let same : kept_signed x ≡ g = cc in subst (λ (f : Signed). kind_of f.statement s ≡ None) same (at x read)
 
 -- what was found, before which no entry contradicts the statement
-answered : (es : List KeptEntry) (s : Statement) (found : Option Found) → ((f : Found) → found ≡ Some f → IsContradictedAt es s f) → ((place : ℕ) (e : KeptEntry) → IsBefore place found → slice_get es place ≡ Some e → kind_of e.signed.statement s ≡ None) → IsContradiction (map (λ e. e.signed) es) s found
+answered : (es : List KeptStatement) (s : Statement) (found : Option Found) → ((f : Found) → found ≡ Some f → IsContradictedAt es s f) → ((place : ℕ) (e : KeptStatement) → IsBefore place found → slice_get es place ≡ Some e → kind_of e.statement s ≡ None) → IsContradiction (map kept_signed es) s found
 answered es s None here before = opponent_none _ s (λ j g at. by_entry es s j g (λ e read. before j e tt read) at)
 answered es s (Some f) here before =
     let mine : IsContradictedAt es s f = here f refl in
-    let at : slice_get (map (λ (x : KeptEntry). x.signed) es) f.index ≡ Some mine.entry.signed = slice_get-map (λ (x : KeptEntry). x.signed) es f.index ∙ ap (option_map (λ (x : KeptEntry). x.signed)) mine.at in
-    let none : (j : ℕ) (g : Signed) → j < f.index → slice_get (map (λ (x : KeptEntry). x.signed) es) j ≡ Some g → kind_of g.statement s ≡ None = λ j g low is. by_entry es s j g (λ e read. before j e low read) is in
-    record { signed = mine.entry.signed; at = at; kind = mine.kind; before = none; opponent = opponent_first _ s f.index mine.entry.signed f.kind at mine.kind none }
+    let at : slice_get (map kept_signed es) f.index ≡ Some (kept_signed mine.entry) = slice_get-map kept_signed es f.index ∙ ap (option_map kept_signed) mine.at in
+    let none : (j : ℕ) (g : Signed) → j < f.index → slice_get (map kept_signed es) j ≡ Some g → kind_of g.statement s ≡ None = λ j g low is. by_entry es s j g (λ e read. before j e low read) is in
+    record { signed = kept_signed mine.entry; at = at; kind = mine.kind; before = none; opponent = opponent_first _ s f.index (kept_signed mine.entry) f.kind at mine.kind none }
 
 -- the same of the first at places where each that contradicts the statement is listed
-first_answered : (es : List KeptEntry) (s : Statement) (places : List ℕ) (found : Option Found) → IsFirstOf es places s found → ((place : ℕ) (e : KeptEntry) → slice_get es place ≡ Some e → IsIn place places ⊎ (kind_of e.signed.statement s ≡ None)) → IsContradiction (map (λ e. e.signed) es) s found
+first_answered : (es : List KeptStatement) (s : Statement) (places : List ℕ) (found : Option Found) → IsFirstOf es places s found → ((place : ℕ) (e : KeptStatement) → slice_get es place ≡ Some e → IsIn place places ⊎ (kind_of e.statement s ≡ None)) → IsContradiction (map kept_signed es) s found
 first_answered es s places found first all = answered es s found first.here before
   where
-    before : (place : ℕ) (e : KeptEntry) → IsBefore place found → slice_get es place ≡ Some e → kind_of e.signed.statement s ≡ None
+    before : (place : ℕ) (e : KeptStatement) → IsBefore place found → slice_get es place ≡ Some e → kind_of e.statement s ≡ None
     before place e low at = elim (all place e at) [
       | inl known ↦ first.before place e known low at
       | inr none ↦ none
@@ -91,7 +92,7 @@ first_answered es s places found first all = answered es s found first.here befo
 -- ---- by the marks that are asked for
 
 -- an entry is listed under a mark, or hasn't got it
-listed_or : (es : List KeptEntry) (table : PlaceTable) (mark : StatementMark) (place : ℕ) (e : KeptEntry) → IsKeeping es table → slice_get es place ≡ Some e → IsIn place (places_with_mark table mark) ⊎ (is_under mark e ≡ false)
+listed_or : (es : List KeptStatement) (table : PlaceTable) (mark : StatementMark) (place : ℕ) (e : KeptStatement) → IsKeeping es table → slice_get es place ≡ Some e → IsIn place (places_with_mark table mark) ⊎ (is_under mark e ≡ false)
 listed_or es table mark place e keeping at = by_test (is_under mark e) refl
   where
     by_test : (b : Bool) → is_under mark e ≡ b → IsIn place (places_with_mark table mark) ⊎ (is_under mark e ≡ false)
@@ -99,13 +100,13 @@ listed_or es table mark place e keeping at = by_test (is_under mark e) refl
     by_test false absent = inr absent
 
 -- the first under the mark that a voucher asks for is the first of all
-voucher_answered : (es : List KeptEntry) (table : PlaceTable) (v : Voucher) (id : List ℕ) (found : Option Found) → IsKeeping es table → id ≡ id_of_statement (statements.Voucher v) → IsFirstOf es (places_with_mark table (marks.Number v.node v.seq)) (statements.Voucher v) found → IsContradiction (map (λ e. e.signed) es) (statements.Voucher v) found
+voucher_answered : (es : List KeptStatement) (table : PlaceTable) (v : Voucher) (id : List ℕ) (found : Option Found) → IsKeeping es table → id ≡ id_of_statement (statements.Voucher v) → IsFirstOf es (places_with_mark table (marks.Number v.node v.seq)) (statements.Voucher v) found → IsContradiction (map kept_signed es) (statements.Voucher v) found
 voucher_answered es table v id found keeping is first = first_answered es (statements.Voucher v) _ found first all
   where
-    all : (place : ℕ) (e : KeptEntry) → slice_get es place ≡ Some e → IsIn place (places_with_mark table (marks.Number v.node v.seq)) ⊎ (kind_of e.signed.statement (statements.Voucher v) ≡ None)
+    all : (place : ℕ) (e : KeptStatement) → slice_get es place ≡ Some e → IsIn place (places_with_mark table (marks.Number v.node v.seq)) ⊎ (kind_of e.statement (statements.Voucher v) ≡ None)
     all place e at = elim (listed_or es table (marks.Number v.node v.seq) place e keeping at) [
       | inl known ↦ inl known
-      | inr absent ↦ inr (asked_alone e.signed.statement e.id (statements.Voucher v) id (entry_of es place e keeping.entries at).id is (absent, tt))
+      | inr absent ↦ inr (asked_alone e.statement e.id (statements.Voucher v) id (entry_of es place e keeping.entries at).id is (absent, tt))
     ]
 
 -- the places under each mark that an update asks for
@@ -113,10 +114,10 @@ abbrev asked_places : PlaceTable → Update → List ℕ → List ℕ
 asked_places table u id = (places_with_mark table (marks.Number u.writer u.seq) ++ places_with_mark table (marks.Prev u.writer u.prev)) ++ (places_with_mark table (marks.Id u.prev) ++ places_with_mark table (marks.Prev u.writer id))
 
 -- the first under the marks that an update asks for is the first of all
-update_answered : (es : List KeptEntry) (table : PlaceTable) (u : Update) (id : List ℕ) (found : Option Found) → IsKeeping es table → id ≡ id_of_statement (statements.Update u) → IsFirstOf es (asked_places table u id) (statements.Update u) found → IsContradiction (map (λ e. e.signed) es) (statements.Update u) found
+update_answered : (es : List KeptStatement) (table : PlaceTable) (u : Update) (id : List ℕ) (found : Option Found) → IsKeeping es table → id ≡ id_of_statement (statements.Update u) → IsFirstOf es (asked_places table u id) (statements.Update u) found → IsContradiction (map kept_signed es) (statements.Update u) found
 update_answered es table u id found keeping is first = first_answered es (statements.Update u) _ found first all
   where
-    all : (place : ℕ) (e : KeptEntry) → slice_get es place ≡ Some e → IsIn place (asked_places table u id) ⊎ (kind_of e.signed.statement (statements.Update u) ≡ None)
+    all : (place : ℕ) (e : KeptStatement) → slice_get es place ≡ Some e → IsIn place (asked_places table u id) ⊎ (kind_of e.statement (statements.Update u) ≡ None)
     all place e at = elim (listed_or es table (marks.Number u.writer u.seq) place e keeping at) [
       | inl known ↦ inl (in_left place (places_with_mark table (marks.Number u.writer u.seq) ++ places_with_mark table (marks.Prev u.writer u.prev)) (places_with_mark table (marks.Id u.prev) ++ places_with_mark table (marks.Prev u.writer id)) (in_left place (places_with_mark table (marks.Number u.writer u.seq)) (places_with_mark table (marks.Prev u.writer u.prev)) known))
       | inr number ↦ elim (listed_or es table (marks.Prev u.writer u.prev) place e keeping at) [
@@ -125,7 +126,7 @@ update_answered es table u id found keeping is first = first_answered es (statem
           | inl known ↦ inl (in_right place (places_with_mark table (marks.Number u.writer u.seq) ++ places_with_mark table (marks.Prev u.writer u.prev)) (places_with_mark table (marks.Id u.prev) ++ places_with_mark table (marks.Prev u.writer id)) (in_left place (places_with_mark table (marks.Id u.prev)) (places_with_mark table (marks.Prev u.writer id)) known))
           | inr named ↦ elim (listed_or es table (marks.Prev u.writer id) place e keeping at) [
             | inl known ↦ inl (in_right place (places_with_mark table (marks.Number u.writer u.seq) ++ places_with_mark table (marks.Prev u.writer u.prev)) (places_with_mark table (marks.Id u.prev) ++ places_with_mark table (marks.Prev u.writer id)) (in_right place (places_with_mark table (marks.Id u.prev)) (places_with_mark table (marks.Prev u.writer id)) known))
-            | inr naming ↦ inr (asked_alone e.signed.statement e.id (statements.Update u) id (entry_of es place e keeping.entries at).id is (number, (prev, (named, (naming, tt)))))
+            | inr naming ↦ inr (asked_alone e.statement e.id (statements.Update u) id (entry_of es place e keeping.entries at).id is (number, (prev, (named, (naming, tt)))))
           ]
         ]
       ]
@@ -134,7 +135,7 @@ update_answered es table u id found keeping is first = first_answered es (statem
 -- ---- what `contradiction` answers
 
 -- for a voucher
-pub of_voucher : (es : List KeptEntry) (table : PlaceTable) (kept : List Signed) (s : Statement) (v : Voucher) (w n : ℕ) (id : List ℕ) (found : Option Found) → IsKeeping es table → map (λ e. e.signed) es ≡ kept → s ≡ statements.Voucher v → w ≡ writer_of s → n ≡ seq_of s → id ≡ id_of_statement s →
+pub of_voucher : (es : List KeptStatement) (table : PlaceTable) (kept : List Signed) (s : Statement) (v : Voucher) (w n : ℕ) (id : List ℕ) (found : Option Found) → IsKeeping es table → map kept_signed es ≡ kept → s ≡ statements.Voucher v → w ≡ writer_of s → n ≡ seq_of s → id ≡ id_of_statement s →
     IsFirstOf es (places_with_mark table (marks.Number w n)) s found → IsContradiction kept s found
 of_voucher es table kept (statements.Update u) v w n id found keeping seen is writer seq hash first = absurd cc
 of_voucher es table kept (statements.Voucher x) v w n id found keeping seen is writer seq hash first =
@@ -142,9 +143,9 @@ of_voucher es table kept (statements.Voucher x) v w n id found keeping seen is w
     subst (λ (l : List Signed). IsContradiction l (statements.Voucher x) found) seen (voucher_answered es table x id found keeping hash (subst P (is_number (statements.Voucher x) w n writer seq) first))
 
 -- for an update
-pub of_update : (es : List KeptEntry) (table : PlaceTable) (kept : List Signed) (s : Statement) (u : Update) (w n : ℕ) (id : List ℕ) (a b c d : Option Found) → IsKeeping es table → map (λ e. e.signed) es ≡ kept → s ≡ statements.Update u → w ≡ writer_of s → n ≡ seq_of s → id ≡ id_of_statement s →
+pub of_update : (es : List KeptStatement) (table : PlaceTable) (kept : List Signed) (s : Statement) (u : Update) (w n : ℕ) (id : List ℕ) (a b c d : Option Found) → IsKeeping es table → map kept_signed es ≡ kept → s ≡ statements.Update u → w ≡ writer_of s → n ≡ seq_of s → id ≡ id_of_statement s →
     IsFirstOf es (places_with_mark table (marks.Number w n)) s a → IsFirstOf es (places_with_mark table (marks.Prev u.writer u.prev)) s b → IsFirstOf es (places_with_mark table (marks.Id u.prev)) s c → IsFirstOf es (places_with_mark table (marks.Prev u.writer id)) s d →
-    IsContradiction kept s (kept_first (kept_first a b) (kept_first c d))
+    IsContradiction kept s (earlier_kept (earlier_kept a b) (earlier_kept c d))
 of_update es table kept (statements.Voucher v) u w n id a b c d keeping seen is writer seq hash number prev named naming = absurd cc
 of_update es table kept (statements.Update t) u w n id a b c d keeping seen is writer seq hash number prev named naming =
     let same : u ≡ t = cc in
@@ -154,20 +155,20 @@ of_update es table kept (statements.Update t) u w n id a b c d keeping seen is w
     let R : Update → Type 0 = λ (x : Update). IsFirstOf es (places_with_mark table (marks.Prev x.writer id)) (statements.Update t) d in
     let upper = first_of_both es _ _ (statements.Update t) a b (subst N (is_number (statements.Update t) w n writer seq) number) (subst P same prev) in
     let lower = first_of_both es _ _ (statements.Update t) c d (subst Q same named) (subst R same naming) in
-    subst (λ (l : List Signed). IsContradiction l (statements.Update t) (kept_first (kept_first a b) (kept_first c d))) seen
-    (update_answered es table t id _ keeping hash (first_of_both es _ _ (statements.Update t) (kept_first a b) (kept_first c d) upper lower))
+    subst (λ (l : List Signed). IsContradiction l (statements.Update t) (earlier_kept (earlier_kept a b) (earlier_kept c d))) seen
+    (update_answered es table t id _ keeping hash (first_of_both es _ _ (statements.Update t) (earlier_kept a b) (earlier_kept c d) upper lower))
 
 -- ---- what `find` answers
 
 -- the entries under an id are the updates with it
-same_from : (h : List ℕ) (n : ℕ) (es : List KeptEntry) → AllByRecursion IsEntry es → position_from (is_under (marks.Id h)) n es ≡ position_from (λ s. is_update_with h s.statement) n (map (λ e. e.signed) es)
+same_from : (h : List ℕ) (n : ℕ) (es : List KeptStatement) → AllByRecursion IsEntry es → position_from (is_under (marks.Id h)) n es ≡ position_from (λ s. is_update_with h s.statement) n (map kept_signed es)
 same_from h n [] all = refl
 same_from h n (e ∷ es) all =
     ap (λ (b : Bool). cond b (Some n) (position_from (is_under (marks.Id h)) (n + 1) es)) (under_id e h all.0)
-    ∙ ap (λ (o : Option ℕ). cond (is_update_with h e.signed.statement) (Some n) o) (same_from h (n + 1) es all.1)
+    ∙ ap (λ (o : Option ℕ). cond (is_update_with h e.statement) (Some n) o) (same_from h (n + 1) es all.1)
 
 -- the last place under an id
-pub last_found : (es : List KeptEntry) (table : PlaceTable) (kept : List Signed) (h : List ℕ) (places : Places) (result : Option ℕ) → IsKeeping es table → map (λ e. e.signed) es ≡ kept → left places ≡ places_with_mark table (marks.Id h) →
+pub last_found : (es : List KeptStatement) (table : PlaceTable) (kept : List Signed) (h : List ℕ) (places : Places) (result : Option ℕ) → IsKeeping es table → map kept_signed es ≡ kept → left places ≡ places_with_mark table (marks.Id h) →
     (xs : List ℕ) × Drains (YieldsFirst left) places xs × (result ≡ last_or None xs) → result ≡ position (λ s. is_update_with h s.statement) kept
 unfolding places_under
 last_found es table kept h places result keeping seen all (xs, (behind, (at, yielded, ended)), is) =
@@ -177,5 +178,5 @@ last_found es table kept h places result keeping seen all (xs, (behind, (at, yie
     ∙ last_place (is_under (marks.Id h)) es
     ∙ position_from-zero (is_under (marks.Id h)) es
     ∙ same_from h 0 es keeping.entries
-    ∙ sym (position_from-zero (λ (s : Signed). is_update_with h s.statement) (map (λ (e : KeptEntry). e.signed) es))
+    ∙ sym (position_from-zero (λ (s : Signed). is_update_with h s.statement) (map kept_signed es))
     ∙ ap (λ (l : List Signed). position (λ (s : Signed). is_update_with h s.statement) l) seen

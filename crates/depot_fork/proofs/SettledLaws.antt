@@ -26,16 +26,16 @@ prev_is_same w g v h = is_eq-then (nat_cmp w v) (slice_cmp nat_cmp g h) ∙ ap (
 -- ---- one more
 
 -- a link becomes the newest of a mark
-abbrev pub Settles : Settled → Settled → StatementMark → ℕ → Type 0
-Settles old new mark link = (other : StatementMark) → settled new other ≡ (if same_mark mark other then Some link else settled old other)
+abbrev pub IsInserted : Settled → Settled → StatementMark → ℕ → Type 0
+IsInserted old new mark link = (other : StatementMark) → settled new other ≡ (if same_mark mark other then Some link else settled old other)
 
-pub prev_settles : (old : Settled) (prevs : BTreeMap Prev ℕ) (w : ℕ) (g : List ℕ) (link : ℕ) → Updates prev_cmp old.prevs prevs (record { writer = w; prev = g }) (Some link) → Settles old (record old { prevs = prevs }) (marks.Prev w g) link
-prev_settles old prevs w g link updates (marks.Number v l) = refl
-prev_settles old prevs w g link updates (marks.Prev v h) =
+pub prev_inserted : (old : Settled) (prevs : BTreeMap Prev ℕ) (w : ℕ) (g : List ℕ) (link : ℕ) → Updates prev_cmp old.prevs prevs (record { writer = w; prev = g }) (Some link) → IsInserted old (record old { prevs = prevs }) (marks.Prev w g) link
+prev_inserted old prevs w g link updates (marks.Number v l) = refl
+prev_inserted old prevs w g link updates (marks.Prev v h) =
     updates.0 (record { writer = v; prev = h }) ∙ ap (λ (b : Bool). cond b (Some link) (get prev_cmp old.prevs (record { writer = v; prev = h }))) (prev_is_same w g v h)
-prev_settles old prevs w g link updates (marks.Id h) = refl
+prev_inserted old prevs w g link updates (marks.Id h) = refl
 
-pub id_settles : (old : Settled) (ids : BTreeMap (List ℕ) ℕ) (g : List ℕ) (link : ℕ) → Updates id_cmp old.ids ids g (Some link) → Settles old (record old { ids = ids }) (marks.Id g) link
-id_settles old ids g link updates (marks.Number v l) = refl
-id_settles old ids g link updates (marks.Prev v h) = refl
-id_settles old ids g link updates (marks.Id h) = updates.0 h ∙ ap (λ (b : Bool). cond b (Some link) (get id_cmp old.ids h)) (is_eq-slice_cmp g h)
+pub id_inserted : (old : Settled) (ids : BTreeMap (List ℕ) ℕ) (g : List ℕ) (link : ℕ) → Updates id_cmp old.ids ids g (Some link) → IsInserted old (record old { ids = ids }) (marks.Id g) link
+id_inserted old ids g link updates (marks.Number v l) = refl
+id_inserted old ids g link updates (marks.Prev v h) = refl
+id_inserted old ids g link updates (marks.Id h) = updates.0 h ∙ ap (λ (b : Bool). cond b (Some link) (get id_cmp old.ids h)) (is_eq-slice_cmp g h)

@@ -5,19 +5,19 @@ use Rattle.depot_base.specs.declared.statement.Statement.{Statement}
 use Rattle.depot_model.specs.Lists.{IsIn}
 use Rattle.depot_model.specs.Contradictions.{kind_of}
 use Rattle.depot_fork.specs.declared.Found.{Found}
-use Rattle.depot_fork.specs.declared.kept_entry.KeptEntry.{KeptEntry}
+use Rattle.depot_fork.specs.declared.kept_statement.KeptStatement.{KeptStatement}
 
 -- that of the two which was kept first
-abbrev pub kept_first : Option Found → Option Found → Option Found
-kept_first None b = b
-kept_first (Some x) None = Some x
-kept_first (Some x) (Some y) = if nat_lt y.index x.index then Some y else Some x
+abbrev pub earlier_kept : Option Found → Option Found → Option Found
+earlier_kept None b = b
+earlier_kept (Some x) None = Some x
+earlier_kept (Some x) (Some y) = if nat_lt y.index x.index then Some y else Some x
 
 -- the entry at the place that was found contradicts the statement in that kind
-pub record IsContradictedAt (es : List KeptEntry) (s : Statement) (found : Found) : Type 0 where
-  pub entry : KeptEntry
+pub record IsContradictedAt (es : List KeptStatement) (s : Statement) (found : Found) : Type 0 where
+  pub entry : KeptStatement
   pub at : slice_get es found.index ≡ Some entry
-  pub kind : kind_of entry.signed.statement s ≡ Some found.kind
+  pub kind : kind_of entry.statement s ≡ Some found.kind
 
 -- a place before the one that was found, or any where none was
 abbrev pub IsBefore : ℕ → Option Found → Type 0
@@ -25,6 +25,6 @@ IsBefore place None = Unit {0}
 IsBefore place (Some found) = place < found.index
 
 -- What was found contradicts the statement, and no entry at one of these places before it does.
-pub record IsFirstOf (es : List KeptEntry) (places : List ℕ) (s : Statement) (found : Option Found) : Type 0 where
+pub record IsFirstOf (es : List KeptStatement) (places : List ℕ) (s : Statement) (found : Option Found) : Type 0 where
   pub here : (f : Found) → found ≡ Some f → IsContradictedAt es s f
-  pub before : (place : ℕ) (e : KeptEntry) → IsIn place places → IsBefore place found → slice_get es place ≡ Some e → kind_of e.signed.statement s ≡ None
+  pub before : (place : ℕ) (e : KeptStatement) → IsIn place places → IsBefore place found → slice_get es place ≡ Some e → kind_of e.statement s ≡ None

@@ -6,5 +6,6 @@ pub mod PlacesLeft
 pub mod StatementMarks
 pub mod Settled
 pub mod Heads
+pub mod Entries
 pub mod Keeping
 pub mod Firsts

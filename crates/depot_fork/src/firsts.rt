@@ -1,12 +1,13 @@
 //! The first kept statement, of those at some places, that a statement contradicts.
 ghost use Rattle.std.specs.Prelude.{◌≡◌, ◌<◌, [], ◌∷◌, length};
 ghost use Rattle.depot_model.specs.Texts.{IsStatement, id_of_statement};
-ghost use Rattle.depot_fork.specs.Keeping.{IsKeeping, AreEntries};
-ghost use Rattle.depot_fork.specs.Firsts.{IsFirstOf, kept_first};
+ghost use Rattle.depot_fork.specs.Entries.{AreEntries};
+ghost use Rattle.depot_fork.specs.Keeping.{IsKeeping};
+ghost use Rattle.depot_fork.specs.Firsts.{IsFirstOf, earlier_kept};
 ghost use Rattle.depot_fork.specs.Table.{places_with_mark};
 
 use crate::Found;
-use crate::kept_entry::KeptEntry;
+use crate::kept_statement::KeptStatement;
 use crate::marks::StatementMark;
 use crate::table::PlaceTable;
 use depot_base::{Hash32, Statement};
@@ -14,7 +15,7 @@ use depot_base::{Hash32, Statement};
 /// The first of those under a mark.
 pub(crate) fn first_under(
     mark: &StatementMark,
-    entries: &[KeptEntry],
+    entries: &[KeptStatement],
     table: &PlaceTable,
     statement: &Statement,
     id: &Hash32,
@@ -34,7 +35,7 @@ pub(crate) fn first_under(
 /// The one at a place.
 fn contradiction_at(
     place: u32,
-    entries: &[KeptEntry],
+    entries: &[KeptStatement],
     statement: &Statement,
     id: &Hash32,
 ) -> Option<Found>
@@ -50,7 +51,7 @@ fn contradiction_at(
 
 /// That of the two which was kept first.
 pub(crate) fn earlier(a: Option<Found>, b: Option<Found>) -> Option<Found>
-    ensures { result ≡ kept_first a b }
+    ensures { result ≡ earlier_kept a b }
 {
     match (a, b) {
         (None, _) => b,

@@ -1,5 +1,5 @@
 //! The newest link of each mark.
-ghost use Rattle.std.specs.Prelude.{◌≡◌, ℕ, ◌<◌, ◌≤◌, ◌+◌, Some, None, IsOk, OnOk, OnErr, if◌then◌else◌};
+ghost use Rattle.std.specs.Prelude.{◌≡◌, ◌<◌, ◌≤◌, ◌+◌, Some, None, IsOk, OnOk, OnErr, if◌then◌else◌};
 ghost use Rattle.depot_fork.specs.declared.marks.StatementMark.{StatementMark};
 ghost use Rattle.depot_fork.specs.Links.{same_mark};
 ghost use Rattle.depot_fork.specs.Heads.{newest_of};

@@ -2,7 +2,8 @@
 //!
 //! A set of kept statements, seen as their list in the order in which they were kept, and the number of statements more that
 //! have their memory. A statement that came is looked up among them: the first that it contradicts, and how. Each is kept with
-//! its id, so that nothing is hashed twice. Whether a contradiction is a fork that convicts its writer, this crate doesn't know.
+//! its id, so that nothing is hashed twice, and without its body, which is the text of the statement. Whether a contradiction is
+//! a fork that convicts its writer, this crate doesn't know.
 //!
 //! Kept statements are listed under marks: each under its writer and seq, an update under its writer and prev, and under its
 //! id. Two statements that contradict each other share such a mark, or one's prev is the other's id. So `contradiction` goes
@@ -12,13 +13,13 @@
 
 mod firsts;
 mod heads;
-mod kept_entry;
+mod kept_statement;
 mod kinds;
 mod marks;
 mod settled;
 mod table;
 
-ghost use Rattle.std.specs.Prelude.{◌≡◌, ◌<◌, ◌≤◌, ◌+◌, [], ◌∷◌, ◌++◌, length, Some, None, slice_get, position, OnOk, OnErr, IsOk, MatchOption, OnSome, if◌then◌else◌};
+ghost use Rattle.std.specs.Prelude.{◌≡◌, ◌<◌, ◌≤◌, ◌+◌, ◌^◌, [], ◌∷◌, ◌++◌, length, Some, slice_get, position, OnOk, OnErr, IsOk, if◌then◌else◌};
 ghost use Rattle.std.specs.List.{list_any};
 ghost use Rattle.depot_model.specs.Texts.{IsSigned, IsStatement, id_of_statement};
 ghost use Rattle.depot_model.specs.Contradictions.{kind_of};
@@ -26,15 +27,16 @@ ghost use Rattle.depot_model.specs.Checks.{is_update_with};
 ghost use Rattle.depot_base.specs.declared.limits.TheConstants.{MOST_RECORDS};
 ghost use Rattle.depot_base.specs.declared.statement.Signed.{Signed};
 ghost use Rattle.depot_fork.specs.declared.marks.StatementMark.{StatementMark};
+ghost use Rattle.depot_fork.specs.Entries.{kept_signed};
 ghost use Rattle.depot_fork.specs.StatementMarks.{has_mark};
 ghost use Rattle.depot_fork.specs.Table.{link_count, places_with_mark, spare_places};
 ghost use Rattle.depot_fork.specs.Opponents.{IsContradiction, has_body_of};
 
 use crate::firsts::{earlier, first_under};
-use crate::kept_entry::KeptEntry;
 use crate::marks::StatementMark;
 use crate::table::PlaceTable;
 use depot_base::{Hash32, Kind, Memory, Signed, Statement};
+pub use kept_statement::KeptStatement;
 use std::alloc::Global;
 use std::marker::Model;
 
@@ -50,7 +52,7 @@ pub struct Found {
 /// The signed statements that were kept.
 #[derive(Drop)]
 pub struct SeenStatements {
-    entries: Vec<KeptEntry>,
+    entries: Vec<KeptStatement>,
     table: PlaceTable,
 }
 
@@ -58,12 +60,13 @@ impl Model for SeenStatements {
     ghost use Rattle.std.specs.Prelude.{map, min, ◌-◌, ◌/◌, vec_len};
     ghost use Rattle.std.specs.Vec.{vec_capacity};
     ghost use Rattle.depot_fork.specs.Opponents.{KeptSigned};
+    ghost use Rattle.depot_fork.specs.Entries.{kept_signed};
     ghost use Rattle.depot_fork.specs.Keeping.{IsKeeping};
     ghost use Rattle.depot_fork.specs.Table.{spare_places};
 
     ghost Value = { KeptSigned };
 
-    ghost view = { λ s. record { kept = map (λ e. e.signed) s.entries.items; room = min (vec_capacity s.entries - vec_len s.entries) (spare_places s.table / 3) } };
+    ghost view = { λ s. record { kept = map kept_signed s.entries.items; room = min (vec_capacity s.entries - vec_len s.entries) (spare_places s.table / 3) } };
 
     ghost invariant = { λ s. IsKeeping s.entries.items s.table };
 }
@@ -103,7 +106,17 @@ impl SeenStatements {
         self.table.reserve(MARKS)?;
         let place = self.entries.len() as u32;
         list_marks(&mut self.table, &signed.statement, &id, place);
-        self.entries.push_reserved(KeptEntry { signed, id });
+        let Signed {
+            statement,
+            body,
+            signature,
+        } = signed;
+        drop(body);
+        self.entries.push_reserved(KeptStatement {
+            statement,
+            signature,
+            id,
+        });
         Ok(())
     }
 
@@ -129,21 +142,14 @@ impl SeenStatements {
         earlier(earlier(same_number, same_prev), earlier(named, naming))
     }
 
-    /// The kept signed statement of an index. It takes no memory.
-    pub fn at(&self, index: u32) -> &Signed
+    /// The kept statement of an index. It takes no memory.
+    pub fn at(&self, index: u32) -> &KeptStatement
         requires { index < length self.now.kept }
-        ensures kept { slice_get self.now.kept index ≡ Some result.now }
-        ensures text { IsSigned result.now }
+        ensures kept { slice_get self.now.kept index ≡ Some (kept_signed result.now) }
+        ensures text { IsSigned (kept_signed result.now) }
+        ensures id { result.now.id ≡ id_of_statement result.now.statement }
     {
-        &self.entries[index as usize].signed
-    }
-
-    /// The id of the kept statement of an index. It takes no memory.
-    pub fn id_at(&self, index: u32) -> &Hash32
-        requires { index < length self.now.kept }
-        ensures { (s : Signed) → slice_get self.now.kept index ≡ Some s → result.now ≡ id_of_statement s.statement }
-    {
-        &self.entries[index as usize].id
+        &self.entries[index as usize]
     }
 
     /// Whether a kept statement has the same body as this one. `id` is SHA-256 of its body. It takes no memory.
@@ -186,7 +192,7 @@ const MARKS: usize = 3;
 /// Lists the place of a statement under each of its marks.
 fn list_marks(table: &mut PlaceTable, statement: &Statement, id: &Hash32, place: u32)
     requires room { MARKS ≤ spare_places table.old }
-    requires few { link_count table.old + MARKS ≤ 4294967296 }
+    requires few { link_count table.old + MARKS ≤ 2 ^ 32 }
     ensures listed { (mark : StatementMark) → places_with_mark table.new mark ≡ (if has_mark statement.now id.now mark then place ∷ places_with_mark table.old mark else places_with_mark table.old mark) }
     ensures count { link_count table.new ≤ link_count table.old + MARKS }
 {

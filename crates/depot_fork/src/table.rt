@@ -1,5 +1,5 @@
 //! Places by mark.
-ghost use Rattle.std.specs.Prelude.{◌≡◌, ℕ, ◌<◌, ◌≤◌, ◌+◌, List, [], ◌∷◌, OnOk, IsOk, if◌then◌else◌};
+ghost use Rattle.std.specs.Prelude.{◌≡◌, ◌<◌, ◌≤◌, ◌+◌, ◌^◌, [], ◌∷◌, OnOk, IsOk, if◌then◌else◌};
 ghost use Rattle.std.specs.Iterator.{YieldsFirst, item_count};
 ghost use Rattle.depot_fork.specs.declared.marks.StatementMark.{StatementMark};
 ghost use Rattle.depot_fork.specs.Links.{same_mark, AreLinked, IsLinkedFrom};
@@ -59,7 +59,7 @@ impl PlaceTable {
     #[tactic(auto, using(crate::proofs::LinkLaws::link_laws), unfolding(crate::specs::Table::link_count, crate::specs::Table::places_with_mark, crate::specs::Table::spare_places))]
     pub(crate) fn add(&mut self, mark: StatementMark, place: u32)
         requires room { 0 < spare_places self.old }
-        requires few { link_count self.old < 4294967296 }
+        requires few { link_count self.old < 2 ^ 32 }
         ensures listed { (other : StatementMark) → places_with_mark self.new other ≡ (if same_mark mark other then place ∷ places_with_mark self.old other else places_with_mark self.old other) }
         ensures count { link_count self.new ≡ link_count self.old + 1 }
         ensures room { spare_places self.old ≤ spare_places self.new + 1 }

@@ -14,7 +14,7 @@ use Rattle.depot_model.proofs.Members.{in_pushed}
 use Rattle.depot_model.proofs.Orders.{causal_front, parent_is_there, parents_of_last, leads_trans}
 use Rattle.depot_virtual.specs.declared.Spot.{Spot}
 use Rattle.depot_virtual.proofs.Placing.{spot_at}
-use Rattle.depot_virtual.specs.Spots.{chains_of, spots_length}
+use Rattle.depot_virtual.specs.Spots.{chains_of, spot_count}
 use Rattle.depot_clocks.specs.ChainItems.{ChainItem, LeadsTo, IsUpTo, IsChainItemAt, chain_length, number_of_chains, ItemPrecedes}
 use Rattle.depot_clocks.proofs.ItemPaths.{up_to_trans}
 use Rattle.depot_base.proofs.GeneralLaws.{from_pushed, at_place}
@@ -170,9 +170,9 @@ sum_by-map f g (x ∷ xs) = sum_by-cons f (g x) (map g xs) ∙ (ap (λ (n : ℕ)
 abbrev pub AreSpotted : List ChainItem → List Spot → Type 0
 AreSpotted items placed = map (λ x. record { chain = x.chain; place = x.place }) items ≡ placed
 
-pub spotted_length : (items : List ChainItem) (placed : List Spot) (chain : ℕ) → AreSpotted items placed → chain_length items chain ≡ spots_length placed chain
-spotted_length items placed chain same = mapped items ∙ ap (λ (l : List Spot). spots_length l chain) same where
-  mapped : (xs : List ChainItem) → chain_length xs chain ≡ spots_length (map (λ x. record { chain = x.chain; place = x.place }) xs) chain
+pub spotted_length : (items : List ChainItem) (placed : List Spot) (chain : ℕ) → AreSpotted items placed → chain_length items chain ≡ spot_count placed chain
+spotted_length items placed chain same = mapped items ∙ ap (λ (l : List Spot). spot_count l chain) same where
+  mapped : (xs : List ChainItem) → chain_length xs chain ≡ spot_count (map (λ x. record { chain = x.chain; place = x.place }) xs) chain
   mapped xs = sym (sum_by-map (λ (s : Spot). cond (eqb s.chain chain) 1 0) (λ (x : ChainItem). record { chain = x.chain; place = x.place }) xs)
 
 pub spotted_number : (items : List ChainItem) (placed : List Spot) → AreSpotted items placed → number_of_chains items ≡ chains_of placed

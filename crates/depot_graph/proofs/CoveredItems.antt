@@ -18,7 +18,7 @@ use Rattle.depot_model.specs.Texts.{id_of_update}
 use Rattle.depot_model.proofs.Elements.{in_at}
 use Rattle.depot_model.proofs.Members.{any_from, any_to, among_from, among_to}
 use Rattle.depot_model.proofs.Pasts.{past_of_listed}
-use Rattle.depot_virtual.specs.Spots.{spots, IsSpotAt, chains_in}
+use Rattle.depot_virtual.specs.Spots.{spots, IsSpotAt, chain_count}
 use Rattle.depot_virtual.proofs.Placing.{all_placed}
 use Rattle.depot_graph.specs.Kept.{prev_places}
 use Rattle.depot_graph.specs.UpdateRows.{IsUpToAt, CountsAllAt, IsJoinedRow}
@@ -103,7 +103,7 @@ row_covers us ids row item chain place u c at spot joined = by_test (nat_lt plac
   by_test false above = uncovered us ids item u c at (λ m on up. both_ways (nat_lt place (slice_index row chain)) above (lt-ltb place (slice_index row chain) (joined.counted m item chain place on spot up)))
 
 -- and the row has an entry for its chain
-pub chain_inside : (us : List Update) (row : List ℕ) (item chain place : ℕ) → length row ≡ chains_in (prev_places us) → IsSpotAt (prev_places us) item chain place → chain < length row
+pub chain_inside : (us : List Update) (row : List ℕ) (item chain place : ℕ) → length row ≡ chain_count (prev_places us) → IsSpotAt (prev_places us) item chain place → chain < length row
 chain_inside us row item chain place long spot = let low = (all_placed (prev_places us)).chain item (record { chain = chain; place = place }) spot in omega (arith, low, long)
 
 up_through : (us : List Update) (a b c : ℕ) → IsUpToAt us a b → IsUpToAt us b c → IsUpToAt us a c

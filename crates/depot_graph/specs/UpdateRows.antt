@@ -3,7 +3,7 @@ use Rattle.std.specs.Prelude.{◌≡◌, ◌<◌, ◌≤◌, ◌⊎◌, ℕ, Lis
 use Rattle.depot_base.specs.declared.update.Update.{Update}
 use Rattle.depot_model.specs.Items.{PrecedesAt}
 use Rattle.depot_model.specs.Lists.{IsIn}
-use Rattle.depot_virtual.specs.Spots.{spots, IsSpotAt, spots_length, chains_in}
+use Rattle.depot_virtual.specs.Spots.{spots, IsSpotAt, spot_count, chain_count}
 use Rattle.depot_graph.specs.Kept.{prev_places}
 
 -- the item a is the other item or precedes it
@@ -16,7 +16,7 @@ IsOfPastAt us chain item a = ((place : ℕ) × IsSpotAt (prev_places us) a chain
 
 -- n is how many items of the chain are the item or precede it: these are its first n
 pub record IsCountAt (us : List Update) (chain item n : ℕ) : Type 0 where
-  pub there : n ≤ spots_length (spots (prev_places us)) chain
+  pub there : n ≤ spot_count (spots (prev_places us)) chain
   pub counted : (a place : ℕ) → IsSpotAt (prev_places us) a chain place → IsUpToAt us a item → place < n
   pub only : (a place : ℕ) → IsSpotAt (prev_places us) a chain place → place < n → IsUpToAt us a item
 
@@ -30,7 +30,7 @@ IsWithinAt us item row = (chain n : ℕ) → IsCountAt us chain item n → n ≤
 
 -- an entry for each chain: how many of its items are one of these or precede one, which are its first
 pub record IsJoinedRow (us : List Update) (items row : List ℕ) : Type 0 where
-  pub long : length row ≡ chains_in (prev_places us)
-  pub there : (chain : ℕ) → chain < length row → slice_index row chain ≤ spots_length (spots (prev_places us)) chain
+  pub long : length row ≡ chain_count (prev_places us)
+  pub there : (chain : ℕ) → chain < length row → slice_index row chain ≤ spot_count (spots (prev_places us)) chain
   pub counted : (m a chain place : ℕ) → IsIn m items → IsSpotAt (prev_places us) a chain place → IsUpToAt us a m → place < slice_index row chain
   pub only : (a chain place : ℕ) → IsSpotAt (prev_places us) a chain place → place < slice_index row chain → (m : ℕ) × (IsIn m items × IsUpToAt us a m)

@@ -1,7 +1,7 @@
 //! Whether an item is one of some others, or precedes one.
 ghost use Rattle.std.specs.Prelude.{◌≡◌, ◌<◌, ◌↔◌, ℕ, List, length, IsTrue};
 ghost use Rattle.depot_model.specs.Items.{PrecedesAt};
-ghost use Rattle.depot_virtual.specs.Spots.{chains_in};
+ghost use Rattle.depot_virtual.specs.Spots.{chain_count};
 ghost use Rattle.depot_graph.specs.Kept.{prev_places};
 ghost use Rattle.depot_graph.specs.UpdateRows.{IsJoinedRow};
 ghost use Rattle.depot_graph.specs.PastChains.{HasCoveredChild, IsCovered};
@@ -37,7 +37,7 @@ fn precedes_with<L: Ledger>(graph: &Graph, a: u32, b: u32, blank: Blank) -> bool
 /// Whether a row that joins those of some items counts this one: whether it is one of them, or precedes one.
 pub fn is_covered(graph: &Graph, row: &[u32], item: u32) -> bool
     requires item { item < length (⟦<Graph as Past>⟧.updates graph.now) }
-    requires row { length row.now ≡ chains_in (prev_places (⟦<Graph as Past>⟧.updates graph.now)) }
+    requires row { length row.now ≡ chain_count (prev_places (⟦<Graph as Past>⟧.updates graph.now)) }
     ensures { (items : List ℕ) → IsJoinedRow (⟦<Graph as Past>⟧.updates graph.now) items row.now → (IsTrue result ↔ IsCovered (⟦<Graph as Past>⟧.updates graph.now) items item) }
 {
     let spot = graph.spot(item);
@@ -47,7 +47,7 @@ pub fn is_covered(graph: &Graph, row: &[u32], item: u32) -> bool
 /// Whether such a row counts one of the items whose prev is this one.
 pub fn has_covered_child(graph: &Graph, row: &[u32], item: u32) -> bool
     requires item { item < length (⟦<Graph as Past>⟧.updates graph.now) }
-    requires row { length row.now ≡ chains_in (prev_places (⟦<Graph as Past>⟧.updates graph.now)) }
+    requires row { length row.now ≡ chain_count (prev_places (⟦<Graph as Past>⟧.updates graph.now)) }
     ensures { (items : List ℕ) → IsJoinedRow (⟦<Graph as Past>⟧.updates graph.now) items row.now → (IsTrue result ↔ HasCoveredChild (⟦<Graph as Past>⟧.updates graph.now) items item) }
 {
     for child in graph.children(item) {

@@ -3,9 +3,9 @@ ghost use Rattle.std.specs.Prelude.{◌≡◌, ◌<◌, ◌↔◌, ℕ, List, Op
 ghost use Rattle.std.specs.Option.{ForSome};
 ghost use Rattle.std.specs.List.{AllByRecursion};
 ghost use Rattle.depot_model.specs.History.{by_id, history_hash as hash_of_history};
-ghost use Rattle.depot_model.specs.Items.{at, updates_at};
+ghost use Rattle.depot_model.specs.Items.{at};
 ghost use Rattle.depot_model.specs.Lists.{IsIn};
-ghost use Rattle.depot_virtual.specs.Spots.{chains_in};
+ghost use Rattle.depot_virtual.specs.Spots.{chain_count};
 ghost use Rattle.depot_graph.specs.Closure.{closure_of};
 ghost use Rattle.depot_graph.specs.Kept.{prev_places};
 ghost use Rattle.depot_graph.specs.PastLeaves.{leaf_in, updates_at_places, AreNextEntries, IsUnseen};
@@ -57,7 +57,7 @@ pub fn history_hash(alloc: Global, graph: &Graph, parents: &[u32]) -> Result<Has
 
 /// The same, of the items whose joined row this is.
 pub fn history_of_row(alloc: Global, graph: &Graph, row: &[u32]) -> Result<Hash32, Memory>
-    requires { length row.now ≡ chains_in (prev_places (⟦<Graph as Past>⟧.updates graph.now)) }
+    requires { length row.now ≡ chain_count (prev_places (⟦<Graph as Past>⟧.updates graph.now)) }
     ensures { (items : List ℕ) → IsJoinedRow (⟦<Graph as Past>⟧.updates graph.now) items row.now → IfOk result (λ hash. hash ≡ hash_of_history (closure_of items (⟦<Graph as Past>⟧.updates graph.now))) }
 {
     let items = leaves_of_past(alloc, graph, row)?;

@@ -30,7 +30,7 @@
 //! each that the past reaches, from its last item to that one. What the sets are that are hashed, `history_laws` says.
 #![tactic(auto)]
 
-mod change;
+mod addition;
 mod covered;
 mod graph;
 mod history;

@@ -1,5 +1,5 @@
 //! The order of the updates of a graph.
-ghost use Rattle.std.specs.Prelude.{◌≡◌, ◌<◌, ℕ, [], length, map, true};
+ghost use Rattle.std.specs.Prelude.{◌≡◌, ◌<◌, [], length, map, true};
 ghost use Rattle.std.specs.Map.{keys_of};
 ghost use Rattle.depot_model.specs.Texts.{id_of_update};
 ghost use Rattle.depot_model.specs.Order.{listed};

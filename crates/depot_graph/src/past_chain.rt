@@ -1,7 +1,7 @@
 //! The leaves of a past, by the chains of the forest by prev.
-ghost use Rattle.std.specs.Prelude.{◌≡◌, ◌<◌, ◌≤◌, ℕ, List, length, IfOk, IfSome, IfNone, slice_index};
+ghost use Rattle.std.specs.Prelude.{◌≡◌, ◌<◌, ℕ, List, length, IfOk, IfSome, IfNone};
 ghost use Rattle.std.specs.List.{AllByRecursion};
-ghost use Rattle.depot_virtual.specs.Spots.{chains_in};
+ghost use Rattle.depot_virtual.specs.Spots.{chain_count};
 ghost use Rattle.depot_graph.specs.Kept.{prev_places};
 ghost use Rattle.depot_graph.specs.UpdateRows.{IsJoinedRow};
 ghost use Rattle.depot_graph.specs.PastChains.{AreLast, IsLastCounted};
@@ -14,7 +14,7 @@ use std::alloc::Global;
 
 /// The last item of a chain that stands before this place, if one does.
 fn last_before(graph: &Graph, chain: u32, place: u32) -> Option<u32>
-    requires { chain < chains_in (prev_places (⟦<Graph as Past>⟧.updates graph.now)) }
+    requires { chain < chain_count (prev_places (⟦<Graph as Past>⟧.updates graph.now)) }
     ensures some { IfSome result (IsLastCounted (⟦<Graph as Past>⟧.updates graph.now) chain place) }
     ensures none { IfNone result (place ≡ 0) }
 {
@@ -31,7 +31,7 @@ fn last_before(graph: &Graph, chain: u32, place: u32) -> Option<u32>
 /// The leaves of what some items are with all that precedes one of them, by the joined row of these items: of each chain at most
 /// one, the last item that the row counts.
 pub fn leaves_of_past(alloc: Global, graph: &Graph, row: &[u32]) -> Result<Vec<u32>, Memory>
-    requires { length row.now ≡ chains_in (prev_places (⟦<Graph as Past>⟧.updates graph.now)) }
+    requires { length row.now ≡ chain_count (prev_places (⟦<Graph as Past>⟧.updates graph.now)) }
     ensures leaves { (items : List ℕ) → IsJoinedRow (⟦<Graph as Past>⟧.updates graph.now) items row.now → IfOk result (λ found. AreLast (⟦<Graph as Past>⟧.updates graph.now) items found.items) }
     ensures inside { IfOk result (λ found. AllByRecursion (λ item. item < length (⟦<Graph as Past>⟧.updates graph.now)) found.items) }
 {

@@ -1,5 +1,5 @@
 -- The past of an update, and what is seen of it, are the same in all lists that have its parents.
-use Rattle.std.proofs.Common.{◌≡◌, ℕ, List, [], ◌∷◌, ◌++◌, map, length, take, Bool, true, false, cond, Option, Some, None, refl, sym, ap, subst, ◌∙◌, inl, inr}
+use Rattle.std.proofs.Common.{◌≡◌, ℕ, List, [], ◌∷◌, ◌++◌, map, length, take, Bool, true, false, cond, Option, Some, None, sym, ap, subst, ◌∙◌, inl, inr}
 use Rattle.std.proofs.Math.Seq.{take-append_seam}
 use Rattle.depot_base.specs.declared.update.Update.{Update}
 use Rattle.depot_base.specs.declared.update.Dep.{Dep}
@@ -13,7 +13,7 @@ use Rattle.depot_model.specs.History.{history_hash}
 use Rattle.depot_model.specs.Journal.{accepted, accepted_by, has_id, named}
 use Rattle.depot_model.specs.Checks.{Sight, sight, content_checks, content_of}
 use Rattle.depot_model.specs.Lawful.{MayPut}
-use Rattle.depot_model.proofs.Members.{all_at, all_from, any_to, among_to, chosen_cases}
+use Rattle.depot_model.proofs.Members.{all_at, all_from, map_same, any_to, among_to, chosen_cases}
 use Rattle.depot_model.proofs.Orders.{parent_is_there}
 use Rattle.depot_model.proofs.Pasts.{past_in, past_takes}
 use Rattle.depot_model.specs.World.{Correct, World, setting_of, IsWorld, IsCollisionFree}
@@ -91,13 +91,6 @@ same_named us vs u h agree c_u c_v there_u there_v on =
     let b = there_v h on in
     let same = agree a.update b.update a.on b.on (a.id ∙ sym b.id) in
     named_some [] us h a.update c_u a.on a.id ∙ ap Some same ∙ sym (named_some [] vs h b.update c_v b.on b.id)
-
-map_same : {X Y : Type 0} (f g : X → Y) (xs : List X) → ((x : X) → IsIn x xs → f x ≡ g x) → map f xs ≡ map g xs
-map_same f g [] each = refl
-map_same f g (x ∷ xs) each =
-    let here = each x (inl refl) in
-    let rest = map_same f g xs (λ y on. each y (inr on)) in
-    cc
 
 -- what is seen is the same
 pub same_sight : (us vs : List Update) (u : Update) → AgreeOnIds us vs → IsCausal [] us → IsCausal [] vs → AreThere us u → AreThere vs u → sight us u ≡ sight vs u

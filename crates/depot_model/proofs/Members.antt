@@ -25,6 +25,11 @@ from_map f y [] never = absurd never
 from_map f y (x ∷ xs) (inl here) = (x, (inl refl, here))
 from_map f y (x ∷ xs) (inr there) = let r = from_map f y xs there in (r.0, (inr r.1.0, r.1.1))
 
+-- functions that agree on the members of a list give one list
+pub map_same : {X Y : Type 0} (f g : X → Y) (xs : List X) → ((x : X) → IsIn x xs → f x ≡ g x) → map f xs ≡ map g xs
+map_same f g [] same = refl
+map_same f g (x ∷ xs) same = ap (λ (y : _). y ∷ map f xs) (same x (inl refl)) ∙ ap (λ (ys : List _). g x ∷ ys) (map_same f g xs (λ y on. same y (inr on)))
+
 -- ---- what holds of all
 
 -- what holds of all of a list, and of one more behind it

@@ -24,7 +24,7 @@ use Rattle.depot_journal.proofs.Moments as runs
 use Rattle.depot_laws.proofs.OwnTexts.{lawful_is_light, lawful_is_short}
 use Rattle.depot_laws.proofs.Splits.{lawful_front}
 use Rattle.depot_outside.specs.declared.disk.Disk.{Ghosts}
-use Rattle.depot_readings.specs.NewRecords.{taken_bytes}
+use Rattle.depot_readings.specs.NewRecords.{bytes_of_records}
 use Rattle.depot_node.specs.Holdings.{Holding, journal_on}
 use Rattle.depot_node.specs.JournalRecords.{AreTextsFor, records_in_texts}
 use Rattle.depot_node.proofs.JournalTexts.{IsReadTo, all_of_records, as_many, blocks_long, both_texts, cut_texts, front_of_records, passes_none, read_all}
@@ -35,7 +35,7 @@ untrue e = cc
 -- ---- what may be answered
 
 -- the memory found covers the texts of these records
-pub covers : {D : Type 0} (v : JournalContents D) (new : List Record) (more : List (List ℕ)) → AreTextsFor new more → length new ≤ v.room_records → taken_bytes new ≤ v.room_bytes + 5 * length new → HasMemoryFor v more
+pub covers : {D : Type 0} (v : JournalContents D) (new : List Record) (more : List (List ℕ)) → AreTextsFor new more → length new ≤ v.room_records → bytes_of_records new ≤ v.room_bytes + 5 * length new → HasMemoryFor v more
 covers v new more u records bytes = (omega (arith, as_many new more u, records), omega (arith, as_many new more u, bytes, blocks_long new more u))
 
 -- then the disk alone is left to fail

@@ -15,7 +15,7 @@ use Rattle.depot_model.specs.Stops.{HasFront, LeavesAll}
 use Rattle.depot_journal.specs.Stable as stable
 use Rattle.depot_laws.proofs.Counts.{bytes_more}
 use Rattle.depot_base.proofs.GeneralLaws.{all_both}
-use Rattle.depot_readings.specs.NewRecords.{taken_bytes}
+use Rattle.depot_readings.specs.NewRecords.{bytes_of_records}
 use Rattle.depot_node.specs.JournalRecords.{AreRecordTexts, AreTextsFor, records_in_texts}
 use Rattle.depot_node.proofs.JournalRecordLaws.{records_of_texts}
 
@@ -56,7 +56,7 @@ front_texts n J texts t = record { fit = all_front IsRecord n J t.fit; are = ap 
 -- ---- bytes
 
 -- the bytes of records are those of their blocks
-pub bytes_are_blocks : (J : List Record) → length (blocks (map text_of_record J)) ≡ taken_bytes J
+pub bytes_are_blocks : (J : List Record) → length (blocks (map text_of_record J)) ≡ bytes_of_records J
 bytes_are_blocks [] = refl
 bytes_are_blocks (r ∷ J) =
     omega (
@@ -67,7 +67,7 @@ bytes_are_blocks (r ∷ J) =
       sum_by-cons (λ (x : Record). 5 + length (text_of_record x)) r J,
     )
 
-pub blocks_long : (J : List Record) (texts : List (List ℕ)) → AreTextsFor J texts → length (blocks texts) ≡ taken_bytes J
+pub blocks_long : (J : List Record) (texts : List (List ℕ)) → AreTextsFor J texts → length (blocks texts) ≡ bytes_of_records J
 blocks_long J texts t = ap (λ (x : List (List ℕ)). length (blocks x)) t.are ∙ bytes_are_blocks J
 
 pub journal_long : (J : List Record) (texts : List (List ℕ)) → AreTextsFor J texts → 1 + length (blocks texts) ≡ journal_bytes J

@@ -4,7 +4,7 @@ ghost use Rattle.std.specs.List.{AllByRecursion};
 ghost use Rattle.std.specs.List.Sorted.{IsNonDecreasing};
 ghost use Rattle.depot_model.specs.Items.{places_of};
 ghost use Rattle.depot_model.specs.Bundle.{candidate_places};
-ghost use Rattle.depot_virtual.specs.Spots.{chains_in};
+ghost use Rattle.depot_virtual.specs.Spots.{chain_count};
 ghost use Rattle.depot_graph.specs.Kept.{prev_places};
 ghost use Rattle.depot_queries.specs.Tails.{ArePlacesLacked, HoldsBehind, IsLackedAt};
 
@@ -56,7 +56,7 @@ fn lacked(
     reader: NodeId,
 ) -> Result<Items, Memory>
     requires beside { length places.now ≡ length (⟦<Graph as Past>⟧.updates graph.now) }
-    requires row { length row.now ≡ chains_in (prev_places (⟦<Graph as Past>⟧.updates graph.now)) }
+    requires row { length row.now ≡ chain_count (prev_places (⟦<Graph as Past>⟧.updates graph.now)) }
     ensures { IfOk result (ArePlacesLacked (⟦<Graph as Past>⟧.updates graph.now) row.now places.now reader) }
 {
     if !are_few_behind(graph, row) {
@@ -76,7 +76,7 @@ fn lacked_of_all(
     reader: NodeId,
 ) -> Result<Items, Memory>
     requires beside { length places.now ≡ length (⟦<Graph as Past>⟧.updates graph.now) }
-    requires row { length row.now ≡ chains_in (prev_places (⟦<Graph as Past>⟧.updates graph.now)) }
+    requires row { length row.now ≡ chain_count (prev_places (⟦<Graph as Past>⟧.updates graph.now)) }
     ensures { IfOk result (ArePlacesLacked (⟦<Graph as Past>⟧.updates graph.now) row.now places.now reader) }
 {
     let mut found = Items::new(alloc);
@@ -99,7 +99,7 @@ fn lacked_among(
     reader: NodeId,
 ) -> Result<Items, Memory>
     requires beside { length places.now ≡ length (⟦<Graph as Past>⟧.updates graph.now) }
-    requires row { length row.now ≡ chains_in (prev_places (⟦<Graph as Past>⟧.updates graph.now)) }
+    requires row { length row.now ≡ chain_count (prev_places (⟦<Graph as Past>⟧.updates graph.now)) }
     requires sorted { IsNonDecreasing items.now }
     requires inside { AllByRecursion (λ item. item < length (⟦<Graph as Past>⟧.updates graph.now)) items.now }
     requires behind { HoldsBehind (⟦<Graph as Past>⟧.updates graph.now) row.now items.now }
@@ -123,7 +123,7 @@ fn lacked_among(
 /// Whether an item is of another writer than the reader, and this row, which counts what the reader has, doesn't count it.
 fn is_lacked(graph: &Graph, row: &[u32], reader: NodeId, item: u32) -> bool
     requires item { item < length (⟦<Graph as Past>⟧.updates graph.now) }
-    requires row { length row.now ≡ chains_in (prev_places (⟦<Graph as Past>⟧.updates graph.now)) }
+    requires row { length row.now ≡ chain_count (prev_places (⟦<Graph as Past>⟧.updates graph.now)) }
     ensures { IsLackedAt (⟦<Graph as Past>⟧.updates graph.now) row.now reader item result }
 {
     let spot = graph.spot(item);

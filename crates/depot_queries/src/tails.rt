@@ -1,7 +1,7 @@
 //! Of each virtual writer the items that stand behind a row.
 ghost use Rattle.std.specs.Prelude.{◌≡◌, ◌<◌, length, IfOk, OnOk};
 ghost use Rattle.std.specs.List.{AllByRecursion};
-ghost use Rattle.depot_virtual.specs.Spots.{chains_in};
+ghost use Rattle.depot_virtual.specs.Spots.{chain_count};
 ghost use Rattle.depot_graph.specs.Kept.{prev_places};
 ghost use Rattle.depot_queries.specs.Tails.{HasTail, HoldsBehind};
 
@@ -16,7 +16,7 @@ const ONE_OF: u32 = 16;
 /// Whether few of the items stand behind a row, which has an entry for each chain: at most one of 16. It decides how the same is
 /// found, and nothing else. It looks at each chain once at most, and takes no memory.
 pub(crate) fn are_few_behind(graph: &Graph, row: &[u32]) -> bool
-    requires { length row.now ≡ chains_in (prev_places (⟦<Graph as Past>⟧.updates graph.now)) }
+    requires { length row.now ≡ chain_count (prev_places (⟦<Graph as Past>⟧.updates graph.now)) }
 {
     let mut left = graph.count() / ONE_OF;
     for chain in 0..graph.chain_count() {
@@ -35,7 +35,7 @@ pub(crate) fn are_few_behind(graph: &Graph, row: &[u32]) -> bool
 
 /// The items that a row doesn't count, chain by chain, each chain's from its last item back. No other item is looked at.
 pub(crate) fn behind(alloc: Global, graph: &Graph, row: &[u32]) -> Result<Vec<u32>, Memory>
-    requires { length row.now ≡ chains_in (prev_places (⟦<Graph as Past>⟧.updates graph.now)) }
+    requires { length row.now ≡ chain_count (prev_places (⟦<Graph as Past>⟧.updates graph.now)) }
     ensures all { IfOk result (λ items. HoldsBehind (⟦<Graph as Past>⟧.updates graph.now) row.now items.items) }
     ensures inside { IfOk result (λ items. AllByRecursion (λ item. item < length (⟦<Graph as Past>⟧.updates graph.now)) items.items) }
 {
@@ -48,7 +48,7 @@ pub(crate) fn behind(alloc: Global, graph: &Graph, row: &[u32]) -> Result<Vec<u3
 
 /// Adds the items of a chain from this place on, the last first.
 fn push_tail(found: &mut Vec<u32>, graph: &Graph, chain: u32, from: u32) -> Result<(), Memory>
-    requires { chain < chains_in (prev_places (⟦<Graph as Past>⟧.updates graph.now)) }
+    requires { chain < chain_count (prev_places (⟦<Graph as Past>⟧.updates graph.now)) }
     ensures { OnOk result (HasTail (⟦<Graph as Past>⟧.updates graph.now) chain from found.old.items found.new.items) }
 {
     let mut item = graph.tip(chain);

@@ -24,7 +24,7 @@ use Rattle.depot_laws.proofs.Nexts.{next_of}
 use Rattle.depot_laws.proofs.OwnTexts.{lawful_is_short, lawful_is_light}
 use Rattle.depot_laws.proofs.Splits.{lawful_front, lawful_last, silent}
 use Rattle.depot_readings.specs.Counts.{AreCountsOf}
-use Rattle.depot_readings.specs.NewRecords.{AreNew, taken_bytes, records_in, vouchers_of}
+use Rattle.depot_readings.specs.NewRecords.{AreNew, bytes_of_records, records_in, vouchers_of}
 use Rattle.depot_readings.specs.LeavesWith.{leaves_then, leaves_with_record, leaves_with, number_after}
 use Rattle.depot_readings.specs.declared.counts.JournalCounts.{JournalCounts}
 use Rattle.depot_readings.specs.declared.news.News.{News}
@@ -37,7 +37,7 @@ use Rattle.depot_readings.proofs.VoucherRecords.{no_leaves, none_accepted}
 -- ---- the limit
 
 -- the limit that records pass is that of the counts, where there is one of them
-pub limit_of_counts : (me : ℕ) (J new : List Record) (t : JournalCounts) (n b : ℕ) (leaves : Option ℕ) → AreCountsOf me J t → (n ≡ 0 → ⊥) → n ≡ length new → b ≡ taken_bytes new → leaves ≡ leaves_counted me J new
+pub limit_of_counts : (me : ℕ) (J new : List Record) (t : JournalCounts) (n b : ℕ) (leaves : Option ℕ) → AreCountsOf me J t → (n ≡ 0 → ⊥) → n ≡ length new → b ≡ bytes_of_records new → leaves ≡ leaves_counted me J new
     → limit_passed t.records t.bytes t.leaves (t.records + n) (t.bytes + b) leaves ≡ full_by me J new
 limit_of_counts me J new t n b leaves a some many large counted =
     rw (a.records, a.bytes, a.leaves) (full_is_limit me J new (length J + n) (journal_bytes J + b) leaves (λ none. some (many ∙ none))
@@ -108,7 +108,7 @@ leaves_grown here J (news.Vouchers xs) l =
 -- a lawful journal has so few of each that they can be counted
 pub record AreFew (t : JournalCounts) (given : List Record) : Type 0 where
   pub records : t.records + length given ≤ 131072
-  pub bytes : t.bytes + taken_bytes given ≤ 1073741824
+  pub bytes : t.bytes + bytes_of_records given ≤ 1073741824
 
 pub few_counts : (given : List Record) (t : JournalCounts) → ((here : Setting) × ((J : List Record) × (IsLawful here (J ++ given) × AreCountsOf here.me J t))) → AreFew t given
 few_counts given t (here, (J, (l, a))) = record {
@@ -117,7 +117,7 @@ few_counts given t (here, (J, (l, a))) = record {
 }
 
 -- those of a journal with a growth behind
-pub counts_grow : (here : Setting) (J given : List Record) (news : News) (t u : JournalCounts) (n b : ℕ) (leaves : Option ℕ) → records_in news ≡ given → IsLawful here (J ++ given) → AreCountsOf here.me J t → n ≡ length given → b ≡ taken_bytes given
+pub counts_grow : (here : Setting) (J given : List Record) (news : News) (t u : JournalCounts) (n b : ℕ) (leaves : Option ℕ) → records_in news ≡ given → IsLawful here (J ++ given) → AreCountsOf here.me J t → n ≡ length given → b ≡ bytes_of_records given
     → leaves ≡ leaves_with (accepted J) t.leaves given → u.records ≡ t.records + n → u.bytes ≡ t.bytes + b → u.leaves ≡ unwrap_or leaves t.leaves → AreCountsOf here.me (J ++ given) u
 counts_grow here J given news t u n b leaves same l a many large counted records bytes told = record {
   records = omega (arith, records, a.records, many, length-append J given);

@@ -14,7 +14,7 @@ use Rattle.depot_model.specs.Records.{IsRecord, text_of_record}
 use Rattle.depot_model.specs.Texts.{IsProof, IsSigned, id_of_statement, text_of_signed}
 use Rattle.depot_model.specs.Vouching.{records_of}
 use Rattle.depot_laws.proofs.LawfulRecords.{IsRecord-Conviction, IsRecord-Foreign}
-use Rattle.depot_readings.specs.NewRecords.{AreHashed, IsGrowth, taken_bytes, records_in, vouchers_of}
+use Rattle.depot_readings.specs.NewRecords.{AreHashed, IsGrowth, bytes_of_records, records_in, vouchers_of}
 use Rattle.depot_readings.specs.RecordTexts.{given_of}
 use Rattle.depot_readings.specs.declared.news.News.{News}
 use Rattle.depot_readings.specs.declared.news.News.TheVariants as news
@@ -22,10 +22,10 @@ use Rattle.depot_readings.proofs.RecordTextLaws.{foreign_long}
 
 -- ---- bytes
 
-one_takes : (r : Record) → taken_bytes (r ∷ []) ≡ 5 + length (text_of_record r)
+one_takes : (r : Record) → bytes_of_records (r ∷ []) ≡ 5 + length (text_of_record r)
 one_takes r = omega (arith, sum_by-cons (λ (x : Record). 5 + length (text_of_record x)) r [])
 
-both_take : (r t : Record) → taken_bytes (r ∷ t ∷ []) ≡ (5 + length (text_of_record r)) + (5 + length (text_of_record t))
+both_take : (r t : Record) → bytes_of_records (r ∷ t ∷ []) ≡ (5 + length (text_of_record r)) + (5 + length (text_of_record t))
 both_take r t = omega (arith, sum_by-cons (λ (x : Record). 5 + length (text_of_record x)) r (t ∷ []), one_takes t)
 
 -- ---- one record
@@ -34,7 +34,7 @@ both_take r t = omega (arith, sum_by-cons (λ (x : Record). 5 + length (text_of_
 pub one_read : (n : News) (r : Record) (bytes : ℕ) → records_in n ≡ r ∷ [] → IsRecord r → AreHashed n → bytes ≡ 5 + length (text_of_record r) → IsGrowth n bytes None
 one_read n r bytes is fits hashed size = record {
   fit = subst (λ (rs : List Record). AllByRecursion IsRecord rs) (sym is) (fits, tt);
-  sum = size ∙ sym (one_takes r) ∙ ap taken_bytes (sym is);
+  sum = size ∙ sym (one_takes r) ∙ ap bytes_of_records (sym is);
   hashed = hashed;
   few = omega (arith, ap length is);
   written = tt;
@@ -44,7 +44,7 @@ one_read n r bytes is fits hashed size = record {
 pub one_made : (n : News) (r : Record) (bytes : ℕ) (texts : Vec (List ℕ)) (text : List ℕ) → records_in n ≡ r ∷ [] → given_of (r ∷ []) ≡ [] → IsRecord r → AreHashed n → bytes ≡ 5 + length text → texts.items ≡ text ∷ [] → text ≡ text_of_record r → IsGrowth n bytes (Some texts)
 one_made n r bytes texts text is none fits hashed size are same = record {
   fit = subst (λ (rs : List Record). AllByRecursion IsRecord rs) (sym is) (fits, tt);
-  sum = size ∙ ap (λ (t : List ℕ). 5 + length t) same ∙ sym (one_takes r) ∙ ap taken_bytes (sym is);
+  sum = size ∙ ap (λ (t : List ℕ). 5 + length t) same ∙ sym (one_takes r) ∙ ap bytes_of_records (sym is);
   hashed = hashed;
   few = omega (arith, ap length is);
   written = ap (λ (rs : List Record). with_rest texts.items (given_of rs)) is ∙ ap (with_rest texts.items) none ∙ rest_none texts.items ∙ are ∙ ap (λ (t : List ℕ). t ∷ []) same ∙ ap (map text_of_record) (sym is);

@@ -19,7 +19,7 @@ use Rattle.depot_model.specs.Texts.{id_of_update}
 use Rattle.depot_values.specs.Values as values
 use Rattle.depot_values.specs.declared.values.Values.{Values}
 use Rattle.depot_accept.specs.StateView.{View, IsAsBefore, IsStateOf, setting}
-use Rattle.depot_readings.specs.ReadingsParts.{IsKeptOf, KeepsUp, MayKeep, StillKeeps}
+use Rattle.depot_readings.specs.ReadingsParts.{IsKeptOf, KeepsRecords, MayKeep, StillKeeps}
 use Rattle.depot_readings.specs.LeavesWith.{leaves_then}
 use Rattle.depot_readings.specs.Totals.{AreTotals, AreTaken}
 use Rattle.depot_readings.specs.declared.totals.Totals.{Totals}
@@ -59,7 +59,7 @@ same_setting {S} verifies v w same = ap (λ (x : View S). setting verifies x) sa
 pub may_still : {S : Type 0} (verifies : Verifies) (v w : View S) (kept : Values) (t : Totals) (new : List Record) → IsAsBefore v w → MayKeep verifies v kept t new → MayKeep verifies w kept t new
 may_still verifies v w kept t new same may = (may.0, (kept_still may.0 v w kept t same may.1.0, subst (λ (here : Setting). IsLawful here (may.0 ++ new)) (sym (same_setting verifies v w same)) may.1.1))
 
-pub keeps_still : {S : Type 0} (verifies : Verifies) (v w z : View S) (kept kept_then : Values) (t u : Totals) (new : List Record) → IsAsBefore v w → KeepsUp verifies w kept t new z kept_then u → KeepsUp verifies v kept t new z kept_then u
+pub keeps_still : {S : Type 0} (verifies : Verifies) (v w z : View S) (kept kept_then : Values) (t u : Totals) (new : List Record) → IsAsBefore v w → KeepsRecords verifies w kept t new z kept_then u → KeepsRecords verifies v kept t new z kept_then u
 keeps_still verifies v w z kept kept_then t u new same keeps = λ J k l. keeps J (kept_still J v w kept t same k) (subst (λ (here : Setting). IsLawful here (J ++ new)) (sym (same_setting verifies v w same)) l)
 
 -- ---- answers

@@ -19,7 +19,7 @@ use Rattle.depot_model.specs.Room.{foreign_leaves, takes_update, leaves_counted,
 use Rattle.depot_model.specs.Vouching.{records_of}
 use Rattle.depot_laws.proofs.Counts.{leaves_behind, taken_count}
 use Rattle.depot_laws.proofs.NewVouchers.{takes_none}
-use Rattle.depot_readings.specs.NewRecords.{taken_bytes, records_in, vouchers_of, IsGrowth, AreNew}
+use Rattle.depot_readings.specs.NewRecords.{bytes_of_records, records_in, vouchers_of, IsGrowth, AreNew}
 use Rattle.depot_readings.specs.LeavesWith.{leaves_then, leaves_with}
 use Rattle.depot_readings.specs.declared.news.News.{News}
 use Rattle.depot_readings.specs.declared.news.News.TheVariants as news
@@ -71,7 +71,7 @@ full_is_limit me J (r ∷ rs) records bytes leaves some long large counted = rw 
 -- ---- how large a growth may be
 
 -- a record takes at most 1,096,365 bytes
-bytes_short : (rs : List Record) → AllByRecursion IsRecord rs → taken_bytes rs ≤ 1096365 * length rs
+bytes_short : (rs : List Record) → AllByRecursion IsRecord rs → bytes_of_records rs ≤ 1096365 * length rs
 bytes_short [] fit = omega arith
 bytes_short (r ∷ rs) fit = let rest = bytes_short rs fit.1 in omega (arith, sum_by-cons (λ (x : Record). 5 + length (text_of_record x)) r rs, record_short r fit.0, rest)
 
@@ -84,6 +84,6 @@ growth_is_small news bytes texts g = let short = bytes_short (records_in news) g
 -- ---- the limits one by one
 
 -- and no fewer than those of its gates and lengths
-pub bytes_least : (rs : List Record) → 5 * length rs ≤ taken_bytes rs
+pub bytes_least : (rs : List Record) → 5 * length rs ≤ bytes_of_records rs
 bytes_least [] = omega arith
 bytes_least (r ∷ rs) = omega (arith, bytes_least rs, sum_by-cons (λ (x : Record). 5 + length (text_of_record x)) r rs)

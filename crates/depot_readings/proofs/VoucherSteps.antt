@@ -17,7 +17,7 @@ use Rattle.depot_values.specs.declared.values.Values.{Values}
 use Rattle.depot_vouch.specs.VouchedView.{AreWithin}
 use Rattle.depot_readings.specs.NewRecords.{vouchers_of, HasOwnId}
 use Rattle.depot_readings.specs.OwnIds.{AddsMine, HaveRoom}
-use Rattle.depot_readings.specs.ReadingsParts.{IsKeptOf, KeepsUp, MayKeep}
+use Rattle.depot_readings.specs.ReadingsParts.{IsKeptOf, KeepsRecords, MayKeep}
 use Rattle.depot_readings.specs.declared.news.NewVoucher.{NewVoucher}
 use Rattle.depot_readings.specs.declared.totals.Totals.{Totals}
 use Rattle.depot_readings.proofs.OwnIdLaws.{adds_more}
@@ -39,7 +39,7 @@ room_more xs i x old new low is front within more =
 
 -- of two lists of records one after the other
 keeps_more : {S : Type 0} (verifies : Verifies) (v w z : View S) (kept mid last : Values) (t u s : Totals) (front new : List Record) → setting verifies w ≡ setting verifies v
-    → KeepsUp verifies v kept t front w mid u → KeepsUp verifies w mid u new z last s → KeepsUp verifies v kept t (front ++ new) z last s
+    → KeepsRecords verifies v kept t front w mid u → KeepsRecords verifies w mid u new z last s → KeepsRecords verifies v kept t (front ++ new) z last s
 keeps_more verifies v w z kept mid last t u s front new stays one two = λ J k l.
     let whole : IsLawful (setting verifies v) ((J ++ front) ++ new) = subst (λ (K : List Record). IsLawful (setting verifies v) K) (sym (append_assoc J front new)) l in
     subst (λ (K : List Record). IsKeptOf K z last s) (append_assoc J front new) (two (J ++ front) (one J k (lawful_front (setting verifies v) (J ++ front) new whole)) (subst (λ (here : Setting). IsLawful here ((J ++ front) ++ new)) (sym stays) whole))
@@ -48,7 +48,7 @@ keeps_more verifies v w z kept mid last t u s front new stays one two = λ J k l
 pub record AreAdded {S : Type 0} (verifies : Verifies) (all left : List NewVoucher) (v w : View S) (kept kept_then : Values) (t u : Totals) (ids ids_then room : List (List ℕ)) : Type 0 where
   pub done : List NewVoucher
   pub split : done ++ left ≡ all
-  pub keeps : KeepsUp verifies v kept t (records_of (vouchers_of done)) w kept_then u
+  pub keeps : KeepsRecords verifies v kept t (records_of (vouchers_of done)) w kept_then u
   pub stays : setting verifies w ≡ setting verifies v
   pub spare : length left ≤ w.voucher_room
   pub mine : AddsMine ids (records_of (vouchers_of done)) ids_then
@@ -96,14 +96,14 @@ next_has_room verifies all left rest x v w kept kept_then t u ids ids_then room 
 
 -- and then one more is kept
 pub one_added : {S : Type 0} (verifies : Verifies) (all left rest : List NewVoucher) (x : NewVoucher) (v w z : View S) (kept mid last : Values) (t u s : Totals) (ids ids_mid ids_then room room_then : List (List ℕ))
-    → left ≡ x ∷ rest → AreAdded verifies all left v w kept mid t u ids ids_mid room → KeepsUp verifies w mid u (OwnVoucher x.voucher ∷ []) z last s → setting verifies z ≡ setting verifies w → z.voucher_room + 1 ≡ w.voucher_room
+    → left ≡ x ∷ rest → AreAdded verifies all left v w kept mid t u ids ids_mid room → KeepsRecords verifies w mid u (OwnVoucher x.voucher ∷ []) z last s → setting verifies z ≡ setting verifies w → z.voucher_room + 1 ≡ w.voucher_room
     → AddsMine ids_mid (OwnVoucher x.voucher ∷ []) ids_then → AreWithin room room_then → AreAdded verifies all rest v z kept last t s ids ids_then room_then
 one_added verifies all left rest x v w z kept mid last t u s ids ids_mid ids_then room room_then next a keeps stays spare mine within =
     let more : records_of (vouchers_of a.done) ++ OwnVoucher x.voucher ∷ [] ≡ records_of (vouchers_of (a.done ++ x ∷ [])) = sym (records_push a.done x) in
     record {
       done = a.done ++ x ∷ [];
       split = append_assoc a.done (x ∷ []) rest ∙ ap (λ (xs : List NewVoucher). a.done ++ xs) (sym next) ∙ a.split;
-      keeps = subst (λ (rs : List Record). KeepsUp verifies v kept t rs z last s) more (keeps_more verifies v w z kept mid last t u s (records_of (vouchers_of a.done)) (OwnVoucher x.voucher ∷ []) a.stays a.keeps keeps);
+      keeps = subst (λ (rs : List Record). KeepsRecords verifies v kept t rs z last s) more (keeps_more verifies v w z kept mid last t u s (records_of (vouchers_of a.done)) (OwnVoucher x.voucher ∷ []) a.stays a.keeps keeps);
       stays = stays ∙ a.stays;
       spare = omega (arith, a.spare, spare, ap length next);
       mine = subst (λ (rs : List Record). AddsMine ids rs ids_then) more (adds_more (records_of (vouchers_of a.done)) (OwnVoucher x.voucher ∷ []) ids ids_mid ids_then a.mine mine);
@@ -124,13 +124,13 @@ none_added verifies all left v kept t ids room same spare mine_room mine = subst
 
 -- after the last
 pub record AllAdded {S : Type 0} (verifies : Verifies) (all : List NewVoucher) (v w : View S) (kept kept_then : Values) (t u : Totals) (ids ids_then : List (List ℕ)) : Type 0 where
-  pub keeps : KeepsUp verifies v kept t (records_of (vouchers_of all)) w kept_then u
+  pub keeps : KeepsRecords verifies v kept t (records_of (vouchers_of all)) w kept_then u
   pub mine : AddsMine ids (records_of (vouchers_of all)) ids_then
 
 pub all_added : {S : Type 0} (verifies : Verifies) (all left : List NewVoucher) (v w : View S) (kept kept_then : Values) (t u : Totals) (ids ids_then room : List (List ℕ)) → length left ≡ 0 → AreAdded verifies all left v w kept kept_then t u ids ids_then room → AllAdded verifies all v w kept kept_then t u ids ids_then
 all_added verifies all left v w kept kept_then t u ids ids_then room none a =
     let done : a.done ≡ all = sym (append-nil a.done) ∙ ap (λ (xs : List NewVoucher). a.done ++ xs) (sym (none_left left none)) ∙ a.split in
     record {
-      keeps = subst (λ (xs : List NewVoucher). KeepsUp verifies v kept t (records_of (vouchers_of xs)) w kept_then u) done a.keeps;
+      keeps = subst (λ (xs : List NewVoucher). KeepsRecords verifies v kept t (records_of (vouchers_of xs)) w kept_then u) done a.keeps;
       mine = subst (λ (xs : List NewVoucher). AddsMine ids (records_of (vouchers_of xs)) ids_then) done a.mine;
     }

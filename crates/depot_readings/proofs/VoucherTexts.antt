@@ -11,7 +11,7 @@ use Rattle.depot_model.specs.Lists.{IsIn}
 use Rattle.depot_model.specs.Records.{IsRecord, text_of_record, IsTextOf}
 use Rattle.depot_model.specs.Vouching.{records_of}
 use Rattle.depot_model.proofs.Members.{all_at, all_from, all_push, from_map, in_right}
-use Rattle.depot_readings.specs.NewRecords.{HasOwnId, IsGrowth, taken_bytes, vouchers_of}
+use Rattle.depot_readings.specs.NewRecords.{HasOwnId, IsGrowth, bytes_of_records, vouchers_of}
 use Rattle.depot_readings.specs.declared.news.NewVoucher.{NewVoucher}
 use Rattle.depot_readings.specs.declared.news.News.TheVariants as news
 use Rattle.depot_readings.proofs.GrowthLaws.{vouchers_written}
@@ -22,7 +22,7 @@ pub record AreEncoded (all left : List Voucher) (items : List NewVoucher) (texts
   pub split : vouchers_of items ++ left ≡ all
   pub ids : AllByRecursion HasOwnId items
   pub are : texts ≡ map text_of_record (records_of (vouchers_of items))
-  pub sum : bytes ≡ taken_bytes (records_of (vouchers_of items))
+  pub sum : bytes ≡ bytes_of_records (records_of (vouchers_of items))
   pub small : bytes ≤ 1096365 * length items
 
 pub none_encoded : (all left : List Voucher) (items : List NewVoucher) (texts : List (List ℕ)) → left ≡ all → items ≡ [] → texts ≡ [] → AreEncoded all left items texts 0
@@ -54,7 +54,7 @@ one_encoded all left rest items texts bytes more v x text next e same own is siz
       ids = all_push HasOwnId items x e.ids own;
       are = ap (λ (ts : List (List ℕ)). ts ++ text ∷ []) e.are ∙ ap (λ (t : List ℕ). map text_of_record (records_of (vouchers_of items)) ++ t ∷ []) record_is
           ∙ sym (map-append text_of_record (records_of (vouchers_of items)) (OwnVoucher x.voucher ∷ [])) ∙ ap (map text_of_record) (sym pushed);
-      sum = omega (arith, e.sum, size, ap length record_is, sum_by-append (λ (r : Record). 5 + length (text_of_record r)) (records_of (vouchers_of items)) (OwnVoucher x.voucher ∷ []), ap taken_bytes pushed);
+      sum = omega (arith, e.sum, size, ap length record_is, sum_by-append (λ (r : Record). 5 + length (text_of_record r)) (records_of (vouchers_of items)) (OwnVoucher x.voucher ∷ []), ap bytes_of_records pushed);
       small = omega (arith, e.small, small, length-append items (x ∷ []));
     }
 

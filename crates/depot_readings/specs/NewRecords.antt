@@ -52,8 +52,8 @@ AreHashed (news.Vouchers xs) = AllByRecursion HasOwnId xs
 AreHashed other = Unit {0}
 
 -- the bytes that records take in a journal
-abbrev pub taken_bytes : List Record → ℕ
-taken_bytes new = sum_by (λ r. 5 + length (text_of_record r)) new
+abbrev pub bytes_of_records : List Record → ℕ
+bytes_of_records new = sum_by (λ r. 5 + length (text_of_record r)) new
 
 -- these are the texts of these records, but of a statement of another, which stands last, the tag alone
 abbrev pub AreWritten : List Record → Vec (List ℕ) → Type 0
@@ -62,7 +62,7 @@ AreWritten new texts = with_rest texts.items (given_of new) ≡ map text_of_reco
 -- The bytes are those of the records, no more than a journal may have, and each record has its hash; and so are the texts, where there are.
 pub record IsGrowth (news : News) (bytes : ℕ) (texts : Option (Vec (List ℕ))) : Type 0 where
   pub fit : AllByRecursion IsRecord (records_in news)
-  pub sum : bytes ≡ taken_bytes (records_in news)
+  pub sum : bytes ≡ bytes_of_records (records_in news)
   pub hashed : AreHashed news
   pub few : length (records_in news) ≤ MOST_RECORDS
   pub written : IfSome texts (AreWritten (records_in news))

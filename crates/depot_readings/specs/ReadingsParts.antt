@@ -30,8 +30,8 @@ abbrev pub MayKeep : {S : Type 0} → Verifies → View S → Values → Totals 
 MayKeep verifies v kept t new = (J : List Record) × (IsKeptOf J v kept t × IsLawful (setting verifies v) (J ++ new))
 
 -- Of whichever journal it was kept, now it is kept of that with these records after it.
-abbrev pub KeepsUp : {S : Type 0} → Verifies → View S → Values → Totals → List Record → View S → Values → Totals → Type 0
-KeepsUp verifies v kept t new w kept_then u = (J : List Record) → IsKeptOf J v kept t → IsLawful (setting verifies v) (J ++ new) → IsKeptOf (J ++ new) w kept_then u
+abbrev pub KeepsRecords : {S : Type 0} → Verifies → View S → Values → Totals → List Record → View S → Values → Totals → Type 0
+KeepsRecords verifies v kept t new w kept_then u = (J : List Record) → IsKeptOf J v kept t → IsLawful (setting verifies v) (J ++ new) → IsKeptOf (J ++ new) w kept_then u
 
 -- Of whichever journal it was kept, it is kept of that still.
 abbrev pub StillKeeps : {S : Type 0} → View S → Values → Totals → View S → Values → Totals → Type 0

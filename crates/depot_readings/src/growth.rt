@@ -10,7 +10,7 @@ ghost use Rattle.depot_base.specs.declared.statement.Statement.TheVariants as st
 ghost use Rattle.depot_model.specs.Records.{IsRecord, journal_bytes, text_of_record, IsTextOf};
 ghost use Rattle.depot_model.specs.Texts.{IsProof, IsSigned, id_of_statement, id_of_update, text_of_proof, text_of_signed};
 ghost use Rattle.depot_model.specs.Vouching.{records_of};
-ghost use Rattle.depot_readings.specs.NewRecords.{taken_bytes, records_in, IsGrowth};
+ghost use Rattle.depot_readings.specs.NewRecords.{bytes_of_records, records_in, IsGrowth};
 ghost use Rattle.depot_readings.specs.RecordTexts.{IsGiven, given_of};
 
 use crate::news::{NewVoucher, News, alone, with_tag};
@@ -250,7 +250,7 @@ impl Growth {
 
     /// How many bytes its records take in a journal. It takes no memory.
     pub fn bytes(&self) -> u64
-        ensures bytes { result ≡ taken_bytes self.now }
+        ensures bytes { result ≡ bytes_of_records self.now }
         ensures least { 5 * length self.now ≤ result }
         ensures small { result ≤ 2 ^ 38 }
         ensures behind { (J : List Record) → journal_bytes (J ++ self.now) ≡ journal_bytes J + result }

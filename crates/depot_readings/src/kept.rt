@@ -12,7 +12,7 @@ ghost use Rattle.depot_readings.specs.NewRecords.{records_in, vouchers_of, HasOw
 ghost use Rattle.depot_readings.specs.OwnIds.{AddsMine, HaveRoom};
 ghost use Rattle.depot_values.specs.Values.{held_in};
 ghost use Rattle.depot_readings.specs.AddedValues.{HasRoomForAll, AddsAll};
-ghost use Rattle.depot_readings.specs.ReadingsParts.{IsKeptOf, MayKeep, KeepsUp, StillKeeps};
+ghost use Rattle.depot_readings.specs.ReadingsParts.{IsKeptOf, MayKeep, KeepsRecords, StillKeeps};
 ghost use Rattle.depot_readings.specs.LeavesWith.{leaves_then, leaves_with};
 ghost use Rattle.depot_readings.specs.Totals.{AreTaken};
 
@@ -49,7 +49,7 @@ impl<S: Scheme> Kept<S> {
         requires hashed { AreHashed news }
         requires leaves { leaves ≡ leaves_with self.old.state.accepted self.old.totals.leaves (records_in news) }
         requires may { MayKeep S.verifies self.old.state self.old.values self.old.totals (records_in news) }
-        ensures ok { OnOk result (KeepsUp S.verifies self.old.state self.old.values self.old.totals (records_in news) self.new.state self.new.values self.new.totals) }
+        ensures ok { OnOk result (KeepsRecords S.verifies self.old.state self.old.values self.old.totals (records_in news) self.new.state self.new.values self.new.totals) }
         ensures err { OnErr result (StillKeeps self.old.state self.old.values self.old.totals self.new.state self.new.values self.new.totals) }
         ensures stays { setting S.verifies self.new.state ≡ setting S.verifies self.old.state }
         ensures mine { OnOk result (AddsMine mine.old.ids (records_in news) mine.new.ids) }
@@ -94,7 +94,7 @@ impl<S: Scheme> Kept<S> {
     ) -> Result<(), Memory>
         requires id { id ≡ id_of_update update }
         requires may { MayKeep S.verifies self.old.state self.old.values self.old.totals (OwnPut update values ∷ []) }
-        ensures ok { OnOk result (KeepsUp S.verifies self.old.state self.old.values self.old.totals (OwnPut update values ∷ []) self.new.state self.new.values self.new.totals) }
+        ensures ok { OnOk result (KeepsRecords S.verifies self.old.state self.old.values self.old.totals (OwnPut update values ∷ []) self.new.state self.new.values self.new.totals) }
         ensures err { OnErr result (StillKeeps self.old.state self.old.values self.old.totals self.new.state self.new.values self.new.totals) }
         ensures stays { setting S.verifies self.new.state ≡ setting S.verifies self.old.state }
     {
@@ -118,7 +118,7 @@ impl<S: Scheme> Kept<S> {
     ) -> Result<(), Memory>
         requires ids { AllByRecursion HasOwnId vouchers }
         requires may { MayKeep S.verifies self.old.state self.old.values self.old.totals (records_of (vouchers_of vouchers)) }
-        ensures ok { OnOk result (KeepsUp S.verifies self.old.state self.old.values self.old.totals (records_of (vouchers_of vouchers)) self.new.state self.new.values self.new.totals) }
+        ensures ok { OnOk result (KeepsRecords S.verifies self.old.state self.old.values self.old.totals (records_of (vouchers_of vouchers)) self.new.state self.new.values self.new.totals) }
         ensures err { OnErr result (StillKeeps self.old.state self.old.values self.old.totals self.new.state self.new.values self.new.totals) }
         ensures stays { setting S.verifies self.new.state ≡ setting S.verifies self.old.state }
         ensures mine { OnOk result (AddsMine mine.old.ids (records_of (vouchers_of vouchers)) mine.new.ids) }
@@ -137,7 +137,7 @@ impl<S: Scheme> Kept<S> {
         requires may { MayKeep S.verifies self.old.state self.old.values self.old.totals (records_of (vouchers_of vouchers.items)) }
         requires room { length vouchers.items ≤ self.old.state.voucher_room }
         requires mine_room { HaveRoom vouchers.items mine.old.room }
-        ensures kept { KeepsUp S.verifies self.old.state self.old.values self.old.totals (records_of (vouchers_of vouchers.items)) self.new.state self.new.values self.new.totals }
+        ensures kept { KeepsRecords S.verifies self.old.state self.old.values self.old.totals (records_of (vouchers_of vouchers.items)) self.new.state self.new.values self.new.totals }
         ensures stays { setting S.verifies self.new.state ≡ setting S.verifies self.old.state }
         ensures mine { AddsMine mine.old.ids (records_of (vouchers_of vouchers.items)) mine.new.ids }
     {
@@ -152,7 +152,7 @@ impl<S: Scheme> Kept<S> {
         requires may { MayKeep S.verifies self.old.state self.old.values self.old.totals (OwnVoucher item.voucher ∷ []) }
         requires room { 0 < self.old.state.voucher_room }
         requires mine_room { AreWithin item.voucher.ids mine.old.room }
-        ensures kept { KeepsUp S.verifies self.old.state self.old.values self.old.totals (OwnVoucher item.voucher ∷ []) self.new.state self.new.values self.new.totals }
+        ensures kept { KeepsRecords S.verifies self.old.state self.old.values self.old.totals (OwnVoucher item.voucher ∷ []) self.new.state self.new.values self.new.totals }
         ensures stays { setting S.verifies self.new.state ≡ setting S.verifies self.old.state }
         ensures room { self.new.state.voucher_room + 1 ≡ self.old.state.voucher_room }
         ensures mine { AddsMine mine.old.ids (OwnVoucher item.voucher ∷ []) mine.new.ids }
@@ -175,7 +175,7 @@ impl<S: Scheme> Kept<S> {
         requires id { id ≡ id_of_statement signed.statement }
         requires leaves { leaves ≡ leaves_then self.old.state.accepted self.old.totals.leaves signed.statement }
         requires may { MayKeep S.verifies self.old.state self.old.values self.old.totals (Foreign signed ∷ []) }
-        ensures ok { OnOk result (KeepsUp S.verifies self.old.state self.old.values self.old.totals (Foreign signed ∷ []) self.new.state self.new.values self.new.totals) }
+        ensures ok { OnOk result (KeepsRecords S.verifies self.old.state self.old.values self.old.totals (Foreign signed ∷ []) self.new.state self.new.values self.new.totals) }
         ensures err { OnErr result (StillKeeps self.old.state self.old.values self.old.totals self.new.state self.new.values self.new.totals) }
         ensures stays { setting S.verifies self.new.state ≡ setting S.verifies self.old.state }
     {
@@ -197,7 +197,7 @@ impl<S: Scheme> Kept<S> {
         requires id { id ≡ id_of_statement signed.statement }
         requires leaves { leaves ≡ leaves_then self.old.state.accepted self.old.totals.leaves signed.statement }
         requires may { MayKeep S.verifies self.old.state self.old.values self.old.totals (Conviction proof.now ∷ Foreign signed ∷ []) }
-        ensures ok { OnOk result (KeepsUp S.verifies self.old.state self.old.values self.old.totals (Conviction proof.now ∷ Foreign signed ∷ []) self.new.state self.new.values self.new.totals) }
+        ensures ok { OnOk result (KeepsRecords S.verifies self.old.state self.old.values self.old.totals (Conviction proof.now ∷ Foreign signed ∷ []) self.new.state self.new.values self.new.totals) }
         ensures err { OnErr result (StillKeeps self.old.state self.old.values self.old.totals self.new.state self.new.values self.new.totals) }
         ensures stays { setting S.verifies self.new.state ≡ setting S.verifies self.old.state }
     {
@@ -210,7 +210,7 @@ impl<S: Scheme> Kept<S> {
     /// Keeps a conviction. It takes no memory.
     fn convict(&mut self, proof: &Proof)
         requires { MayKeep S.verifies self.old.state self.old.values self.old.totals (Conviction proof.now ∷ []) }
-        ensures kept { KeepsUp S.verifies self.old.state self.old.values self.old.totals (Conviction proof.now ∷ []) self.new.state self.new.values self.new.totals }
+        ensures kept { KeepsRecords S.verifies self.old.state self.old.values self.old.totals (Conviction proof.now ∷ []) self.new.state self.new.values self.new.totals }
         ensures stays { setting S.verifies self.new.state ≡ setting S.verifies self.old.state }
     {
         self.state.convict(proof.accused());
@@ -220,7 +220,7 @@ impl<S: Scheme> Kept<S> {
     fn keep_held(&mut self, value: Value, hash: Hash32) -> Result<(), Memory>
         requires hash { hash ≡ sha256 value }
         requires may { MayKeep S.verifies self.old.state self.old.values self.old.totals (Held value ∷ []) }
-        ensures ok { OnOk result (KeepsUp S.verifies self.old.state self.old.values self.old.totals (Held value ∷ []) self.new.state self.new.values self.new.totals) }
+        ensures ok { OnOk result (KeepsRecords S.verifies self.old.state self.old.values self.old.totals (Held value ∷ []) self.new.state self.new.values self.new.totals) }
         ensures err { OnErr result (StillKeeps self.old.state self.old.values self.old.totals self.new.state self.new.values self.new.totals) }
         ensures stays { setting S.verifies self.new.state ≡ setting S.verifies self.old.state }
     {

@@ -1,6 +1,5 @@
 //! The receipts that an update gives.
 ghost use Rattle.std.specs.Prelude.{◌≡◌, IfOk, true, is_some};
-ghost use Rattle.depot_base.specs.Writes.{wrote_under};
 ghost use Rattle.depot_model.specs.ReadTests.{value_written};
 ghost use Rattle.depot_receipts.specs.GivenReceipts.{id_given, ids_given};
 

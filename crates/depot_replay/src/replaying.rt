@@ -14,7 +14,7 @@ use depot_outside::Sink;
 use depot_scenario::{Scenario, plain_signers, roster_of, winter_signers};
 use depot_schedule::{Events, Schedule};
 use depot_sign::{PlainScheme, Roster};
-use depot_simulation::{ReplayError, any_asks, begun, play_all};
+use depot_simulation::{ReplayError, any_asks_right_history, begun, play_all};
 use depot_winter::WinterScheme;
 use std::alloc::Global;
 
@@ -99,7 +99,7 @@ fn play_from<S: Scheme + Copy, G: Signer<Of = S>, K: Sink>(
         members: begin.members.as_slice(),
         signers,
     };
-    let asked = any_asks(events.as_slice());
+    let asked = any_asks_right_history(events.as_slice());
     let mut play = begun::<MemHost<S, &G>, S, G>(alloc, begin, &scenario, asked)?;
     play_all(&mut play, &scenario, events, out)
 }

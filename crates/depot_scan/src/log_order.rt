@@ -1,5 +1,5 @@
 //! What a log may lack and repeat: parents, and bodies.
-ghost use Rattle.std.specs.Prelude.{◌≡◌, IfOk, OnOk};
+ghost use Rattle.std.specs.Prelude.{IfOk, OnOk};
 ghost use Rattle.depot_scan.specs.Bodies.{updates};
 ghost use Rattle.depot_scan.specs.Ids.{IsBlank, IsUncovered};
 ghost use Rattle.depot_scan.specs.Ordering.{OrdersTo};

@@ -17,9 +17,9 @@ use Rattle.depot_model.specs.Lists.{IsIn, is_among}
 use Rattle.depot_model.proofs.Elements.{in_at}
 use Rattle.depot_model.proofs.Members.{among-append, among_from}
 use Rattle.depot_schedule.specs.declared.event.Event.{Event}
-use Rattle.depot_world.specs.Forgetting.{NameNot, labels_in}
+use Rattle.depot_world.specs.Forgetting.{NoneNames, labels_in}
 use Rattle.depot_scenario.specs.Labels.{named_in}
-use Rattle.depot_scenario.specs.LabelUses.{AreNoted, AreUses, AreUsesFrom, EndsUse, IsKeptUpTo, is_kept_before}
+use Rattle.depot_scenario.specs.LabelUses.{AreNoted, AreUses, AreUsesFrom, EndsUse, HasAtMost, has_below}
 use Rattle.depot_scenario.proofs.LabelTables.{named_once_changed, named_once_put}
 
 -- ---- the labels of one event
@@ -43,8 +43,8 @@ one_noted old before after front name place u noted label =
 pub none_used : (entries : List (Vec ℕ Global × ℕ)) (es : List Event) (end : ℕ) → length es ≡ end → AreUsesFrom end entries es
 none_used entries es end long place e label low at named = absurd (let within = slice_get_within es place e at in omega (arith, within, long, low))
 
-upto_from : (place : ℕ) (o p : Option ℕ) → o ≡ p → IsKeptUpTo place p → IsKeptUpTo place o
-upto_from place o p e up = subst (IsKeptUpTo place) (sym e) up
+upto_from : (place : ℕ) (o p : Option ℕ) → o ≡ p → HasAtMost place p → HasAtMost place o
+upto_from place o p e up = subst (HasAtMost place) (sym e) up
 
 pub one_used : (old new : List (Vec ℕ Global × ℕ)) (es : List Event) (i : ℕ) (e : Event) → 0 < i → i - 1 < length es → e ≡ get_or es (i - 1) e → AreNoted (labels_in e) (i - 1) old new → AreUsesFrom i old es → AreUsesFrom (i - 1) new es
 one_used old new es i e pos within is noted uses place x label low at named = by_test (is_among label (labels_in e)) refl where
@@ -59,7 +59,7 @@ one_used old new es i e pos within is noted uses place x label low at named = by
       let among : is_among label (labels_in e) ≡ true = among_from label (labels_in e) (subst (λ (y : Event). IsIn label (labels_in y)) same named) in
       absurd cc
 
-  by_test : (b : Bool) → is_among label (labels_in e) ≡ b → IsKeptUpTo place (named_in label new)
+  by_test : (b : Bool) → is_among label (labels_in e) ≡ b → HasAtMost place (named_in label new)
   by_test true among = upto_from place (named_in label new) (Some (i - 1)) (noted label ∙ ap (λ (b : Bool). cond b (Some (i - 1)) (named_in label old)) among) low
   by_test false other = upto_from place (named_in label new) (named_in label old) (noted label ∙ ap (λ (b : Bool). cond b (Some (i - 1)) (named_in label old)) other) (uses place x label (behind other (leb i place) refl) at named)
 
@@ -68,23 +68,23 @@ one_used old new es i e pos within is noted uses place x label low at named = by
 pub use_stays : (entries : List (Vec ℕ Global × ℕ)) (label : List ℕ) (many : ℕ) → EndsUse entries label many false entries
 use_stays entries label many es long uses = (uses, λ never. absurd cc)
 
-none_left : (many place : ℕ) (o : Option ℕ) → place < many → is_kept_before many o ≡ false → IsKeptUpTo place o → ⊥
+none_left : (many place : ℕ) (o : Option ℕ) → place < many → has_below many o ≡ false → HasAtMost place o → ⊥
 none_left many place None low none never = never
 none_left many place (Some n) low none up = let far : many ≤ n = grind (arith, nat_tests, none) in omega (arith, far, low, up)
 
-names_not : (entries : List (Vec ℕ Global × ℕ)) (es : List Event) (gone : List ℕ) → is_kept_before (length es) (named_in gone entries) ≡ false → AreUses entries es → NameNot es gone
+names_not : (entries : List (Vec ℕ Global × ℕ)) (es : List Event) (gone : List ℕ) → has_below (length es) (named_in gone entries) ≡ false → AreUses entries es → NoneNames es gone
 names_not entries es gone none uses e on named =
     let p = to_contains e es on in
     none_left (length es) p.0 (named_in gone entries) p.1 none (uses p.0 e gone (omega arith) (slice_get-get_or es p.0 e p.1 ∙ ap (λ (y : Event). Some y) p.2) named)
 
-pub use_ends : (old new : BTreeMap (Vec ℕ Global) ℕ) (gone : List ℕ) (many : ℕ) → UpdatesBy vec_cmp (λ k. slice_cmp nat_cmp gone k.items) old new None → is_kept_before many (named_in gone old.entries) ≡ false → EndsUse old.entries gone many true new.entries
+pub use_ends : (old new : BTreeMap (Vec ℕ Global) ℕ) (gone : List ℕ) (many : ℕ) → UpdatesBy vec_cmp (λ k. slice_cmp nat_cmp gone k.items) old new None → has_below many (named_in gone old.entries) ≡ false → EndsUse old.entries gone many true new.entries
 use_ends old new gone many u none es long uses = (kept, λ ended. not_named) where
-  not_named : NameNot es gone
-  not_named = names_not old.entries es gone (subst (λ (n : ℕ). is_kept_before n (named_in gone old.entries) ≡ false) (sym long) none) uses
+  not_named : NoneNames es gone
+  not_named = names_not old.entries es gone (subst (λ (n : ℕ). has_below n (named_in gone old.entries) ≡ false) (sym long) none) uses
 
   kept : AreUses new.entries es
   kept place e label low at named = by_label (bytes_eq gone label) refl where
-    by_label : (b : Bool) → bytes_eq gone label ≡ b → IsKeptUpTo place (named_in label new.entries)
+    by_label : (b : Bool) → bytes_eq gone label ≡ b → HasAtMost place (named_in label new.entries)
     by_label true same = absurd (not_named e (in_at es place e at) (subst (λ (l : List ℕ). IsIn l (labels_in e)) (sym ((bytes_eq-Decides gone label).0 same)) named))
     by_label false other = upto_from place (named_in label new.entries) (named_in label old.entries) (named_once_changed old new gone None u label ∙ ap (λ (b : Bool). cond b None (named_in label old.entries)) other) (uses place e label low at named)
 

@@ -4,22 +4,22 @@ use Rattle.std.specs.List.{slice_get}
 use Rattle.std.specs.declared.alloc.Global.{Global}
 use Rattle.depot_model.specs.Lists.{IsIn, is_among}
 use Rattle.depot_schedule.specs.declared.event.Event.{Event}
-use Rattle.depot_world.specs.Forgetting.{NameNot, labels_in}
+use Rattle.depot_world.specs.Forgetting.{NoneNames, labels_in}
 use Rattle.depot_scenario.specs.Labels.{named_in}
 
 -- there is a number, and it is no greater
-abbrev pub IsKeptUpTo : ℕ → Option ℕ → Type 0
-IsKeptUpTo most None = ⊥
-IsKeptUpTo most (Some n) = n ≤ most
+abbrev pub HasAtMost : ℕ → Option ℕ → Type 0
+HasAtMost most None = ⊥
+HasAtMost most (Some n) = n ≤ most
 
 -- whether there is a number, and it is less
-abbrev pub is_kept_before : ℕ → Option ℕ → Bool
-is_kept_before end None = false
-is_kept_before end (Some n) = nat_lt n end
+abbrev pub has_below : ℕ → Option ℕ → Bool
+has_below end None = false
+has_below end (Some n) = nat_lt n end
 
 -- Each label that an event at a place from this one on names is kept, with that place or one before it.
 abbrev pub AreUsesFrom : ℕ → List (Vec ℕ Global × ℕ) → List Event → Type 0
-AreUsesFrom from entries to_come = (place : ℕ) (e : Event) (label : List ℕ) → from ≤ place → slice_get to_come place ≡ Some e → IsIn label (labels_in e) → IsKeptUpTo place (named_in label entries)
+AreUsesFrom from entries to_come = (place : ℕ) (e : Event) (label : List ℕ) → from ≤ place → slice_get to_come place ≡ Some e → IsIn label (labels_in e) → HasAtMost place (named_in label entries)
 
 -- the same of each event
 abbrev pub AreUses : List (Vec ℕ Global × ℕ) → List Event → Type 0
@@ -31,4 +31,4 @@ AreNoted labels place old new = (label : List ℕ) → named_in label new ≡ (i
 
 -- Of whatever so many events are to come, what is kept is of their uses still, and none of them names a label whose use is ended.
 abbrev pub EndsUse : List (Vec ℕ Global × ℕ) → List ℕ → ℕ → Bool → List (Vec ℕ Global × ℕ) → Type 0
-EndsUse old label many ended new = (to_come : List Event) → length to_come ≡ many → AreUses old to_come → AreUses new to_come × (ended ≡ true → NameNot to_come label)
+EndsUse old label many ended new = (to_come : List Event) → length to_come ≡ many → AreUses old to_come → AreUses new to_come × (ended ≡ true → NoneNames to_come label)

@@ -12,16 +12,25 @@ pub fn labels_of<'a>(alloc: Global, event: &'a Event) -> Result<Vec<&'a Label>, 
     ensures { IfOk result (λ labels. map (λ label. label.now) labels.items ≡ labels_in event.now) }
 {
     match event {
-        Event::Hello { label, .. } => one(alloc, label),
+        Event::Hello { label, .. }
+        | Event::Give { label, .. }
+        | Event::Judge { label }
+        | Event::Raw { label, .. }
+        | Event::Checkpoint { label, .. }
+        | Event::Sign { label, .. }
+        | Event::Trim { label, .. }
+        | Event::Tgive { label, .. } => one(alloc, label),
         Event::Bundle { hello, label, .. } => two(alloc, hello, label),
-        Event::Give { label, .. } => one(alloc, label),
+        Event::Cut { label, source, .. } | Event::Flip { label, source, .. } => {
+            two(alloc, label, source)
+        }
         Event::Update {
             label,
             prev,
             deps,
             ..
-        } => of_update(alloc, label, prev, deps.as_slice()),
-        Event::Updates {
+        }
+        | Event::Updates {
             label,
             prev,
             deps,
@@ -33,27 +42,19 @@ pub fn labels_of<'a>(alloc: Global, event: &'a Event) -> Result<Vec<&'a Label>, 
             first,
             second,
             ..
+        }
+        | Event::Join {
+            label,
+            first,
+            second,
         } => three(alloc, label, first, second),
         Event::Hollow {
             label,
             voucher,
             text,
         } => three(alloc, label, voucher, text),
-        Event::Judge { label } => one(alloc, label),
-        Event::Raw { label, .. } => one(alloc, label),
-        Event::Cut { label, source, .. } => two(alloc, label, source),
-        Event::Flip { label, source, .. } => two(alloc, label, source),
-        Event::Join {
-            label,
-            first,
-            second,
-        } => three(alloc, label, first, second),
         Event::Receipt { refs, .. } => with_refs(Vec::new(alloc), refs.as_slice()),
         Event::Settled { reference, .. } => with_ref(Vec::new(alloc), reference),
-        Event::Checkpoint { label, .. } => one(alloc, label),
-        Event::Sign { label, .. } => one(alloc, label),
-        Event::Trim { label, .. } => one(alloc, label),
-        Event::Tgive { label, .. } => one(alloc, label),
         _ => Ok(Vec::new(alloc)),
     }
 }

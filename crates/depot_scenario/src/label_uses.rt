@@ -2,7 +2,7 @@
 ghost use Rattle.std.specs.Prelude.{◌≡◌, IfOk, OnOk};
 ghost use Rattle.depot_world.specs.Forgetting.{labels_in};
 ghost use Rattle.depot_scenario.specs.Labels.{named_in};
-ghost use Rattle.depot_scenario.specs.LabelUses.{AreNoted, AreUses, EndsUse, is_kept_before};
+ghost use Rattle.depot_scenario.specs.LabelUses.{AreNoted, AreUses, EndsUse, has_below};
 
 use crate::event_labels::labels_of;
 use depot_base::Memory;
@@ -59,7 +59,7 @@ impl LabelUses {
 
     /// Whether one of so many events to come names a label.
     fn is_named(&self, label: &Label, to_come: usize) -> bool
-        ensures { result ≡ is_kept_before to_come (named_in label.now self.now.map.entries) }
+        ensures { result ≡ has_below to_come (named_in label.now self.now.map.entries) }
     {
         match self.map.get(label.bytes()) {
             Some(behind) => *behind < to_come,

@@ -3,13 +3,10 @@ use Rattle.std.proofs.Common.{◌≡◌, ℕ, zero, suc, ◌+◌, ◌≤◌, ◌
 use Rattle.std.specs.Prelude.{find, option_and_then}
 use Rattle.std.specs.List.{list_any, list_all, zip}
 use Rattle.depot_model.specs.Audit.{closed}
+use Rattle.depot_model.proofs.Members.{map_same}
 use Rattle.depot_search.specs.Rows.{either_of, is_set, over, over_all, over_each, first_own}
 
 -- ---- rows
-
-pub same_map : {X Y : Type 0} (f g : X → Y) (xs : List X) → ((x : X) → f x ≡ g x) → map f xs ≡ map g xs
-same_map f g [] same = refl
-same_map f g (x ∷ xs) same = ap (λ (y : _). y ∷ map f xs) (same x) ∙ ap (λ (ys : List _). g x ∷ ys) (same_map f g xs same)
 
 map_map : {X Y Z : Type 0} (f : X → Y) (g : Y → Z) (xs : List X) → map g (map f xs) ≡ map (λ x. g (f x)) xs
 map_map f g [] = refl
@@ -53,7 +50,7 @@ or_false false = refl
 -- a row behind one more stop
 over_is : {X : Type 0} (f g : X → Bool) (xs : List X) (through : Bool) → cond through (either_of (map f xs) (map g xs)) (map f xs) ≡ map (λ b. f b || (through && g b)) xs
 over_is f g xs true = zip_map (λ a b. a || b) f g xs
-over_is f g xs false = same_map f (λ b. f b || false) xs (λ b. or_false (f b))
+over_is f g xs false = map_same f (λ b. f b || false) xs (λ b on. or_false (f b))
 
 over_row : {X : Type 0} (f : X → X → Bool) (k : ℕ) (xs : List X) (x : X) (rest : List X) (a : X) → drop k xs ≡ x ∷ rest
     → over (map (λ b. f a b) xs) (get_or (table_of f xs) k []) k ≡ map (λ b. f a b || (f a x && f x b)) xs
@@ -70,7 +67,7 @@ unfolding closed
 over_table edge k xs x e =
     let f = closed edge (drop (suc k) xs) in
     map_map (λ a. map (λ b. f a b) xs) (λ (row : List Bool). over row (get_or (table_of f xs) k []) k) xs
-    ∙ same_map (λ a. over (map (λ b. f a b) xs) (get_or (table_of f xs) k []) k) (λ a. map (λ b. f a b || (f a x && f x b)) xs) xs (λ a. over_row f k xs x (drop (suc k) xs) a e)
+    ∙ map_same (λ a. over (map (λ b. f a b) xs) (get_or (table_of f xs) k []) k) (λ a. map (λ b. f a b || (f a x && f x b)) xs) xs (λ a on. over_row f k xs x (drop (suc k) xs) a e)
     ∙ ap (λ (stops : List _). table_of (closed edge stops) xs) (sym e)
 
 -- behind all of them it is the closure

@@ -1,5 +1,5 @@
 //! The plain scheme, which anyone can forge.
-ghost use Rattle.std.specs.Prelude.{◌≡◌, ◌^◌, ℕ, List, nat_lt};
+ghost use Rattle.std.specs.Prelude.{◌≡◌, ◌^◌, nat_lt};
 ghost use Rattle.depot_model.specs.Plain.{plain_root, plain_signature, plain_verifies};
 ghost use Rattle.depot_sign.specs.PlainLaws.{signed_by_plain_verifies, length-plain_signature};
 

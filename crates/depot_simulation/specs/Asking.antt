@@ -18,7 +18,7 @@ asks_past prev deps history.Right = names_parents prev deps
 asks_past prev deps (history.Given h) = false
 
 -- an event asks for that of the update that it lets a faulty node sign
-abbrev pub asks : Event → Bool
-asks (event.Update label writer seq clock prev key value deps history) = asks_past prev deps history
-asks (event.Updates label writer seq clock prev changes deps history) = asks_past prev deps history
-asks e = false
+abbrev pub asks_right_history : Event → Bool
+asks_right_history (event.Update label writer seq clock prev key value deps history) = asks_past prev deps history
+asks_right_history (event.Updates label writer seq clock prev changes deps history) = asks_past prev deps history
+asks_right_history e = false

@@ -1,7 +1,7 @@
 //! Which events ask for right histories.
 ghost use Rattle.std.specs.Prelude.{◌≡◌};
 ghost use Rattle.std.specs.List.{list_any};
-ghost use Rattle.depot_simulation.specs.Asking.{asks, asks_past, names_parents};
+ghost use Rattle.depot_simulation.specs.Asking.{asks_right_history, asks_past, names_parents};
 
 use depot_schedule::{Event, HistoryWord, Ref};
 
@@ -29,8 +29,8 @@ fn asks_past(prev: &Option<Ref>, deps: &[Ref], history: HistoryWord) -> bool
 }
 
 /// Whether an event asks for the right history of an update with parents.
-fn asks(event: &Event) -> bool
-    ensures { result ≡ asks event.now }
+fn asks_right_history(event: &Event) -> bool
+    ensures { result ≡ asks_right_history event.now }
 {
     match event {
         Event::Update {
@@ -49,9 +49,9 @@ fn asks(event: &Event) -> bool
     }
 }
 
-/// Whether one of these events does.
-pub fn any_asks(events: &[Event]) -> bool
-    ensures { result ≡ list_any asks events.now }
+/// Whether one of these events asks for the right history of an update with parents.
+pub fn any_asks_right_history(events: &[Event]) -> bool
+    ensures { result ≡ list_any asks_right_history events.now }
 {
-    events.iter().any(|event| asks(event))
+    events.iter().any(|event| asks_right_history(event))
 }

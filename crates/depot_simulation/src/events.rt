@@ -2,7 +2,7 @@
 ghost use Rattle.std.specs.Prelude.{◌≡◌, true, IfOk};
 ghost use Rattle.depot_world.specs.Transcript.{done};
 ghost use Rattle.depot_scenario.specs.Scenarios.{MayHappen};
-ghost use Rattle.depot_simulation.specs.Asking.{asks};
+ghost use Rattle.depot_simulation.specs.Asking.{asks_right_history};
 ghost use Rattle.depot_simulation.specs.Playing.{IsPlayedOn};
 ghost use Rattle.depot_simulation.specs.EachRun.{PlaysEvent, SimulatesOn, SimulatesSoundOn};
 ghost use Rattle.depot_simulation.specs.Doing.{label_judged};
@@ -24,7 +24,7 @@ impl<A: Actor> Simulation<A> {
     ) -> Result<Bytes, Memory>
         requires may { MayHappen scenario.now.height scenario.now.members.now event.now }
         requires played { IsPlayedOn S.verifies G.key_of G.signature_of scenario.now A.view A.Reader.reads self.old }
-        requires asked { asks event.now ≡ true → self.old.seen.asked ≡ true }
+        requires asked { asks_right_history event.now ≡ true → self.old.seen.asked ≡ true }
         ensures lines { IfOk result (λ lines. PlaysEvent S.verifies G.key_of G.signature_of scenario.now A.view A.Reader.reads self.old event.now lines self.new) }
         ensures asked { self.new.seen.asked ≡ self.old.seen.asked }
     {
@@ -43,7 +43,7 @@ impl<A: Actor> Simulation<A> {
     ) -> Result<Bytes, Memory>
         requires may { MayHappen scenario.now.height scenario.now.members.now event.now }
         requires played { IsPlayedOn S.verifies G.key_of G.signature_of scenario.now A.view A.Reader.reads self.old }
-        requires asked { asks event.now ≡ true → self.old.seen.asked ≡ true }
+        requires asked { asks_right_history event.now ≡ true → self.old.seen.asked ≡ true }
         ensures lines { IfOk result (λ lines. SimulatesSoundOn S.verifies G.key_of G.signature_of scenario.now A.view A.Reader.reads self.old (λ setup run. done setup run event.now) lines self.new) }
         ensures asked { self.new.seen.asked ≡ self.old.seen.asked }
     {

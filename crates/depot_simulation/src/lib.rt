@@ -37,7 +37,7 @@ mod starts_fresh;
 mod updates;
 
 pub use actor::{Actor, EventOutcome};
-pub use asking::any_asks;
+pub use asking::any_asks_right_history;
 pub use participant::Participant;
 pub use playing::{begun, play_all, write};
 pub use readers::Readers;

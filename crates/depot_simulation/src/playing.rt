@@ -8,7 +8,7 @@ ghost use Rattle.depot_schedule.specs.declared.event.Event.{Event};
 ghost use Rattle.depot_world.specs.Run.{run_of};
 ghost use Rattle.depot_world.specs.Setups.{setup_of};
 ghost use Rattle.depot_scenario.specs.Scenarios.{IsScenarioOf, MayHappen};
-ghost use Rattle.depot_simulation.specs.Asking.{asks};
+ghost use Rattle.depot_simulation.specs.Asking.{asks_right_history};
 ghost use Rattle.depot_simulation.specs.Playing.{IsPlayedOn, IsSimulationAt, MayPlay};
 ghost use Rattle.depot_simulation.specs.EachRun.{OfEachPrinted, PlaysEvent, WritesFront, WritesLines};
 ghost use Rattle.depot_outside.specs.Told.{Wrote, WroteFront, sinks};
@@ -72,7 +72,7 @@ pub fn play_all<A: Actor, S: Scheme, G: Signer, K: Sink>(
     out: &mut K,
 ) -> Result<(), ReplayError>
     requires may { (e : Event) → IsIn e events → MayHappen scenario.now.height scenario.now.members.now e }
-    requires asked { (e : Event) → IsIn e events → asks e ≡ true → simulation.old.seen.asked ≡ true }
+    requires asked { (e : Event) → IsIn e events → asks_right_history e ≡ true → simulation.old.seen.asked ≡ true }
     requires played { MayPlay S.verifies G.key_of G.signature_of scenario.now events A.view A.Reader.reads simulation.old }
     ensures done { OfEachPrinted S.verifies G.key_of G.signature_of scenario.now events A.view A.Reader.reads simulation.old (λ text. OnOk result (Wrote (sinks K.Sink out.old out.new) text)) }
     ensures front { OfEachPrinted S.verifies G.key_of G.signature_of scenario.now events A.view A.Reader.reads simulation.old (λ text. OnErr result (WroteFront (sinks K.Sink out.old out.new) text)) }
@@ -103,7 +103,7 @@ fn play_one<A: Actor, S: Scheme, G: Signer, K: Sink>(
     out: &mut K,
 ) -> Result<(), ReplayError>
     requires may { MayHappen scenario.now.height scenario.now.members.now event.now }
-    requires asked { asks event.now ≡ true → simulation.old.seen.asked ≡ true }
+    requires asked { asks_right_history event.now ≡ true → simulation.old.seen.asked ≡ true }
     requires played { IsPlayedOn S.verifies G.key_of G.signature_of scenario.now A.view A.Reader.reads simulation.old }
     ensures done { OnOk result (WritesLines (PlaysEvent S.verifies G.key_of G.signature_of scenario.now A.view A.Reader.reads simulation.old event.now) (sinks K.Sink out.old out.new) simulation.new) }
     ensures front { OnErr result (WritesFront (PlaysEvent S.verifies G.key_of G.signature_of scenario.now A.view A.Reader.reads simulation.old event.now) (sinks K.Sink out.old out.new) simulation.new) }

@@ -10,7 +10,7 @@ ghost use Rattle.depot_world.specs.FaultySigning.{update_text};
 ghost use Rattle.depot_world.specs.Setups.{signs_on};
 ghost use Rattle.depot_world.specs.Transcript.{done};
 ghost use Rattle.depot_scenario.specs.Scenarios.{IsSomeScenario, MayHappen};
-ghost use Rattle.depot_simulation.specs.Asking.{asks};
+ghost use Rattle.depot_simulation.specs.Asking.{asks_right_history};
 ghost use Rattle.depot_simulation.specs.Doing.{is_signing, signed_text, signing_by, update_by, with_update};
 ghost use Rattle.depot_simulation.specs.Drafts.{HasLeaf, IsNumbered};
 ghost use Rattle.depot_simulation.specs.Playing.{IsPlayed, WereSeen};
@@ -41,7 +41,7 @@ impl<A: Actor> Simulation<A> {
         requires scenario { IsSomeScenario S.verifies G.key_of G.signature_of scenario.now }
         requires may { MayHappen scenario.now.height scenario.now.members.now event.now }
         requires played { IsPlayed A.view A.Reader.reads self.old }
-        requires asked { asks event.now ≡ true → self.old.seen.asked ≡ true }
+        requires asked { asks_right_history event.now ≡ true → self.old.seen.asked ≡ true }
         ensures lines { IfOk result (λ lines. SimulatesOn S.verifies G.key_of G.signature_of scenario.now A.view A.Reader.reads self.old (λ setup run. done setup run event.now) lines self.new) }
         ensures asked { self.new.seen.asked ≡ self.old.seen.asked }
     {
@@ -60,7 +60,7 @@ impl<A: Actor> Simulation<A> {
         requires scenario { IsSomeScenario S.verifies G.key_of G.signature_of scenario.now }
         requires may { MayHappen scenario.now.height scenario.now.members.now event.now }
         requires played { IsPlayed A.view A.Reader.reads self.old }
-        requires asked { asks event.now ≡ true → self.old.seen.asked ≡ true }
+        requires asked { asks_right_history event.now ≡ true → self.old.seen.asked ≡ true }
         ensures is { IfOk result (λ text. MakesOn S.verifies G.key_of G.signature_of scenario.now A.view A.Reader.reads self.old (λ setup run. signing_by setup run event.now) text) }
         ensures at { OnOk result (GoesTo A.view A.Reader.reads self.old (λ setup run. with_update run (update_by setup run event.now)) self.new) }
         ensures fits { IfOk result (λ text. IfSome text.signed IsSigned) }

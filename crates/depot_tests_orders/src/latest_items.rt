@@ -1,5 +1,5 @@
 //! Numbers, of which each precedes the greater ones of its own parity.
-ghost use Rattle.std.specs.Prelude.{◌≡◌, ◌<◌, ◌%◌, ◌⊎◌, ℕ};
+ghost use Rattle.std.specs.Prelude.{◌≡◌, ◌<◌, ◌%◌};
 
 use depot_base::{Key, Memory, Precedes, Steps};
 use depot_index::KeyIndex;

@@ -1,5 +1,4 @@
 //! Node 1 over a disk in memory, with a tree of four leaves.
-ghost use Rattle.std.specs.Prelude.{◌≡◌};
 
 use depot_base::{Bytes, Change, Changes, Hash32, Items, Key, LengthError, NodeId, Value};
 use depot_local::LocalNode;

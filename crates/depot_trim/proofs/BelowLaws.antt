@@ -24,7 +24,7 @@ use Rattle.depot_model.specs.Trimming.{below, is_latest_below, is_trimmed, trimm
 use Rattle.depot_model.proofs.Elements.{from_option, in_at, in_option}
 use Rattle.depot_model.proofs.LatestLaws.{one_latest_list}
 use Rattle.depot_model.proofs.LatestWrites.{latest_are_listed}
-use Rattle.depot_model.proofs.Members.{in_left, in_last, from_map, in_map, from_filter, in_filter, any_from, any_to}
+use Rattle.depot_model.proofs.Members.{in_left, in_last, from_map, in_map, map_same, from_filter, in_filter, any_from, any_to}
 use Rattle.depot_model.proofs.NamedIds.{has_id_from, has_id_to}
 use Rattle.depot_model.proofs.Orders.{one_of_id, parent_precedes, causal_front, causal_push, parents_of_last}
 use Rattle.depot_graph.proofs.Front.{apart}
@@ -122,15 +122,11 @@ latest_item key ns us item u c latest at = by_both (list_any (λ n. eqb n item) 
 
 -- ---- what is trimmed
 
-map_alike : {X Y : Type 0} (f g : X → Y) (xs : List X) → ((x : X) → IsIn x xs → f x ≡ g x) → map f xs ≡ map g xs
-map_alike f g [] same = refl
-map_alike f g (x ∷ xs) same = ap (λ (y : _). y ∷ map f xs) (same x (inl refl)) ∙ ap (λ (ys : List _). g x ∷ ys) (map_alike f g xs (λ y on. same y (inr on)))
-
 flags_over : (J : List Record) (ids : List (List ℕ)) → IsCausal [] (accepted J) → map (is_given_up_below (below J ids)) (accepted J) ≡ given_up (trimmed J ids) (accepted J)
 unfolding is_trimmed
 flags_over J ids c =
     let us = accepted J in
-    map_alike (is_given_up_below (below J ids)) (λ u. has_id (trimmed J ids) (id_of_update u)) us (λ u on.
+    map_same (is_given_up_below (below J ids)) (λ u. has_id (trimmed J ids) (id_of_update u)) us (λ u on.
     ap (λ (b : Bool). b && not (is_latest_below (below J ids) u)) (has_id_filter (is_covered us ids) us u c on) ∙ sym (has_id_filter (is_trimmed J ids) us u c on))
 
 -- of each update, whether it is given up below, is whether it is trimmed
@@ -140,7 +136,7 @@ flags_are here J ids us under lawful is are =
 
 -- with the marks of those that pass
 pub flags_of_test : (J : List Record) (ids : List (List ℕ)) → IsCausal [] (accepted J) → given_up (trimmed J ids) (accepted J) ≡ map (is_trimmed J ids) (accepted J)
-flags_of_test J ids c = map_alike (λ u. has_id (trimmed J ids) (id_of_update u)) (is_trimmed J ids) (accepted J) (λ u on. has_id_filter (is_trimmed J ids) (accepted J) u c on)
+flags_of_test J ids c = map_same (λ u. has_id (trimmed J ids) (id_of_update u)) (is_trimmed J ids) (accepted J) (λ u on. has_id_filter (is_trimmed J ids) (accepted J) u c on)
 
 -- ---- by an id
 

@@ -9,7 +9,7 @@ use Rattle.std.proofs.lemmas.Option.{slice_get_within}
 use Rattle.std.specs.List.{slice_get}
 use Rattle.depot_base.proofs.GeneralLaws.{from_pushed, to_pushed, same_at}
 use Rattle.depot_virtual.specs.declared.Spot.{Spot}
-use Rattle.depot_virtual.specs.Spots.{IsForest, is_item, has_child, chains_of, next_chain, place_behind, next_spot, spots, spots_behind, chains_in, IsTip}
+use Rattle.depot_virtual.specs.Spots.{IsForest, is_item, has_child, chains_of, next_chain, place_behind, next_spot, spots, spots_behind, chain_count, IsTip}
 use Rattle.depot_virtual.specs.Numbered.{AreSpotsNumbered}
 use Rattle.depot_virtual.proofs.SpotPlaces.{at_pushed, at_set, beside_set}
 use Rattle.depot_virtual.proofs.Placing.{spot_at, Placed, Continues, Starts, next_cases, chains_start, chains_continue, all_placed, spots_next}
@@ -267,7 +267,7 @@ by_child prevs placed tips item spot other n at tip differs true e = refl
 by_child prevs placed tips item spot other n at tip differs false e = let t : slice_get tips spot.chain ≡ Some item = n.tip item spot at e in let same : other ≡ item = cc in absurd (differs same)
 
 -- the prev isn't its chain's tip: a chain starts
-pub prev_taken : (prevs : List (Option ℕ)) (placed : List Spot) (tips : List ℕ) (item : ℕ) (spot : Spot) (other : ℕ) → AreSpotsNumbered prevs placed tips → slice_get placed item ≡ Some spot → slice_get tips spot.chain ≡ Some other → other ≢ item → next_spot prevs (spots prevs) (Some item) ≡ spot_at (chains_in prevs) 0
+pub prev_taken : (prevs : List (Option ℕ)) (placed : List Spot) (tips : List ℕ) (item : ℕ) (spot : Spot) (other : ℕ) → AreSpotsNumbered prevs placed tips → slice_get placed item ≡ Some spot → slice_get tips spot.chain ≡ Some other → other ≢ item → next_spot prevs (spots prevs) (Some item) ≡ spot_at (chain_count prevs) 0
 prev_taken prevs placed tips item spot other n at tip differs =
     subst (λ (l : List Spot). next_spot prevs l (Some item) ≡ spot_at (chains_of l) 0) n.same (by_child prevs placed tips item spot other n at tip differs (has_child prevs item) refl)
 

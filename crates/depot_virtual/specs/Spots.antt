@@ -58,12 +58,12 @@ abbrev pub IsSpotAt : List (Option ℕ) → ℕ → ℕ → ℕ → Type 0
 IsSpotAt prevs item chain place = slice_get (spots prevs) item ≡ Some (record { chain = chain; place = place })
 
 -- how many items with these spots a chain has
-abbrev pub spots_length : List Spot → ℕ → ℕ
-spots_length placed chain = count_by (λ s. s.chain == chain) placed
+abbrev pub spot_count : List Spot → ℕ → ℕ
+spot_count placed chain = count_by (λ s. s.chain == chain) placed
 
 -- how many chains there are
-abbrev pub chains_in : List (Option ℕ) → ℕ
-chains_in prevs = chains_of (spots prevs)
+abbrev pub chain_count : List (Option ℕ) → ℕ
+chain_count prevs = chains_of (spots prevs)
 
 -- the item is of the chain, and no later one is
 pub record IsTip (placed : List Spot) (chain item : ℕ) : Type 0 where

@@ -10,7 +10,7 @@
 
 ghost use Rattle.std.specs.Prelude.{◌≡◌, ◌<◌, ◌-◌, ◌≤◌, ◌==◌, ℕ, List, [], ◌∷◌, ◌++◌, length, Option, Some, slice_get, slice_set, OnOk, OnErr, IfOk, IfSome, IsOk, vec_len, if◌then◌else◌};
 ghost use Rattle.std.specs.Vec.{vec_capacity};
-ghost use Rattle.depot_virtual.specs.Spots.{IsForest, spots, next_spot, spots_length, chains_in, IsSpotAt, IsTip, LeadsBack};
+ghost use Rattle.depot_virtual.specs.Spots.{IsForest, spots, next_spot, spot_count, chain_count, IsSpotAt, IsTip, LeadsBack};
 
 use depot_base::Memory;
 use std::alloc::Global;
@@ -91,8 +91,8 @@ impl Chains {
         requires earlier { IfSome prev (λ item. item < length self.now.prevs) }
         requires few { length self.now.prevs < 4294967295 }
         ensures spot { result ≡ next_spot self.now.prevs (spots self.now.prevs) prev }
-        ensures chain { result.chain ≤ chains_in self.now.prevs }
-        ensures place { result.place ≡ spots_length (spots self.now.prevs) result.chain }
+        ensures chain { result.chain ≤ chain_count self.now.prevs }
+        ensures place { result.place ≡ spot_count (spots self.now.prevs) result.chain }
         ensures behind { 0 < result.place → (p : ℕ) × ((prev ≡ Some p) × IsSpotAt self.now.prevs p result.chain (result.place - 1)) }
     {
         self.next_spot(prev)
@@ -151,7 +151,7 @@ impl Chains {
 
     /// The last item of a chain. It takes no memory.
     pub fn tip(&self, chain: u32) -> u32
-        requires { chain < chains_in self.now.prevs }
+        requires { chain < chain_count self.now.prevs }
         ensures { IsTip (spots self.now.prevs) chain result }
     {
         self.tips[chain as usize]
@@ -159,7 +159,7 @@ impl Chains {
 
     /// How many chains there are. It takes no memory.
     pub fn chain_count(&self) -> u32
-        ensures count { result ≡ chains_in self.now.prevs }
+        ensures count { result ≡ chain_count self.now.prevs }
         ensures forest { IsForest self.now.prevs }
     {
         self.tips.len() as u32
@@ -185,6 +185,6 @@ pub fn one_chain_is_one_path()
     ensures path { (prevs : List (Option ℕ)) (chain a b i j : ℕ) → IsSpotAt prevs a chain i → IsSpotAt prevs b chain j → i < j → LeadsBack prevs (j - i) b a }
     ensures once { (prevs : List (Option ℕ)) (chain place a b : ℕ) → IsSpotAt prevs a chain place → IsSpotAt prevs b chain place → a ≡ b }
     ensures gapless { (prevs : List (Option ℕ)) (chain place lower a : ℕ) → IsSpotAt prevs a chain place → lower ≤ place → (b : ℕ) × IsSpotAt prevs b chain lower }
-    ensures started { (prevs : List (Option ℕ)) (chain : ℕ) → chain < chains_in prevs → (a : ℕ) × IsSpotAt prevs a chain 0 }
-    ensures counted { (prevs : List (Option ℕ)) (chain place a : ℕ) → IsSpotAt prevs a chain place → chain < chains_in prevs }
+    ensures started { (prevs : List (Option ℕ)) (chain : ℕ) → chain < chain_count prevs → (a : ℕ) × IsSpotAt prevs a chain 0 }
+    ensures counted { (prevs : List (Option ℕ)) (chain place a : ℕ) → IsSpotAt prevs a chain place → chain < chain_count prevs }
 {}

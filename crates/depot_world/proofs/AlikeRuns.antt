@@ -1,5 +1,5 @@
 -- A run goes on as one with fewer labels does, where no event to come names those that are gone.
-use Rattle.std.proofs.Common.{◌≡◌, ℕ, Bool, true, false, not, leb, cond, List, [], ◌∷◌, ◌++◌, codes, length, map, take, drop, Option, Some, None, Result, Ok, Err, option_map, refl, sym, ap, subst, ◌∙◌, inl, inr}
+use Rattle.std.proofs.Common.{◌≡◌, ℕ, Bool, true, false, not, leb, cond, List, [], ◌∷◌, ◌++◌, codes, length, take, drop, Option, Some, None, Result, Ok, Err, option_map, refl, sym, ap, subst, ◌∙◌, inl, inr}
 use Rattle.std.specs.Prelude.{option_and_then}
 use Rattle.std.specs.Option.{option_map_or}
 use Rattle.std.specs.Str.{bytes_eq}
@@ -25,6 +25,7 @@ use Rattle.depot_model.specs.ReaderFeeds.{reader_feed_of}
 use Rattle.depot_model.specs.Readers.{Reader, trim_of}
 use Rattle.depot_model.specs.Texts.{id_of_update}
 use Rattle.depot_model.specs.declared.judgement.JudgeError.{JudgeError}
+use Rattle.depot_model.proofs.Members.{map_same}
 use Rattle.depot_schedule.specs.EventWords.{first_or}
 use Rattle.depot_schedule.specs.declared.event.Event.{Event}
 use Rattle.depot_schedule.specs.declared.event.Event.TheVariants as event
@@ -35,7 +36,7 @@ use Rattle.depot_answers.specs.AnswerTexts.{spaced}
 use Rattle.depot_world.specs.Audits.{IsSound, audited}
 use Rattle.depot_world.specs.Effects.{put_by, get_by, hello_by, bundle_by, give_by, restart_by, settled_by, checkpoint_by, sign_by}
 use Rattle.depot_world.specs.FaultySigning.{Text, no_reference, counted_bytes, all_of, all_referred, prev_of_ref, updated, update_text, vouched_text, proof_with, proof_text, hollow_text, proof_in, flip_at}
-use Rattle.depot_world.specs.Forgetting.{labels_of_ref, labels_of_prev, labels_of_refs, labels_in, labels_without, with_labels, NameNot, NameTheSame, NameTheSameIn, IsAlikeFor, GoesAlike}
+use Rattle.depot_world.specs.Forgetting.{labels_of_ref, labels_of_prev, labels_of_refs, labels_in, labels_without, with_labels, NoneNames, NameTheSame, NameTheSameIn, IsAlikeFor, GoesAlike}
 use Rattle.depot_world.specs.Run.{Host, Labelled, Run, made_in, host_in, reader_in, bytes_of_label, signed_of, first_update, referred, plain_referred, id_referred, seen_with, world_by, with_host}
 use Rattle.depot_world.specs.ScheduleStops.{Effect, EventResult, event_result}
 use Rattle.depot_world.specs.Setups.{Setup, stands_on, signs_on}
@@ -95,10 +96,6 @@ id_same : (run : Run) (few : List Labelled) (r : Ref) → NameTheSame (labels_of
 unfolding id_referred
 id_same run few r same = rw (plain_same run few r same) (rw (referred_same run few r same) refl)
 
-mapped_same : {X Y : Type 0} (f g : X → Y) (xs : List X) → ((x : X) → IsIn x xs → f x ≡ g x) → map f xs ≡ map g xs
-mapped_same f g [] same = refl
-mapped_same f g (x ∷ xs) same = ap (λ (y : _). y ∷ map f xs) (same x (inl refl)) ∙ ap (λ (ys : _). g x ∷ ys) (mapped_same f g xs (λ y on. same y (inr on)))
-
 -- a label of one of these references is one of theirs
 of_one : (r : Ref) (refs : List Ref) (label : List ℕ) → IsIn r refs → IsIn label (labels_of_ref r) → IsIn label (labels_of_refs refs)
 of_one r [] label never on = absurd never
@@ -106,7 +103,7 @@ of_one r (x ∷ refs) label (inl here) on = in_left label (labels_of_ref x) (lab
 of_one r (x ∷ refs) label (inr there) on = in_right label (labels_of_ref x) (labels_of_refs refs) (of_one r refs label there on)
 
 all_referred_same : (run : Run) (few : List Labelled) (refs : List Ref) → NameTheSame (labels_of_refs refs) run.labels few → all_referred run refs ≡ all_referred (with_labels run few) refs
-all_referred_same run few refs same = ap all_of (mapped_same (referred run) (referred (with_labels run few)) refs (λ r on. referred_same run few r (λ label in_r. same label (of_one r refs label on in_r))))
+all_referred_same run few refs same = ap all_of (map_same (referred run) (referred (with_labels run few)) refs (λ r on. referred_same run few r (λ label in_r. same label (of_one r refs label on in_r))))
 
 prev_same : (run : Run) (few : List Labelled) (prev : Option Ref) → NameTheSame (labels_of_prev prev) run.labels few → prev_of_ref run prev ≡ prev_of_ref (with_labels run few) prev
 prev_same run few None same = refl
@@ -121,7 +118,7 @@ updated_same sign run few writer seq clock prev changes deps history of_prev of_
 
 vouched_same : (sign : Signs) (run : Run) (few : List Labelled) (writer seq : ℕ) (refs : List Ref) → NameTheSame (labels_of_refs refs) run.labels few → vouched_text sign run writer seq refs ≡ vouched_text sign (with_labels run few) writer seq refs
 unfolding vouched_text
-vouched_same sign run few writer seq refs same = rw (vouched_text, mapped_same (id_referred run) (id_referred (with_labels run few)) refs (λ r on. id_same run few r (λ label in_r. same label (of_one r refs label on in_r)))) refl
+vouched_same sign run few writer seq refs same = rw (vouched_text, map_same (id_referred run) (id_referred (with_labels run few)) refs (λ r on. id_same run few r (λ label in_r. same label (of_one r refs label on in_r)))) refl
 
 proof_same : (run : Run) (few : List Labelled) (kind : Kind) (a b : List ℕ) → NameTheSame (a ∷ b ∷ []) run.labels few → proof_text run kind a b ≡ proof_text (with_labels run few) kind a b
 unfolding proof_text
@@ -150,7 +147,7 @@ alike_further es whole some few a b = record {
 }
 
 -- what these events don't name may be gone
-pub alike_without : (es : List Event) (run : Run) (label : List ℕ) → NameNot es label → IsAlikeFor es run (with_labels run (labels_without label run.labels))
+pub alike_without : (es : List Event) (run : Run) (label : List ℕ) → NoneNames es label → IsAlikeFor es run (with_labels run (labels_without label run.labels))
 alike_without es run gone not_named = record {
   others = refl;
   named = λ e on label named. sym (made_without run.labels gone label ∙ by_test e on label named (bytes_eq gone label) refl);

@@ -50,8 +50,8 @@ labels_in (event.Tgive name label) = label ∷ []
 labels_in e = []
 
 -- none of these events names this label
-abbrev pub NameNot : List Event → List ℕ → Type 0
-NameNot es label = (e : Event) → IsIn e es → IsIn label (labels_in e) → ⊥
+abbrev pub NoneNames : List Event → List ℕ → Type 0
+NoneNames es label = (e : Event) → IsIn e es → IsIn label (labels_in e) → ⊥
 
 -- ---- runs
 

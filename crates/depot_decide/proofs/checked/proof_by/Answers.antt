@@ -8,8 +8,8 @@ kept-requires g c = found_is_kept c.args.state.now (setting g.S.Scheme.verifies 
 
 pub make_proof-requires-clause-contradict : goal.make_proof-requires-clause-contradict
 make_proof-requires-clause-contradict g c =
-    found_contradicts c.args.state.now (setting g.S.Scheme.verifies c.args.state.now) c.args.signed.now c.args.found c.kept.result.now c.kept.ensures.kept c.requires.due
+    found_contradicts c.args.state.now (setting g.S.Scheme.verifies c.args.state.now) c.args.signed.now c.args.found c.in_ok-kept.kept c.in_ok-kept.ensures.kept c.requires.due
 
 pub returns-clause-made : goal.returns-clause-made
 returns-clause-made g c =
-    IfOk-weaker c.make_proof.result _ _ (λ p is. due_by_found c.args.state.now c.args.signed.now c.args.found c.kept.result.now p c.kept.ensures.kept is) c.make_proof.ensures.made
+    IfOk-weaker c.make_proof.result _ _ (λ p is. due_by_found c.args.state.now c.args.signed.now c.args.found c.in_ok-kept.kept p c.in_ok-kept.ensures.kept is) c.make_proof.ensures.made

@@ -1,6 +1,6 @@
 use Rattle.std.proofs.Common.{◌≡◌, List, ℕ, length, sym, ap, subst, ◌∙◌}
 use Rattle.depot_model.specs.Items.{places_of}
-use Rattle.depot_virtual.specs.Spots.{chains_in}
+use Rattle.depot_virtual.specs.Spots.{chain_count}
 use Rattle.depot_graph.specs.Kept.{updates_in, prev_places}
 use Rattle.depot_graph.specs.UpdateRows.{IsJoinedRow}
 use Rattle.depot_readings.proofs.AcceptPlaceLaws.{as_many_places}
@@ -14,7 +14,7 @@ lacked-requires-clause-beside g c =
 pub lacked-requires-clause-row : goal.lacked-requires-clause-row
 lacked-requires-clause-row g c =
     let us = updates_in c.graph-graph.result.now.items.entries in
-    subst (λ (ns : List ℕ). length ns ≡ chains_in (prev_places us)) (sym c.as_slice-3.ensures.value) c.in_ok-row.ensures.long
+    subst (λ (ns : List ℕ). length ns ≡ chain_count (prev_places us)) (sym c.as_slice-3.ensures.value) c.in_ok-row.ensures.long
 
 pub returns : goal.returns
 returns g c =

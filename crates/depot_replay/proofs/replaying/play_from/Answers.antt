@@ -16,7 +16,7 @@ use Rattle.depot_world.specs.Transcript.{printed, transcript_of}
 use Rattle.depot_world.proofs.SoundRuns.{runs_are_sound}
 use Rattle.depot_scenario.specs.MemberSigners.{AreSigners, member_signers_of}
 use Rattle.depot_scenario.specs.Scenarios.{IsSet, MayHappen}
-use Rattle.depot_simulation.specs.Asking.{asks}
+use Rattle.depot_simulation.specs.Asking.{asks_right_history}
 use Rattle.depot_simulation.specs.Playing.{StaysSound}
 use Rattle.depot_simulation.proofs.BegunRuns.{schedule_may}
 use Rattle.depot_replay.specs.BegunSchedules.{with_events}
@@ -63,8 +63,8 @@ play_all-requires-clause-may g c = λ e on.
 
 pub play_all-requires-clause-asked : goal.play_all-requires-clause-asked
 play_all-requires-clause-asked g c = λ e on is.
-    let seen : list_any asks c.as_slice-2.result.now ≡ true = any_from asks e c.as_slice-2.result.now (subst (λ (es : List Event). IsIn e es) (sym c.as_slice-2.ensures) on) is in
-    c.in_ok-play.ensures.asked ∙ c.any_asks-asked.ensures ∙ seen
+    let seen : list_any asks_right_history c.as_slice-2.result.now ≡ true = any_from asks_right_history e c.as_slice-2.result.now (subst (λ (es : List Event). IsIn e es) (sym c.as_slice-2.ensures) on) is in
+    c.in_ok-play.ensures.asked ∙ c.any_asks_right_history-asked.ensures ∙ seen
 
 -- what is printed of its events is its transcript
 transcript_is : (s : Schedule) → printed (setup_of s) (run_of (setup_of s) s.members) s.events ≡ transcript_of s

@@ -13,7 +13,7 @@ use Rattle.depot_laws.proofs.OwnTexts.{lawful_is_light}
 use Rattle.depot_decide.specs.Deciding.{AreJoined}
 use Rattle.depot_journal.specs.declared.journal_error.AppendError.{AppendError}
 use Rattle.depot_journal.specs.declared.journal_error.AppendError.TheVariants as refused
-use Rattle.depot_readings.specs.NewRecords.{taken_bytes}
+use Rattle.depot_readings.specs.NewRecords.{bytes_of_records}
 use Rattle.depot_readings.specs.ReadingsView as readings
 use Rattle.depot_readings.specs.RecordTexts.{IsGiven, given_of}
 use Rattle.depot_readings.specs.ReadingsView.{Known}
@@ -149,7 +149,7 @@ returns-in-Ok-written-clause-call g c =
 -- ---- the disk failed
 
 -- nothing else can fail, for memory and room were found before
-failed : (g : Over) (c : After-count-self-inside g) (e : AppendError) → c.append_all-written.result ≡ Err e → length c.args.new ≤ c.reserve.new.self.room_records → taken_bytes c.args.new ≤ c.reserve.new.self.room_bytes + 5 * length c.args.new → IsErrOf c.append_all-written.result refused.Disk
+failed : (g : Over) (c : After-count-self-inside g) (e : AppendError) → c.append_all-written.result ≡ Err e → length c.args.new ≤ c.reserve.new.self.room_records → bytes_of_records c.args.new ≤ c.reserve.new.self.room_bytes + 5 * length c.args.new → IsErrOf c.append_all-written.result refused.Disk
 failed g c e is records bytes =
     disk_failed (node_setting g.S.Scheme.verifies c.args.self.now) c.reserve.new.self _ c.args.new (texts g c) c.append_all-written.result e is (mid_texts g c) (new_texts g c) (lawful_in g c) (covers c.reserve.new.self c.args.new (texts g c) (new_texts g c) records bytes)
     (c.reserve.ensures.running ∙ (whole_inside _ _ c.self.view_is c.requires.whole).runs) c.append_all-written.ensures.limits c.append_all-written.ensures.memory c.append_all-written.ensures.stopped

@@ -4,7 +4,7 @@ use Rattle.depot_base.proofs.Writing.{on_err_from}
 use Rattle.depot_model.specs.Vouching.{records_of}
 use Rattle.depot_readings.specs.NewRecords.{HasOwnId, vouchers_of}
 use Rattle.depot_readings.specs.OwnIds.{AddsMine, HaveRoom}
-use Rattle.depot_readings.specs.ReadingsParts.{KeepsUp, MayKeep, StillKeeps}
+use Rattle.depot_readings.specs.ReadingsParts.{KeepsRecords, MayKeep, StillKeeps}
 use Rattle.depot_readings.specs.declared.news.NewVoucher.{NewVoucher}
 use Rattle.depot_readings.proofs.BoundLaws.{few_vouchers}
 use Rattle.depot_readings.proofs.KeptLaws.{keeps_still, may_still, same_setting, same_state, still_keeps}
@@ -41,7 +41,7 @@ add_vouchers-requires-clause-room g c = omega (arith, c.in_ok-reserve_vouchers.e
 
 pub returns-clause-ok : goal.returns-clause-ok
 returns-clause-ok g c =
-    subst (λ (xs : List NewVoucher). KeepsUp g.S.Scheme.verifies c.args.self.now.state c.args.self.now.values c.args.self.now.totals (records_of (vouchers_of xs)) c.add_vouchers.new.self.state c.add_vouchers.new.self.values c.add_vouchers.new.self.totals) c.into_vec-vouchers.ensures
+    subst (λ (xs : List NewVoucher). KeepsRecords g.S.Scheme.verifies c.args.self.now.state c.args.self.now.values c.args.self.now.totals (records_of (vouchers_of xs)) c.add_vouchers.new.self.state c.add_vouchers.new.self.values c.add_vouchers.new.self.totals) c.into_vec-vouchers.ensures
     (keeps_still g.S.Scheme.verifies c.args.self.now.state c.reserve_vouchers.new.self _ _ _ _ _ (records_of (vouchers_of c.into_vec-vouchers.result.items)) c.reserve_vouchers.ensures.same c.add_vouchers.ensures.kept)
 
 pub returns-clause-stays : goal.returns-clause-stays

@@ -4,17 +4,21 @@ ghost use Rattle.depot_model.specs.Texts.{IsStatement, id_of_statement};
 ghost use Rattle.depot_model.specs.Contradictions.{kind_of};
 
 use crate::kinds::{have_one_body, kind_between};
-use depot_base::{Hash32, Kind, Signed, Statement};
+use depot_base::{Bytes, Hash32, Kind, Statement};
 
-/// A kept statement with its id.
+/// A kept statement with its signature and its id. Its text isn't kept: it is made of the statement where it is asked for.
 #[derive(Drop)]
-pub(crate) struct KeptEntry {
-    pub(crate) signed: Signed,
-    pub(crate) id: Hash32,
+pub struct KeptStatement {
+    /// The statement.
+    pub statement: Statement,
+    /// The signature, at most 8,192 bytes. Nothing is said of whether it verifies.
+    pub signature: Bytes,
+    /// SHA-256 of the statement's text.
+    pub id: Hash32,
 }
 
-impl KeptEntry {
-    ghost use Rattle.depot_fork.specs.Keeping.{IsEntry};
+impl KeptStatement {
+    ghost use Rattle.depot_fork.specs.Entries.{kept_signed, IsEntry};
     ghost use Rattle.depot_fork.specs.Opponents.{has_body_of};
 
     /// How a statement contradicts this one.
@@ -22,9 +26,9 @@ impl KeptEntry {
         requires entry { IsEntry self.now }
         requires text { IsStatement statement.now }
         requires id { id.now ≡ id_of_statement statement.now }
-        ensures { result ≡ kind_of self.now.signed.statement statement.now }
+        ensures { result ≡ kind_of self.now.statement statement.now }
     {
-        kind_between(&self.signed.statement, &self.id, statement, id)
+        kind_between(&self.statement, &self.id, statement, id)
     }
 
     /// Whether a statement has the same body as this one.
@@ -32,8 +36,8 @@ impl KeptEntry {
         requires entry { IsEntry self.now }
         requires text { IsStatement statement.now }
         requires id { id.now ≡ id_of_statement statement.now }
-        ensures { result ≡ has_body_of statement.now self.now.signed }
+        ensures { result ≡ has_body_of statement.now (kept_signed self.now) }
     {
-        have_one_body(&self.signed.statement, &self.id, statement, id)
+        have_one_body(&self.statement, &self.id, statement, id)
     }
 }

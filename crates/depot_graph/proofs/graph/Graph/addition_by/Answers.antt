@@ -2,7 +2,7 @@ use Rattle.std.proofs.Common.{◌∙◌, ap, map, List, ℕ, Option}
 use Rattle.depot_virtual.specs.Spots.{next_spot, spots}
 use Rattle.depot_graph.specs.Kept.{updates_in, prev_places}
 use Rattle.depot_graph.proofs.AddLaws.{leaves_from, children_from}
-use Rattle.depot_graph.proofs.graph.Graph.change_by.Goals as goal
+use Rattle.depot_graph.proofs.graph.Graph.addition_by.Goals as goal
 
 pub returns : goal.returns
 returns c =

@@ -1,8 +1,8 @@
-//! What an update changes in a graph.
+//! What an update adds to a graph.
 
 use depot_virtual::Spot;
 
-/// What an update changes, found before the first write.
+/// What an update adds, found before the first write.
 #[derive(Drop)]
 pub struct Addition {
     /// The item of its prev, if it has one.
