@@ -1,6 +1,6 @@
 #!/usr/bin/env python3
 """Runs the program over real files, folders and outputs that do what a fake doesn't, and says of each whether it ends with its status and
-its text: an output and a file that are full, folders where files should be, a limit on the length of files, under which a journal or a stored
+its text: an output and a file that are full, outputs that are closed, folders where files should be, a limit on the length of files, under which a journal or a stored
 file is cut short, and files of 1 GiB and more (without content, so that they take no room).
 
     python3 acceptance/devices.py
@@ -46,6 +46,17 @@ def ends(room, args, status, text, out=None, most=None):
 def a_full_output(room):
     place(room, ROSTER=LISTED, SCRIPT=PUT)
     return ends(room, words(1), 5, "", "/dev/full") and ends(room, words(1), 0, "put 6b -> 1/2\n")
+
+
+def a_closed_output(room):
+    """What is printed to a closed stream goes nowhere, and least of all into the journal. What was put stands."""
+    place(room, ROSTER=LISTED, SCRIPT=PUT)
+    for closed in (">&-", "<&- >&-", "<&- >&- 2>&-"):
+        ran = subprocess.run(["sh", "-c", f'exec "$0" "$@" {closed}', DEPOT, *words(1)], cwd=room)
+        if ran.returncode != 5 or not ends(room, words(1), 0, "put 6b -> 1/2\n"):
+            return False
+        os.remove(os.path.join(room, JOURNAL))
+    return True
 
 
 def a_folder_as_journal(room):
@@ -108,6 +119,7 @@ def a_long_script(room):
 
 CASES = (
     a_full_output,
+    a_closed_output,
     a_folder_as_journal,
     a_folder_as_file,
     a_folder_as_checkpoint,

@@ -1,6 +1,7 @@
 /* Loaded before the C library. Three kinds of calls are counted, each from 1 on: DISK, those that open and lock the file depot.journal, open and
    sync the current folder, and ask for the length of the file, read, write or sync it; OUTPUT, the writes to standard output; SHELF, those that
-   open any other file, measure, lock, cut, read or write it, and the one that looks whether it is the journal. The call of a kind that is named
+   open any other file, measure, lock, cut, read or write it, and the one that looks whether it is the journal. (The program holds the root
+   folder, so that no file gets the number of a closed stream: that isn't counted.) The call of a kind that is named
    by KIND_REFUSED (DISK_REFUSED and so on) fails. At the call DISK_STOPPED the machine stops, with the status 99: of what was written since the
    last sync the journal then has nothing where DISK_IMAGE is 0, all (the write of that call too) where it is 1, and as many bytes FF where it is
    2. Where it is 0 there is no journal either, if it was made in this run and the folder wasn't synced since; and until then the program isn't to
@@ -167,6 +168,7 @@ int open(const char *path, int flags, ...) {
     va_start(rest, flags);
     mode_t mode = va_arg(rest, mode_t);
     va_end(rest);
+    if (!strcmp(path, "/")) return real(path, flags, mode);
     if (strcmp(path, JOURNAL) && strcmp(path, ".")) {
         if (!is_refused_now) snprintf(shelf, sizeof shelf, "%s", path);
         return is_refused(SHELF, EACCES) ? -1 : real(path, flags, mode);

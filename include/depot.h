@@ -60,7 +60,8 @@ enum depot_operation {
     DEPOT_START = 3,    /* starts a node: number = its number, in = the journal's file, no bytes at the first start */
     DEPOT_END = 5,      /* ends it; roster and key stay for the next start */
     DEPOT_CLEAR = 7,    /* lets go of all */
-    /* the node */
+    /* the node; both puts refuse the keys of receipts (40 bytes that begin with `receipt:`) and of checkpoints (43 that
+     * begin with `checkpoint:`) with DEPOT_INPUT */
     DEPOT_PUT = 10,     /* number = length of the key, in = key and value; bytes: the id */
     DEPOT_PUTS = 19,    /* in = the changes in the words of a script: 6b31=76616c,6b32! */
     DEPOT_LATEST = 11,  /* number = place among the latest writes, in = key; bytes: WRITER/SEQ/CLOCK=HEX, =? or ! */
@@ -68,14 +69,16 @@ enum depot_operation {
     DEPOT_HELLO = 13,   /* bytes: the hello */
     DEPOT_BUNDLE = 14,  /* in = a hello; bytes: the bundle */
     DEPOT_FEED = 15,    /* in = a piece of a stream */
-    DEPOT_FEED_END = 16,/* ends the stream, be there memory or not; bytes: accepted N known N refused N HOW */
-    DEPOT_REFUSAL = 20, /* number = place among the refused frames; bytes: refused FRAME CHECK */
+    DEPOT_FEED_END = 16,/* ends the stream, be there memory or not; bytes: accepted N known N refused N HOW, where HOW is
+                         * `closed` if want of memory closed it */
+    DEPOT_REFUSAL = 20, /* number = place among the refused frames; bytes: a space, and refused FRAME CHECK */
     DEPOT_COUNT = 17,   /* number of the answer: how many records */
     DEPOT_RECORD = 18   /* number = place; bytes: the record */
 };
 
 /* The status of a call. Where it isn't 0 the bytes of the answer say why, in the words of the program's lines
- * (docs/TROUBLESHOOTING.md), or are none where the status says it all or no memory was found for them. */
+ * (docs/TROUBLESHOOTING.md), or are none where the status says it all or no memory was found for them. Up to 10 the
+ * numbers are the program's; 11 to 13 are this library's. */
 enum depot_status {
     DEPOT_DONE = 0,
     DEPOT_INPUT = 2,      /* the input isn't in its form: `at 12`, `IllFormed 7`, `ill-formed 40` */

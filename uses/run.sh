@@ -61,6 +61,8 @@ if command -v cc >/dev/null; then
         cc "${flags[@]}" -Wl,--wrap=pwrite,--wrap=fdatasync uses/tests/puts.c uses/tests/stop_at.c "${libraries[@]}" -o "$work/stops" &&
         check "stops in each call on the file" python3 -B uses/tests/stopping.py "$work/puts" "$work/stops" "$work/libdepot.so" \
             "$work/roster" "$one" 4 1 || status=1
+    check "puts under the keys of receipts and checkpoints, which are refused" python3 -B uses/tests/keys.py "$work/libdepot.so" \
+        "$work/roster" "$one" 4 1
     check "${OPERATIONS:-10000} commands by chance, as the program" python3 -B uses/tests/sessions.py "$work/libdepot.so" "${OPERATIONS:-10000}"
 else
     echo "left out uses: C and Python, for want of cc"

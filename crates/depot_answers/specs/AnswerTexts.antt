@@ -13,6 +13,7 @@ use Rattle.depot_model.specs.declared.record_fault.RecordFault.{RecordFault}
 use Rattle.depot_model.specs.declared.record_fault.RecordFault.TheVariants as record_fault
 use Rattle.depot_model.specs.declared.bundle.Counts.{Counts}
 use Rattle.depot_model.specs.declared.bundle.Refusal.{Refusal}
+use Rattle.depot_model.specs.declared.bundle.Report.{Report}
 use Rattle.depot_model.specs.declared.hello.Hello.{Hello}
 use Rattle.depot_model.specs.Audit.{Op, the_write, the_read, Finding, yes_found, unlawful, answer_found, circle_found, unordered_found, unseen_found, wrong_found, split_found, named_found}
 use Rattle.depot_model.specs.Contents.{Sighting, held_value, not_held, gone}
@@ -141,23 +142,26 @@ abbrev pub text_of_closing : Closing → List ℕ
 text_of_closing (ill_formed at) = text_of_number (codes "ill-formed") at
 text_of_closing (out_of_room f) = text_of_full f
 
--- how a stream ended that didn't close its feed
+-- how a stream ended; that its feed was closed is said where there are no words for why
 abbrev pub text_of_ending : Ending → List ℕ
-text_of_ending ending.Closed = []
+text_of_ending ending.Closed = codes "closed"
 text_of_ending ending.Whole = codes "whole"
 text_of_ending ending.More = codes "more"
 text_of_ending ending.Bare = codes "bare"
 text_of_ending (ending.Cut bytes) = text_of_number (codes "cut") bytes
 
-abbrev pub text_of_end : Feeding → List ℕ
-text_of_end s = elim s.closed [
-  | Some why ↦ text_of_closing why
-  | None ↦ text_of_ending (report_of s).ending
-]
+-- why a feed was closed, or else how its stream ended
+abbrev pub text_of_end : Option Closing → Ending → List ℕ
+text_of_end (Some why) how = text_of_closing why
+text_of_end None how = text_of_ending how
 
 -- how many frames were new, known and refused, and how the stream ended
+abbrev pub report_text : Report → Option Closing → List ℕ
+report_text r closed = text_of_number (codes "accepted") r.accepted ++ spaced (text_of_number (codes "known") r.known) ++ spaced (text_of_number (codes "refused") (length r.refused)) ++ spaced (text_of_end closed r.ending)
+
+-- what became of a stream that was fed
 unfoldable pub text_of_report : Feeding → List ℕ
-text_of_report s = text_of_number (codes "accepted") s.accepted ++ spaced (text_of_number (codes "known") s.known) ++ spaced (text_of_number (codes "refused") (length s.refused)) ++ spaced (text_of_end s)
+text_of_report s = report_text (report_of s) s.closed
 
 -- a refusal, on a line of its own: the number of the frame, and the check
 abbrev pub text_of_refused : Refusal → List ℕ

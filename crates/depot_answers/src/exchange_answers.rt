@@ -1,7 +1,6 @@
 //! Hellos, bundles, and what became of a stream.
 ghost use Rattle.std.specs.Prelude.{◌≡◌, ◌++◌, OnOk};
-ghost use Rattle.depot_model.specs.Feeding.{Feeding, report_of};
-ghost use Rattle.depot_answers.specs.AnswerTexts.{name_of_more, spaced, text_of_counts, text_of_end, text_of_ending, text_of_named, text_of_report};
+ghost use Rattle.depot_answers.specs.AnswerTexts.{name_of_more, report_text, spaced, text_of_counts, text_of_end, text_of_ending, text_of_named};
 ghost use Rattle.depot_answers.specs.Closings.{closing_of};
 
 use crate::limit_answers::full;
@@ -58,7 +57,7 @@ fn ending(alloc: Global, out: &mut Bytes, ending: Ending) -> Result<(), Memory>
     ensures { OnOk result (out.new ≡ out.old ++ text_of_ending ending) }
 {
     match ending {
-        Ending::Closed => Ok(()),
+        Ending::Closed => text(out, "closed"),
         Ending::Whole => text(out, "whole"),
         Ending::More => text(out, "more"),
         Ending::Bare => text(out, "bare"),
@@ -68,7 +67,7 @@ fn ending(alloc: Global, out: &mut Bytes, ending: Ending) -> Result<(), Memory>
 
 /// Why a feed was closed, or else how its stream ended.
 fn end(alloc: Global, out: &mut Bytes, closing: Option<Closing>, how: Ending) -> Result<(), Memory>
-    ensures { OnOk result ((s : Feeding) → s.closed ≡ closing_of closing → (report_of s).ending ≡ how → out.new ≡ out.old ++ text_of_end s) }
+    ensures { OnOk result (out.new ≡ out.old ++ text_of_end (closing_of closing) how) }
 {
     match closing {
         Some(Closing::IllFormed(at)) => numbered(alloc, out, "ill-formed", at),
@@ -78,16 +77,16 @@ fn end(alloc: Global, out: &mut Bytes, closing: Option<Closing>, how: Ending) ->
 }
 
 /// What became of the frames of a stream: how many were new, known and refused, and how the stream ended. `closing` is why the last
-/// piece closed its feed: where `FeedError::IllFormed` or `Full` answered it, and None where no piece was answered with an error.
-/// After Memory a front of that may have been added.
-#[tactic(auto, using(depot_base::proofs::Writing::texts), unfolding(crate::specs::AnswerTexts::text_of_report, depot_model::specs::Feeding::report_of))]
+/// piece closed its feed: where `FeedError::IllFormed` or `Full` answered it. Where another error did it is None, and the line ends in
+/// `closed`. After Memory a front of that may have been added.
+#[tactic(auto, using(depot_base::proofs::Writing::texts))]
 pub fn report(
     alloc: Global,
     out: &mut Bytes,
     report: &Report,
     closing: Option<Closing>,
 ) -> Result<(), Memory>
-    ensures { OnOk result ((s : Feeding) → report_of s ≡ report.now → s.closed ≡ closing_of closing → out.new ≡ out.old ++ text_of_report s) }
+    ensures { OnOk result (out.new ≡ out.old ++ report_text report.now (closing_of closing)) }
 {
     let refused = report.refused.as_slice().len();
     numbered(alloc, out, "accepted", report.accepted as u64)?;

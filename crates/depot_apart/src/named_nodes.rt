@@ -12,12 +12,9 @@ ghost use Rattle.depot_apart.specs.MetTexts.{AreTexts, AreToldBy};
 
 use crate::record_text::record_of;
 use crate::traced_nodes::has_node;
-use depot_base::{Bytes, Memory, Record};
+use depot_base::{Bytes, Memory, Record, RecordTag};
 use depot_traces::{Finding, Trace};
 use std::alloc::Global;
-
-/// The tag of a conviction's record.
-const CONVICTION: u8 = 5;
 
 /// The first conviction, nodes in the order of their traces, whose accused is one of the nodes: the node that keeps it, and the place of
 /// its record. Whether different texts have one hash doesn't matter.
@@ -64,12 +61,12 @@ fn first_place(alloc: Global, traces: &[&Trace], texts: &[Bytes]) -> Result<Opti
 /// Whether the record of a text does. Only the text of a conviction is decoded.
 fn is_against_one(alloc: Global, traces: &[&Trace], text: &[u8]) -> Result<bool, Memory>
     requires { (r : Record) × IsTextOf r text.now }
-    ensures { IfOk result (λ told. (r : Record) → IsTextOf r text.now → told ≡ accuses_one (nodes_in (map (λ t. t.now) traces.now)) r) }
+    ensures { IfOk result (λ found. (r : Record) → IsTextOf r text.now → found ≡ accuses_one (nodes_in (map (λ t. t.now) traces.now)) r) }
 {
     let [tag, ..] = text else {
         return Ok(false);
     };
-    if *tag != CONVICTION {
+    if *tag != RecordTag::Conviction.byte() {
         return Ok(false);
     }
     let item = record_of(alloc, text)?;

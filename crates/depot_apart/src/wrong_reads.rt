@@ -64,7 +64,7 @@ fn lists_unput(met: &Met, traces: &[&Trace], read: &ReadTrace) -> bool
     read.answer
         .as_slice()
         .iter()
-        .any(|told| is_unput(met, traces, &told.id))
+        .any(|listed| is_unput(met, traces, &listed.id))
 }
 
 /// Whether an update of this id is one of a node of the traces and isn't known as put.

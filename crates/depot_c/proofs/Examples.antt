@@ -1,5 +1,7 @@
 -- The definitions of this crate, by example.
-use Rattle.std.proofs.Common.{◌≡◌, true, false, Some, None, refl}
+use Rattle.std.proofs.Common.{◌≡◌, ◌++◌, replicate, true, false, codes, Some, None, refl, arith}
+use Rattle.depot_model.specs.Checkpoints.{is_checkpoint_key}
+use Rattle.depot_model.specs.Receipts.{receipt_of}
 use Rattle.depot_model.specs.declared.put_answers.PutError.TheVariants as put_error
 use Rattle.depot_feeds.specs.declared.feed_error.FeedError.TheVariants as feed_error
 use Rattle.depot_node.specs.declared.start_error.StartError.TheVariants as start_error
@@ -7,6 +9,7 @@ use Rattle.depot_gossip.specs.declared.bundle_error.BundleError.TheVariants as b
 use Rattle.depot_c.specs.Asked.{asked_by}
 use Rattle.depot_c.specs.Refusals.{number_of, refusal_outcome}
 use Rattle.depot_c.specs.NodeViews.{for_disk}
+use Rattle.depot_c.specs.Serving.{IsPutKey, is_reserved}
 use Rattle.depot_c.specs.declared.ask.Ask.TheVariants as ask
 use Rattle.depot_c.specs.declared.ask.NodeAsk.TheVariants as node_ask
 use Rattle.depot_c.specs.declared.refused.Refused.TheVariants as refused
@@ -34,3 +37,19 @@ a_limit_is_no_failure = refl
 
 a_status : number_of (refusal_outcome (refused.Start (start_error.Damaged 120))) ≡ 9
 a_status = refl
+
+a_plain_key : IsPutKey (codes "color")
+unfolding receipt_of is_checkpoint_key
+a_plain_key = ((omega arith, omega arith), refl)
+
+the_key_of_a_receipt : is_reserved (codes "receipt:" ++ replicate 32 0) ≡ true
+unfolding receipt_of is_checkpoint_key
+the_key_of_a_receipt = refl
+
+the_key_of_a_checkpoint : is_reserved (codes "checkpoint:" ++ replicate 32 0) ≡ true
+unfolding receipt_of is_checkpoint_key
+the_key_of_a_checkpoint = refl
+
+a_longer_key_is_plain : is_reserved (codes "receipt:" ++ replicate 33 0) ≡ false
+unfolding receipt_of is_checkpoint_key
+a_longer_key_is_plain = refl

@@ -1,9 +1,9 @@
 -- One call on a handle: what its caller sees of it.
-use Rattle.std.specs.Prelude.{◌≡◌, ◌-◌, ◌++◌, ℕ, List, Option, Some, None, Ok, Err, length, take, drop, min}
+use Rattle.std.specs.Prelude.{◌≡◌, ◌⊎◌, ◌-◌, ◌++◌, ℕ, List, [], Option, Some, None, Ok, Err, length, take, drop, min}
 use Rattle.depot_c.specs.Answering.{answer_bytes, number_in, seq_in, tally_in}
 use Rattle.depot_c.specs.Asked.{asked_by}
 use Rattle.depot_c.specs.Handles.{Does, HandleView, nothing_kept}
-use Rattle.depot_c.specs.Refusals.{IsTold, number_of, refusal_outcome, words_of}
+use Rattle.depot_c.specs.Refusals.{number_of, refusal_outcome, words_of}
 use Rattle.depot_c.specs.NodeViews.{CallAnswer}
 use Rattle.depot_c.specs.declared.answer.Answer.{Answer}
 use Rattle.depot_c.specs.declared.answer.Answer.TheVariants as answer
@@ -26,10 +26,14 @@ pub record IsCopied (bytes : List ℕ) (at : ℕ) (room : List ℕ) (count : ℕ
   pub many : count ≡ min (length bytes - at) (length room)
   pub copied : output ≡ take count (drop at bytes) ++ drop count room
 
+-- These words are kept as the answer; or no memory was found for them, and none are.
+abbrev pub KeepsWords : List ℕ → Answer → Type 0
+KeepsWords words kept = (kept ≡ answer.Text words) ⊎ (kept ≡ answer.Text [])
+
 -- The caller is told the status of what was answered, and the answer is kept: of a refusal its words.
 abbrev pub KeepsAnswer : CallAnswer → ℕ → Answer → Type 0
 KeepsAnswer (Ok a) status kept = (status ≡ number_of outcome.Done) × (kept ≡ a)
-KeepsAnswer (Err r) status kept = (status ≡ number_of (refusal_outcome r)) × IsTold (words_of r) (answer_bytes kept)
+KeepsAnswer (Err r) status kept = (status ≡ number_of (refusal_outcome r)) × KeepsWords (words_of r) kept
 
 -- What is asked is done, and the caller is told.
 pub record Performs (a : Ask) (n : ℕ) (input : List ℕ) (v : HandleView) (status : ℕ) (kept : Answer) (w : HandleView) : Type 0 where

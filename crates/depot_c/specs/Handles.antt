@@ -3,7 +3,7 @@ use Rattle.std.specs.Prelude.{◌≡◌, ◌≤◌, ◌⊎◌, ℕ, List, Bool, 
 use Rattle.depot_base.specs.declared.key.PublicKey.{PublicKey}
 use Rattle.depot_base.specs.declared.key.RosterEntry.{RosterEntry}
 use Rattle.depot_base.specs.declared.limits.TheConstants.{GREATEST_HEIGHT, LEAST_HEIGHT}
-use Rattle.depot_answers.specs.AnswerTexts.{text_of_refused, text_of_report}
+use Rattle.depot_answers.specs.AnswerTexts.{report_text, text_of_refused}
 use Rattle.depot_answers.specs.Closings.{closing_of}
 use Rattle.depot_answers.specs.declared.exchange_answers.Closing.{Closing}
 use Rattle.depot_answers.specs.declared.exchange_answers.Closing.TheVariants as closing
@@ -11,7 +11,6 @@ use Rattle.depot_feeds.specs.Pieces.{Feeds, Stream, at_work, no_stream, report_o
 use Rattle.depot_feeds.specs.declared.feed_error.FeedError.{FeedError}
 use Rattle.depot_feeds.specs.declared.feed_error.FeedError.TheVariants as feed_error
 use Rattle.depot_model.specs.Bundle.{Signs}
-use Rattle.depot_model.specs.Feeding.{Feeding, report_of}
 use Rattle.depot_model.specs.RosterText.{ParsesRoster}
 use Rattle.depot_model.specs.Winternitz.{winternitz_signature, winternitz_verifies}
 use Rattle.depot_model.specs.declared.bundle.Refusal.{Refusal}
@@ -97,6 +96,7 @@ pub record HasNotStarted (n : ℕ) (file : List ℕ) (v : HandleView) (r : Refus
   pub roster : v.listed ≡ Some listed
   pub kept : KeptSigner
   pub signer : v.kept ≡ Some kept
+  pub free : v.node_view ≡ None
   pub refused : IsRefusedOn (record { verifies = winternitz_verifies; me = n; listed = listed }) kept.key file r
 
 -- whether a node can be started: there are a roster and a signer, and no node yet
@@ -160,13 +160,14 @@ TakesFeed v (Err other) w = ⊥
 abbrev pub FeedsNode : HandleView → Stream → List ℕ → Result (Unit {0}) FeedError → Stream → HandleView → Type 0
 FeedsNode v f piece fed g w = IsSameButNode v w × AtNodeViews v.node_view w.node_view (λ s t. Stays s t × (RunsOn s (fed_as fed) t × Feeds s.here (at_work f s.records) piece fed g t.records))
 
--- The feed and the node after a piece.
+-- The feed was open, and this is it and the node after a piece.
 pub record HasFed (piece : List ℕ) (v : HandleView) (fed : Result (Unit {0}) FeedError) (closing : Option Closing) (w : HandleView) : Type 0 where
+  pub is_open : (stream_in v.feed).closed ≡ false
   pub stream : Stream
   pub nodes : AtNodeViews v.node_view w.node_view (λ s t. Stays s t × (RunsOn s (fed_as fed) t × Feeds s.here (at_work (stream_in v.feed) s.records) piece fed stream t.records))
   pub is : w ≡ record v { node_view = w.node_view; feed = Some stream; closing = closing }
 
--- A piece of a stream is fed. Order comes where there is no node, and where the stream was closed: it has to be ended first.
+-- A piece of a stream is fed. Order comes exactly where there is no node, or the stream was closed: it has to be ended first.
 abbrev pub FeedsHandle : List ℕ → HandleView → CallAnswer → HandleView → Type 0
 FeedsHandle piece v (Ok answer.Nothing) w = HasFed piece v (Ok tt) v.closing w
 FeedsHandle piece v (Err (refused.Feed e)) w = HasFed piece v (Err e) (closing_by e) w
@@ -174,9 +175,9 @@ FeedsHandle piece v (Err refused.Memory) w = w ≡ v
 FeedsHandle piece v (Err refused.Order) w = ((v.node_view ≡ None) ⊎ ((stream_in v.feed).closed ≡ true)) × (w ≡ v)
 FeedsHandle piece v other w = ⊥
 
--- what became of a stream, in the words of the program's lines: whatever feeding has this report and was closed for this
+-- what became of a stream that was closed for this, or for what has no words, in the words of the program's lines
 abbrev pub IsReport : Report → Option Closing → CallAnswer → Type 0
-IsReport report closing told = (s : Feeding) → report_of s ≡ report → s.closed ≡ closing_of closing → IsAnswerText (text_of_report s) told
+IsReport report closing told = IsAnswerText (report_text report (closing_of closing)) told
 
 -- The stream ends, and is told.
 abbrev pub EndsStream : Option Stream → HandleView → CallAnswer → HandleView → Type 0

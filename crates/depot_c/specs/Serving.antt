@@ -1,9 +1,11 @@
 -- What a call on a handle does.
-use Rattle.std.specs.Prelude.{◌≡◌, ◌≤◌, ℕ, List, [], Bool, true, false, Option, Some, None, Result, Ok, Err, length, take, drop}
+use Rattle.std.specs.Prelude.{◌≡◌, ◌≤◌, ℕ, List, [], Bool, true, false, ◌||◌, Option, Some, None, is_some, Result, Ok, Err, length, take, drop}
 use Rattle.depot_base.specs.Sized.{IsKey, IsValue}
 use Rattle.depot_base.specs.Writes.{one_change}
 use Rattle.depot_base.specs.declared.write.Change.{Change}
 use Rattle.depot_model.specs.Changes.{AreChanges}
+use Rattle.depot_model.specs.Checkpoints.{is_checkpoint_key}
+use Rattle.depot_model.specs.Receipts.{receipt_of}
 use Rattle.depot_lines.specs.Language.{nothing, next, split}
 use Rattle.depot_lines.specs.Vocabulary.{changes}
 use Rattle.depot_lines.specs.declared.changes.Keys.TheVariants as keys
@@ -16,12 +18,20 @@ use Rattle.depot_c.specs.declared.refused.Refused.TheVariants as refused
 
 -- ---- what the input is
 
--- it is a key, or it is none and the call is refused for that
-abbrev pub KeyGiven : List ℕ → Result (List ℕ) Refused → Type 0
-KeyGiven input (Ok key) = IsKey input × (key ≡ input)
-KeyGiven input (Err refused.Memory) = IsKey input
-KeyGiven input (Err refused.Input) = IsKey input → ⊥
-KeyGiven input (Err other) = ⊥
+-- a key of the form that receipts have, or checkpoints, which these alone write
+abbrev pub is_reserved : List ℕ → Bool
+is_reserved key = is_some (receipt_of key) || is_checkpoint_key key
+
+-- a key that a node may be asked to write
+abbrev pub IsPutKey : List ℕ → Type 0
+IsPutKey bytes = IsKey bytes × (is_reserved bytes ≡ false)
+
+-- it is a key of this kind, or it is none and the call is refused for that
+abbrev pub KeyGiven : (List ℕ → Type 0) → List ℕ → Result (List ℕ) Refused → Type 0
+KeyGiven Is input (Ok key) = Is input × (key ≡ input)
+KeyGiven Is input (Err refused.Memory) = Is input
+KeyGiven Is input (Err refused.Input) = Is input → ⊥
+KeyGiven Is input (Err other) = ⊥
 
 -- the changes of a word, as a script has it, where the input is one
 abbrev pub changes_read : Result (List Change × List (List ℕ)) LineFault → Option (List Change)
@@ -39,9 +49,9 @@ ChangesGiven input (Err other) = ⊥
 
 -- ---- what a node is asked
 
--- the front of the input, of this length, is a key, and what is behind it a value
+-- the front of the input, of this length, is a key that a node may be asked to write, and what is behind it a value
 abbrev pub IsPutInput : ℕ → List ℕ → Type 0
-IsPutInput n input = (n ≤ length input) × (IsKey (take n input) × IsValue (drop n input))
+IsPutInput n input = (n ≤ length input) × (IsPutKey (take n input) × IsValue (drop n input))
 
 -- A put of the key in front and the value behind it. Input comes exactly where they aren't in their form.
 abbrev pub PuttingAt : ℕ → List ℕ → NodeView → CallAnswer → NodeView → Type 0

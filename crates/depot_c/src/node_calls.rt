@@ -1,10 +1,11 @@
 //! What a node does for a caller.
 ghost use Rattle.std.specs.Prelude.{◌≡◌, false, option_copied};
+ghost use Rattle.depot_base.specs.Sized.{IsKey};
 ghost use Rattle.depot_base.specs.Writes.{one_change, wrote_under};
 ghost use Rattle.depot_answers.specs.AnswerTexts.{text_of_write};
 ghost use Rattle.depot_answers.specs.Sightings.{sighting_of_seen};
 ghost use Rattle.depot_c.specs.NodeViews.{Bundling, Helloing, IsPlaceOfShown, IsAnswerText, Putting, Reading, Recording, RunsOn, Stays, Valuing, sighting_of_write, sighting_of_value};
-ghost use Rattle.depot_c.specs.Serving.{AsksNode, ChangesGiven, KeyGiven, OfKey, PuttingAll, PuttingAt};
+ghost use Rattle.depot_c.specs.Serving.{AsksNode, ChangesGiven, IsPutKey, KeyGiven, OfKey, PuttingAll, PuttingAt};
 
 use crate::answer::Answer;
 use crate::ask::NodeAsk;
@@ -14,6 +15,7 @@ use depot_answers::{Seen, write};
 use depot_base::limits::MOST_VALUE;
 use depot_base::{Bytes, Changes, Key, LengthError, Update, Value, Wrote};
 use depot_gossip::{bundle, hello};
+use depot_lines::spelling::{is_checkpoint_key, is_receipt_key};
 use depot_lines::word_readers::changes;
 use depot_lines::{Keys, LineError, Parts};
 use depot_local::LocalNode;
@@ -22,13 +24,24 @@ use std::alloc::Global;
 
 /// The key that the input is.
 fn key_of(alloc: Global, input: &[u8]) -> Result<Key, Refused>
-    ensures { KeyGiven input.now result }
+    ensures { KeyGiven IsKey input.now result }
 {
     match Key::new(alloc, input) {
         Ok(key) => Ok(key),
         Err(LengthError::Memory) => Err(Refused::Memory),
         Err(LengthError::Length(_)) => Err(Refused::Input),
     }
+}
+
+/// The key that the input is, of those that a node may be asked to write. One that a receipt or a checkpoint has is refused: under it a caller
+/// would sign what nothing looked into.
+fn put_key_of(alloc: Global, input: &[u8]) -> Result<Key, Refused>
+    ensures { KeyGiven IsPutKey input.now result }
+{
+    if is_receipt_key(input) || is_checkpoint_key(input) {
+        return Err(Refused::Input);
+    }
+    key_of(alloc, input)
 }
 
 /// The changes that the input is the word of.
@@ -61,7 +74,7 @@ fn put_one(node: &mut Over, key: Key, value: Value) -> Result<Answer, Refused>
     }
 }
 
-/// Gives the key in front of the input the value behind it.
+/// Gives the key in front of the input the value behind it. Input where the front is no key that a node may be asked to write, or the rest no value.
 fn put(alloc: Global, node: &mut Over, length: u64, input: &[u8]) -> Result<Answer, Refused>
     ensures stays { Stays (⟦<Over as HasNodeView>⟧.node_view node.old) (⟦<Over as HasNodeView>⟧.node_view node.new) }
     ensures runs { RunsOn (⟦<Over as HasNodeView>⟧.node_view node.old) result (⟦<Over as HasNodeView>⟧.node_view node.new) }
@@ -74,7 +87,7 @@ fn put(alloc: Global, node: &mut Over, length: u64, input: &[u8]) -> Result<Answ
     if value.len() > MOST_VALUE {
         return Err(Refused::Input);
     }
-    let key = key_of(alloc, key)?;
+    let key = put_key_of(alloc, key)?;
     match Value::new(alloc, value) {
         Ok(value) => put_one(node, key, value),
         Err(LengthError::Memory) => Err(Refused::Memory),

@@ -28,7 +28,8 @@ pub enum CallOutcome {
 }
 
 impl CallOutcome {
-    /// Its number: the status of the program where that has one.
+    /// Its number. Up to 10 it is the status by which the program ends for the same; those above are of calls alone, and the 11 of the
+    /// program says something else.
     pub fn number(self) -> u64
         ensures { result ≡ number_of self }
     {

@@ -35,9 +35,10 @@ node_at listed id = record { verifies = winternitz_verifies; me = id; listed = l
 --
 -- Images: what a stop at any moment of the run leaves on the disk it left before, or it is a lawful journal that begins with the one that was
 -- there; where the script ended or met a limit, all that it leaves afterwards is one such journal. Lines, files and journal: over a lawful journal
--- of this node, or none, they are those of the definition, or the run is cut short; and behind the files of the first names the shelf was asked for
--- those of the commands that were carried out, and for nothing of a later one. Else the node is refused for its key, its roster or its journal, and
--- the shelf was asked for no more; where the roster hasn't its key the disk isn't touched.
+-- of this node, or none, they are those of the definition, or the run is cut short; what a stop at any moment of it leaves it left before, or it has
+-- that journal and a front of the records that the commands bring; and behind the files of the first names the shelf was asked for those of the
+-- commands that were carried out, and for nothing of a later one. Else the node is refused for its key, its roster or its journal, and the shelf was
+-- asked for no more; where the roster hasn't its key the disk isn't touched.
 pub record RunsScript (listed : List RosterEntry) (n : NodeWords) (commands : List line.Command) (first : List (List ℕ)) (disk : Disks) (shelf : Shelves) (calls : Asked) (sink : Sinks) (same_disk : Type 0) (ends : ScriptEnding) : Type 0 where
   pub images : IsTrue disk.tells → runs.KeepsFile (node_at listed n.id) disk
   pub stable : IsTrue disk.tells → (ends ≡ ending.Done) ⊎ (ends ≡ ending.Limit) → runs.Settles (node_at listed n.id) disk

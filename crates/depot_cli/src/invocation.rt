@@ -21,7 +21,7 @@ pub enum Invocation {
     Scan(Word, Key),
     /// `key SEED HEIGHT`: the root of a Winternitz key.
     Key(Hash32, Height),
-    /// `judge ROSTER PROOF`: whether a text proves a contradiction. The names of the roster and of the text.
+    /// `judge ROSTER PROOF`: whether a text convicts a node. The names of the roster and of the text.
     Judge(Word, Word),
     /// `replay SCHEDULE`: the transcript of a schedule. The name of the schedule.
     Replay(Word),

@@ -21,7 +21,7 @@ pub enum Status {
     Sink,
     /// No memory was found.
     Memory,
-    /// The text proves no contradiction.
+    /// The text convicts no node.
     NoProof,
     /// A node met a limit.
     Limit,

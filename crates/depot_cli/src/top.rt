@@ -52,7 +52,7 @@ fn run<F: Shelf, D: Disk, S: Sink>(
 /// Runs the program: does what the words ask for, writes its text to `out`, and says how the run ended. The first
 /// fault ends the run.
 ///
-/// The commands built so far are `scan LOG KEY`, `key SEED HEIGHT`, `judge ROSTER PROOF`, `replay SCHEDULE`, `load NUMBER`,
+/// The commands are `scan LOG KEY`, `key SEED HEIGHT`, `judge ROSTER PROOF`, `replay SCHEDULE`, `load NUMBER`,
 /// `node ROSTER SEED HEIGHT ID SCRIPT` and `audit ROSTER TRACE..`; other words are refused as Words. `docs/FORMATS.md` has each text that is
 /// printed, and `docs/PROMISES.md` the clauses in plain words.
 pub fn depot<F: Shelf, D: Disk, S: Sink>(

@@ -17,13 +17,13 @@ most_frame = 5 + MOST_PAYLOAD
 unfoldable pub bytes_missing : List ℕ → ℕ
 bytes_missing bytes = if nat_lt (length bytes) 5 then 1 else (5 + from_be_bytes w32 (take 4 (drop 1 bytes))) - length bytes
 
--- what is told of the bytes from a frame's start on is what stands there
-abbrev pub TellsStart : FrameAt → FrameStart → Type 0
-TellsStart at starts.Open = at ≡ open_frame
-TellsStart at (starts.Whole tag payload) = at ≡ whole_frame (record { tag = frame_byte tag; payload = payload.now })
-TellsStart at starts.Nothing = at ≡ no_frame
+-- this is what stands there, from a frame's start on
+abbrev pub IsFrameStart : FrameAt → FrameStart → Type 0
+IsFrameStart at starts.Open = at ≡ open_frame
+IsFrameStart at (starts.Whole tag payload) = at ≡ whole_frame (record { tag = frame_byte tag; payload = payload.now })
+IsFrameStart at starts.Nothing = at ≡ no_frame
 
--- what is told of a place of a stream is what stands there: a frame by its tag, and by the place behind its five bytes and its payload
+-- this is what stands at a place of a stream: a frame by its tag, and by the place behind its five bytes and its payload
 abbrev pub StandsAt : FrameAt → ℕ → Place → Type 0
 StandsAt found at place.Open = found ≡ open_frame
 StandsAt found at (place.Frame tag end) = (payload : List ℕ) × ((found ≡ whole_frame (record { tag = frame_byte tag; payload = payload })) × (end ≡ at + (5 + length payload)))

@@ -39,7 +39,7 @@ frames_under tag texts = map (λ t. record { tag = tag; payload = t }) texts
 
 -- the frames of the texts of statements, and of the values behind them
 abbrev pub parcel_frames : List (List ℕ) → List (List ℕ) → List Frame
-parcel_frames told values = frames_under 2 told ++ frames_under 3 values
+parcel_frames statements values = frames_under 2 statements ++ frames_under 3 values
 
 -- what is chosen is short enough
 pub record IsShort (s : Sending) : Type 0 where
@@ -47,19 +47,19 @@ pub record IsShort (s : Sending) : Type 0 where
   pub few : s.updates + s.values ≤ MOST_BUNDLE_FRAMES
 
 -- these frames stand behind those before them
-pub record HasAdded (s t : Sending) (told behind : List (List ℕ)) : Type 0 where
-  pub frames : t.frames ≡ s.frames ++ flat_map text_of_frame (parcel_frames told behind)
-  pub updates : t.updates ≡ s.updates + length told
+pub record HasAdded (s t : Sending) (statements behind : List (List ℕ)) : Type 0 where
+  pub frames : t.frames ≡ s.frames ++ flat_map text_of_frame (parcel_frames statements behind)
+  pub updates : t.updates ≡ s.updates + length statements
   pub values : t.values ≡ s.values + length behind
   pub ids : t.ids ≡ s.ids
   pub short : IsShort t
 
 -- with these frames it would be too long
-pub record HasNoRoom (s : Sending) (told values : List (List ℕ)) : Type 0 where
-  pub over : length s.frames + bytes_of_frames (parcel_frames told values) ≤ MOST_BUNDLE → s.updates + s.values + length (parcel_frames told values) ≤ MOST_BUNDLE_FRAMES → ⊥
+pub record HasNoRoom (s : Sending) (statements values : List (List ℕ)) : Type 0 where
+  pub over : length s.frames + bytes_of_frames (parcel_frames statements values) ≤ MOST_BUNDLE → s.updates + s.values + length (parcel_frames statements values) ≤ MOST_BUNDLE_FRAMES → ⊥
 
 -- the frames were added, or there is no room for them
 abbrev pub Adds : {E : Type 0} → Sending → List (List ℕ) → List (List ℕ) → Result Bool E → Sending → Type 0
-Adds s told values (Ok true) t = HasAdded s t told values
-Adds s told values (Ok false) t = (t ≡ s) × HasNoRoom s told values
-Adds s told values (Err e) t = Unit {0}
+Adds s statements values (Ok true) t = HasAdded s t statements values
+Adds s statements values (Ok false) t = (t ≡ s) × HasNoRoom s statements values
+Adds s statements values (Err e) t = Unit {0}

@@ -3,7 +3,7 @@ ghost use Rattle.std.specs.Prelude.{◌≡◌, ◌≤◌, ◌++◌, ◌-◌, tak
 ghost use Rattle.std.specs.Int.{w32, from_be_bytes};
 ghost use Rattle.depot_base.specs.Tags.{frame_byte};
 ghost use Rattle.depot_model.specs.Frames.{frame_at, least_length, most_length, is_no_flag, goes_astray};
-ghost use Rattle.depot_frames.specs.FrameHeads.{bytes_missing, TellsStart, StandsAt};
+ghost use Rattle.depot_frames.specs.FrameHeads.{bytes_missing, IsFrameStart, StandsAt};
 
 use depot_base::FrameTag;
 use depot_base::limits::MOST_PAYLOAD;
@@ -97,10 +97,10 @@ fn goes_astray(tag: FrameTag, bytes: &[u8]) -> bool
     !within || (tag == FrameTag::End && is_no_flag(bytes.get(4..).unwrap_or(&[])))
 }
 
-/// What these bytes are, from the start of a frame on. That they are no frame's is told at the first byte that decides it.
+/// What these bytes are, from the start of a frame on. That they are no frame's is said at the first byte that decides it.
 #[tactic(auto, unfolding(depot_model::specs::Frames::frame_at))]
 pub fn frame_start(bytes: &[u8]) -> FrameStart<'_>
-    ensures { TellsStart (frame_at bytes.now) result }
+    ensures { IsFrameStart (frame_at bytes.now) result }
 {
     let [tag, rest @ ..] = bytes else {
         return FrameStart::Open;

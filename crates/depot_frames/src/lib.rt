@@ -1,7 +1,7 @@
 //! The texts that nodes send one another, and a bundle's frames as they are chosen.
 //!
 //! A hello is read and written in one way. A frame is a tag, the length of its payload and the payload; what stands at the start of
-//! bytes is told at the first byte that decides it, and so is how many bytes may come in one go before a frame can end.
+//! bytes is said at the first byte that decides it, and so is how many bytes may come in one go before a frame can end.
 //!
 //! A `Sending` is seen as what it has: the frames of updates and values, one behind another, their numbers, and the ids of the
 //! updates of others among them. A statement is added with the values behind it, and only where all of them fit into a bundle.

@@ -68,21 +68,23 @@ impl Sending {
 
     /// Adds the frames of signed statements, and those of the values behind them, where all fit into a bundle behind what is
     /// chosen: at most 17 of them. Says whether they do. Where they don't, nothing is added.
-    pub fn add(&mut self, told: &[&[u8]], values: &[&[u8]]) -> Result<bool, Memory>
+    pub fn add(&mut self, statements: &[&[u8]], values: &[&[u8]]) -> Result<bool, Memory>
         requires short { IsShort self.old }
-        requires few { length told.now + length values.now ≤ 1 + MOST_WRITES }
-        requires told { ArePayloads (payloads_of told.now) }
+        requires few { length statements.now + length values.now ≤ 1 + MOST_WRITES }
+        requires told { ArePayloads (payloads_of statements.now) }
         requires values { ArePayloads (payloads_of values.now) }
-        ensures { Adds self.old (payloads_of told.now) (payloads_of values.now) result self.new }
+        ensures { Adds self.old (payloads_of statements.now) (payloads_of values.now) result self.new }
     {
-        let bytes = self.frames.as_slice().len() + frames_length(told) + frames_length(values);
-        let count = (self.updates + self.values) as usize + told.len() + values.len();
+        let bytes = self.frames.as_slice().len()
+            + frames_length(statements)
+            + frames_length(values);
+        let count = (self.updates + self.values) as usize + statements.len() + values.len();
         if bytes > MOST_BUNDLE as usize || count > MOST_BUNDLE_FRAMES as usize {
             return Ok(false);
         }
-        put_frames(&mut self.frames, FrameTag::Statement, told)?;
+        put_frames(&mut self.frames, FrameTag::Statement, statements)?;
         put_frames(&mut self.frames, FrameTag::Value, values)?;
-        self.updates += told.len() as u32;
+        self.updates += statements.len() as u32;
         self.values += values.len() as u32;
         Ok(true)
     }

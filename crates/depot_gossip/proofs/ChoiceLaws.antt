@@ -35,7 +35,7 @@ use Rattle.depot_laws.proofs.WantedValues.{value_fits}
 use Rattle.depot_laws.proofs.Candidates.{signed_fits}
 use Rattle.depot_base.proofs.GeneralLaws.{get_last, flat_push, or_swap, take_next}
 use Rattle.depot_frames.specs.declared.sending.Sending.{Sending}
-use Rattle.depot_gossip.specs.Choosing.{IsCutAt, TellsAt, records_at, foreign_ids, Finds, AreAlike, AddsHashes, value_parcels}
+use Rattle.depot_gossip.specs.Choosing.{IsCutAt, HasUpdateAt, records_at, foreign_ids, Finds, AreAlike, AddsHashes, value_parcels}
 use Rattle.depot_gossip.proofs.FitLaws.{cut_on}
 use Rattle.depot_gossip.proofs.ValueLaws.{behind_alike}
 
@@ -43,7 +43,7 @@ use Rattle.depot_gossip.proofs.ValueLaws.{behind_alike}
 
 -- each of these places has a record that accepts an update, and these are the records
 pub record ArePlacesOf (J : List Record) (places : List ℕ) (rs : List Record) : Type 0 where
-  pub tell : AllByRecursion (TellsAt J) places
+  pub tell : AllByRecursion (HasUpdateAt J) places
   pub records : records_at J places ≡ rs
 
 at_middle : (front : List Record) (r : Record) (rs : List Record) → slice_get (front ++ r ∷ rs) (length front) ≡ Some r
@@ -149,7 +149,7 @@ pub record IsToldAt (sign : Signs) (J : List Record) (place : ℕ) (text : List 
   pub tells : signed_by sign item ≡ told ∷ []
   pub accepts : accepted_by item ≡ update_in told.statement
 
-pub told_at : (here : Setting) (sign : Signs) (J : List Record) (place : ℕ) (text : List ℕ) → IsLawful here J → ((seq : ℕ) (body : List ℕ) → length (sign seq body) ≤ 8192) → TellsAt J place
+pub told_at : (here : Setting) (sign : Signs) (J : List Record) (place : ℕ) (text : List ℕ) → IsLawful here J → ((seq : ℕ) (body : List ℕ) → length (sign seq body) ≤ 8192) → HasUpdateAt J place
     → ((r : Record) → slice_get J place ≡ Some r → map text_of_signed (signed_by sign r) ≡ text ∷ []) → IsToldAt sign J place text
 told_at here sign J place text l short t texts =
     let told = told_by sign t.item t.update t.accepts in
@@ -169,11 +169,11 @@ pub is_item : (sign : Signs) (J : List Record) (place : ℕ) (text : List ℕ) (
 is_item sign J place text t r at = let both : Some t.item ≡ Some r = sym t.at ∙ at in cc
 
 -- the update that the record of a place accepts
-pub accepts_at : (J : List Record) (place : ℕ) (t : TellsAt J place) → accepted_at J place ≡ t.update ∷ []
+pub accepts_at : (J : List Record) (place : ℕ) (t : HasUpdateAt J place) → accepted_at J place ≡ t.update ∷ []
 accepts_at J place t = ap (λ (o : Option Record). flat_map accepted_by (option_to_list o)) t.at ∙ append-nil (accepted_by t.item) ∙ t.accepts
 
 -- and it is that of the statement which tells of it
-pub told_update : {sign : Signs} {text : List ℕ} (J : List Record) (place : ℕ) (t : TellsAt J place) (told : IsToldAt sign J place text) (u : Update) → u ∷ [] ≡ accepted_at J place → update_in told.told.statement ≡ u ∷ []
+pub told_update : {sign : Signs} {text : List ℕ} (J : List Record) (place : ℕ) (t : HasUpdateAt J place) (told : IsToldAt sign J place text) (u : Update) → u ∷ [] ≡ accepted_at J place → update_in told.told.statement ≡ u ∷ []
 told_update J place t told u one =
     let same : told.item ≡ t.item = let both : Some told.item ≡ Some t.item = sym told.at ∙ t.at in cc in
     sym told.accepts ∙ ap accepted_by same ∙ t.accepts ∙ sym (accepts_at J place t) ∙ sym one
@@ -254,15 +254,15 @@ alike_push keys new xs x alike too h =
 
 -- the record of a place that tells
 pub record IsNext (J : List Record) (places : List ℕ) (i : ℕ) : Type 0 where
-  pub place : TellsAt J (get_or places i 0)
+  pub place : HasUpdateAt J (get_or places i 0)
   pub records : records_at J (take (i + 1) places) ≡ records_at J (take i places) ++ place.item ∷ []
   pub rest : List Record
   pub all : records_at J places ≡ records_at J (take (i + 1) places) ++ rest
 
-pub tells_at : (J : List Record) (places : List ℕ) (i : ℕ) → i < length places → AllByRecursion (TellsAt J) places → TellsAt J (get_or places i 0)
-tells_at J places i lt all = all_at (TellsAt J) places (get_or places i 0) all (in_at places i (get_or places i 0) (slice_get-get_or places i 0 lt))
+pub tells_at : (J : List Record) (places : List ℕ) (i : ℕ) → i < length places → AllByRecursion (HasUpdateAt J) places → HasUpdateAt J (get_or places i 0)
+tells_at J places i lt all = all_at (HasUpdateAt J) places (get_or places i 0) all (in_at places i (get_or places i 0) (slice_get-get_or places i 0 lt))
 
-pub next_place : (J : List Record) (places : List ℕ) (i : ℕ) → i < length places → AllByRecursion (TellsAt J) places → IsNext J places i
+pub next_place : (J : List Record) (places : List ℕ) (i : ℕ) → i < length places → AllByRecursion (HasUpdateAt J) places → IsNext J places i
 next_place J places i lt all =
     let t = tells_at J places i lt all in
     let longer : take (i + 1) places ≡ take i places ++ get_or places i 0 ∷ [] = rw add-one (take-suc places i 0 lt) in

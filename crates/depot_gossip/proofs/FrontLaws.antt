@@ -206,16 +206,6 @@ frame_added fs f old new bytes count are = record {
   count = omega (arith, count, are.count, length-append fs (f ∷ []));
 }
 
--- both make up the front
-pub front_is : (sign : Signs) (J : List Record) (h : Hello) (ids : List (List ℕ)) (proofs vouchers : FrontFrames) → AreFrames (map proof_frame (proofs_for J h)) proofs → AreFrames (map (voucher_frame sign) (vouchers_for J ids)) vouchers
-    → IsFront sign J h ids (record { proofs = proofs.bytes; proof_count = proofs.count; vouchers = vouchers.bytes; voucher_count = vouchers.count })
-front_is sign J h ids proofs vouchers p v = record {
-  proofs = p.bytes;
-  proof_count = p.count ∙ length-map (proofs_for J h) proof_frame;
-  vouchers = v.bytes;
-  voucher_count = v.count ∙ length-map (vouchers_for J ids) (voucher_frame sign);
-}
-
 -- ---- the stream
 
 -- the front and what is sent make up the stream
@@ -223,9 +213,9 @@ pub joined_is_stream : (sign : Signs) (K : List Record) (h : Hello) (s : Sending
 joined_is_stream sign K h s f b front joined =
     let rest = s.frames ++ text_of_frame (end_frame s.more) in
     record {
-      bytes = joined.bytes ∙ ap (λ (p : List ℕ). p ++ (f.vouchers ++ rest)) front.proofs ∙ ap (λ (v : List ℕ). flat_map text_of_frame (map proof_frame (proofs_for K h)) ++ (v ++ rest)) front.vouchers;
-      proofs = joined.proofs ∙ front.proof_count;
-      vouchers = joined.vouchers ∙ front.voucher_count;
+      bytes = joined.bytes ∙ ap (λ (p : List ℕ). p ++ (f.vouchers.bytes ++ rest)) front.proofs.bytes ∙ ap (λ (v : List ℕ). flat_map text_of_frame (map proof_frame (proofs_for K h)) ++ (v ++ rest)) front.vouchers.bytes;
+      proofs = joined.proofs ∙ front.proofs.count ∙ length-map (proofs_for K h) proof_frame;
+      vouchers = joined.vouchers ∙ front.vouchers.count ∙ length-map (vouchers_for K s.ids) (voucher_frame sign);
       updates = joined.updates;
       values = joined.values;
       more = joined.more;

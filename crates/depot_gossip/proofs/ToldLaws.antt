@@ -34,7 +34,7 @@ use Rattle.depot_laws.proofs.Contrary.{kept_is_signed}
 use Rattle.depot_laws.proofs.NewVouchers.{new_are_lawful}
 use Rattle.depot_laws.proofs.Parcels.{sent_in_front}
 use Rattle.depot_laws.proofs.Rejoining.{voucher_is_own}
-use Rattle.depot_gossip.specs.ToldStatements.{SignsShort, IsSignedOwn}
+use Rattle.depot_gossip.specs.OwnStatements.{SignsShort, IsSignedOwn}
 use Rattle.depot_gossip.proofs.ApartLaws.{foreign_one}
 
 -- ---- where a signed statement comes from

@@ -20,9 +20,9 @@ pub record IsStream (sign : Signs) (J : List Record) (h : Hello) (s : Sending) (
 
 -- The bytes of the front, those of what is sent, and End stand one behind the other, and their numbers beside them.
 pub record IsJoined (f : BundleFront) (s : Sending) (b : Bundled) : Type 0 where
-  pub bytes : b.bytes ≡ f.proofs ++ (f.vouchers ++ (s.frames ++ text_of_frame (end_frame s.more)))
-  pub proofs : b.counts.proofs ≡ f.proof_count
-  pub vouchers : b.counts.vouchers ≡ f.voucher_count
+  pub bytes : b.bytes ≡ f.proofs.bytes ++ (f.vouchers.bytes ++ (s.frames ++ text_of_frame (end_frame s.more)))
+  pub proofs : b.counts.proofs ≡ f.proofs.count
+  pub vouchers : b.counts.vouchers ≡ f.vouchers.count
   pub updates : b.counts.updates ≡ s.updates
   pub values : b.counts.values ≡ s.values
   pub more : b.more ≡ s.more

@@ -47,23 +47,23 @@ leaves_out sign J h = nat_lt (length (sent_for sign J h)) (length (parcels sign 
 -- ---- one parcel more
 
 -- the frames of a candidate and the ids of its updates of others stand behind those before them
-pub record HasAddedFound (s t : Sending) (told behind more : List (List ℕ)) : Type 0 where
-  pub frames : t.frames ≡ s.frames ++ flat_map text_of_frame (parcel_frames told behind)
-  pub updates : t.updates ≡ s.updates + length told
+pub record HasAddedFound (s t : Sending) (statements behind more : List (List ℕ)) : Type 0 where
+  pub frames : t.frames ≡ s.frames ++ flat_map text_of_frame (parcel_frames statements behind)
+  pub updates : t.updates ≡ s.updates + length statements
   pub values : t.values ≡ s.values + length behind
   pub ids : t.ids ≡ s.ids ++ more
   pub short : IsShort t
 
 -- both were added, or there is no room for the frames
 abbrev pub AddsFound : {E : Type 0} → Sending → List (List ℕ) → List (List ℕ) → List (List ℕ) → Result Bool E → Sending → Type 0
-AddsFound s told values ids (Ok true) t = HasAddedFound s t told values ids
-AddsFound s told values ids (Ok false) t = (t ≡ s) × HasNoRoom s told values
-AddsFound s told values ids (Err e) t = Unit {0}
+AddsFound s statements values ids (Ok true) t = HasAddedFound s t statements values ids
+AddsFound s statements values ids (Ok false) t = (t ≡ s) × HasNoRoom s statements values
+AddsFound s statements values ids (Err e) t = Unit {0}
 
 -- ---- candidates
 
 -- the record of a place accepts an update
-pub record TellsAt (J : List Record) (place : ℕ) : Type 0 where
+pub record HasUpdateAt (J : List Record) (place : ℕ) : Type 0 where
   pub item : Record
   pub update : Update
   pub at : slice_get J place ≡ Some item

@@ -8,14 +8,6 @@ use Rattle.depot_model.specs.Bundle.{Signs, proof_frame, proofs_for, vouchers_fo
 use Rattle.depot_gossip.specs.declared.front.BundleFront.{BundleFront}
 use Rattle.depot_gossip.specs.declared.front.FrontFrames.{FrontFrames}
 
--- These are the frames of the proofs for a hello and of the own vouchers that name one of these ids, as far as these records go,
--- and how many there are.
-pub record IsFront (sign : Signs) (J : List Record) (h : Hello) (ids : List (List ℕ)) (f : BundleFront) : Type 0 where
-  pub proofs : f.proofs ≡ flat_map text_of_frame (map proof_frame (proofs_for J h))
-  pub proof_count : f.proof_count ≡ length (proofs_for J h)
-  pub vouchers : f.vouchers ≡ flat_map text_of_frame (map (voucher_frame sign) (vouchers_for J ids))
-  pub voucher_count : f.voucher_count ≡ length (vouchers_for J ids)
-
 -- The bytes are those of these frames, and they are counted.
 pub record AreFrames (fs : List Frame) (made : FrontFrames) : Type 0 where
   pub bytes : made.bytes ≡ flat_map text_of_frame fs
@@ -24,3 +16,8 @@ pub record AreFrames (fs : List Frame) (made : FrontFrames) : Type 0 where
 -- whatever frames stood there, after Ok this one stands behind them
 abbrev pub AddsFrame : {A E : Type 0} → FrontFrames → Frame → FrontFrames → Result A E → Type 0
 AddsFrame old f new result = (fs : List Frame) → AreFrames fs old → OnOk result (AreFrames (fs ++ f ∷ []) new)
+
+-- These are the frames of the proofs for a hello and of the own vouchers that name one of these ids, as far as these records go.
+pub record IsFront (sign : Signs) (J : List Record) (h : Hello) (ids : List (List ℕ)) (f : BundleFront) : Type 0 where
+  pub proofs : AreFrames (map proof_frame (proofs_for J h)) f.proofs
+  pub vouchers : AreFrames (map (voucher_frame sign) (vouchers_for J ids)) f.vouchers

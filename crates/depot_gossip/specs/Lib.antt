@@ -4,4 +4,4 @@ pub mod Errors
 pub mod Fronts
 pub mod Preparing
 pub mod Bundling
-pub mod ToldStatements
+pub mod OwnStatements

@@ -31,17 +31,15 @@ const END_BYTES: usize = 6;
 
 /// Puts the frames of a front before what is sent, in the same buffer. It grows by them and by what End takes, and no more.
 fn put_in_front(sent: &mut Vec<u8>, front: &BundleFront) -> Result<(), Memory>
-    ensures { OnOk result (sent.new.items ≡ front.now.proofs ++ (front.now.vouchers ++ sent.old.items)) }
+    ensures { OnOk result (sent.new.items ≡ front.now.proofs.bytes ++ (front.now.vouchers.bytes ++ sent.old.items)) }
 {
     let behind = sent.len();
-    let front_bytes = front
-        .proofs
-        .as_slice()
-        .len()
-        .saturating_add(front.vouchers.as_slice().len());
+    let proofs = front.proofs.bytes.as_slice();
+    let vouchers = front.vouchers.bytes.as_slice();
+    let front_bytes = proofs.len().saturating_add(vouchers.len());
     sent.reserve_exact(front_bytes.saturating_add(END_BYTES))?;
-    sent.extend_from_slice(front.proofs.as_slice())?;
-    sent.extend_from_slice(front.vouchers.as_slice())?;
+    sent.extend_from_slice(proofs)?;
+    sent.extend_from_slice(vouchers)?;
     sent.rotate_left(behind);
     Ok(())
 }
@@ -58,8 +56,8 @@ fn stream_of(front: &BundleFront, sending: Sending) -> Result<Bundled, Memory>
     Ok(Bundled {
         bytes,
         counts: Counts {
-            proofs: front.proof_count,
-            vouchers: front.voucher_count,
+            proofs: front.proofs.count,
+            vouchers: front.vouchers.count,
             updates: sending.updates,
             values: sending.values,
         },

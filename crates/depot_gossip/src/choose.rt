@@ -5,7 +5,7 @@ ghost use Rattle.sha2.specs.Sha256.{sha256};
 ghost use Rattle.depot_base.specs.declared.limits.TheConstants.{MOST_PAYLOAD, MOST_WRITES};
 ghost use Rattle.depot_model.specs.Bundle.{Parcel, wanted_parcel, sent_for};
 ghost use Rattle.depot_frames.specs.Sendings.{Holds, IsShort, ArePayloads, payloads_of};
-ghost use Rattle.depot_gossip.specs.Choosing.{AddsBehind, AddsFound, AddsHashes, AddsTo, AreHashesOf, ForParcelAt, TellsAt, leaves_out, parcels_at, parcels_with, value_parcels};
+ghost use Rattle.depot_gossip.specs.Choosing.{AddsBehind, AddsFound, AddsHashes, AddsTo, AreHashesOf, ForParcelAt, HasUpdateAt, leaves_out, parcels_at, parcels_with, value_parcels};
 
 use crate::candidate::{foreign_id, values_behind};
 use crate::hashes::{Hashes, has_hash};
@@ -39,17 +39,17 @@ fn push_id(ids: &mut Ids, id: Option<Hash32>) -> Result<(), Memory>
 /// vouched for. Says whether it has room.
 fn add_found(
     sending: &mut Sending,
-    told: &[u8],
+    statement: &[u8],
     found: &[&[u8]],
     foreign: Option<Hash32>,
 ) -> Result<bool, Memory>
     requires short { IsShort sending.old }
     requires few { length found.now ≤ MOST_WRITES }
-    requires told { length told.now ≤ MOST_PAYLOAD }
+    requires told { length statement.now ≤ MOST_PAYLOAD }
     requires found { ArePayloads (payloads_of found.now) }
-    ensures { AddsFound sending.old (told.now ∷ []) (payloads_of found.now) (option_to_list foreign) result sending.new }
+    ensures { AddsFound sending.old (statement.now ∷ []) (payloads_of found.now) (option_to_list foreign) result sending.new }
 {
-    if !sending.add(&[told], found)? {
+    if !sending.add(&[statement], found)? {
         return Ok(false);
     }
     push_id(&mut sending.ids, foreign)?;
@@ -66,7 +66,7 @@ fn add_candidate<R: Peer>(
     place: u32,
 ) -> Result<bool, Memory>
     requires running { R.stopped node.now ≡ false }
-    requires tells { TellsAt (R.records node.now) place }
+    requires tells { HasUpdateAt (R.records node.now) place }
     requires short { IsShort sending.old }
     ensures adds { ForParcelAt R.NodeState node.now place hashes.old.keys (λ x. AddsBehind (R.stands node.now).me sending.old (x ∷ []) sending.new result) }
     ensures hashes { ForParcelAt R.NodeState node.now place hashes.old.keys (λ x. AddsHashes hashes.old.keys (map sha256 x.values) result hashes.new.keys) }
@@ -77,10 +77,10 @@ fn add_candidate<R: Peer>(
     let Some(id) = node.id_at(place) else {
         unreachable!()
     };
-    let told = node.signed_text(place)?;
+    let statement = node.signed_text(place)?;
     let found = values_behind(alloc, node, hashes, update.writes.as_slice())?;
     let foreign = foreign_id(update, id, node.me());
-    add_found(sending, told.as_slice(), found.as_slice(), foreign)
+    add_found(sending, statement.as_slice(), found.as_slice(), foreign)
 }
 
 /// Chooses the candidates of these places, as long as there is room. Says whether all have room.
@@ -92,7 +92,7 @@ fn add_candidates<R: Peer>(
     places: &[u32],
 ) -> Result<bool, Memory>
     requires running { R.stopped node.now ≡ false }
-    requires tell { AllByRecursion (TellsAt (R.records node.now)) places.now }
+    requires tell { AllByRecursion (HasUpdateAt (R.records node.now)) places.now }
     requires none { Holds (R.stands node.now).me [] sending.old }
     requires new { hashes.old.keys ≡ [] }
     ensures adds { AddsTo (R.stands node.now).me (parcels_at R.NodeState node.now places.now) sending.new result }
@@ -162,7 +162,7 @@ fn add_all<R: Peer>(
     wanted: &[Hash32],
 ) -> Result<bool, Memory>
     requires running { R.stopped node.now ≡ false }
-    requires tell { AllByRecursion (TellsAt (R.records node.now)) places.now }
+    requires tell { AllByRecursion (HasUpdateAt (R.records node.now)) places.now }
     requires none { Holds (R.stands node.now).me [] sending.old }
     ensures { AddsTo (R.stands node.now).me (parcels_with R.NodeState node.now places.now wanted.now) sending.new result }
 {

@@ -18,19 +18,17 @@ use std::alloc::Global;
 #[derive(Drop)]
 pub(crate) struct BundleFront {
     /// Those of the proofs.
-    pub proofs: Bytes,
-    /// How many these are.
-    pub proof_count: u32,
+    pub proofs: FrontFrames,
     /// Those of the own vouchers.
-    pub vouchers: Bytes,
-    /// How many these are.
-    pub voucher_count: u32,
+    pub vouchers: FrontFrames,
 }
 
 /// Frames one behind the other, and how many there are.
 #[derive(Drop)]
 pub(crate) struct FrontFrames {
+    /// Their bytes.
     pub bytes: Bytes,
+    /// How many there are.
     pub count: u32,
 }
 
@@ -129,19 +127,8 @@ impl BundleFront {
         requires { R.stopped node.now ≡ false }
         ensures { IfOk result (λ f. IsFront (R.signature_of node.now) (R.records node.now) hello.now ids.now f) }
     {
-        let FrontFrames {
-            bytes: proofs,
-            count: proof_count,
-        } = proof_frames(alloc, node, hello)?;
-        let FrontFrames {
-            bytes: vouchers,
-            count: voucher_count,
-        } = voucher_frames(alloc, node, ids)?;
-        Ok(BundleFront {
-            proofs,
-            proof_count,
-            vouchers,
-            voucher_count,
-        })
+        let proofs = proof_frames(alloc, node, hello)?;
+        let vouchers = voucher_frames(alloc, node, ids)?;
+        Ok(BundleFront { proofs, vouchers })
     }
 }

@@ -1,4 +1,4 @@
-//! What a node tells of what it has.
+//! The hello of a node: what it has.
 ghost use Rattle.std.specs.Prelude.{◌≡◌, false, IfOk};
 ghost use Rattle.depot_model.specs.Hello.{IsHello, text_of_hello, hello_of};
 
@@ -11,8 +11,8 @@ use std::alloc::Global;
 /// (docs/FORMATS.md).
 pub fn node_hello<R: Peer>(node: &R) -> Result<Hello, Memory>
     requires { R.stopped node.now ≡ false }
-    ensures told { IfOk result (λ told. told ≡ hello_of (R.stands node.now) (R.records node.now)) }
-    ensures fits { IfOk result (λ told. IsHello told) }
+    ensures told { IfOk result (λ hello. hello ≡ hello_of (R.stands node.now) (R.records node.now)) }
+    ensures fits { IfOk result (λ hello. IsHello hello) }
 {
     let convicted = node.convicted()?;
     let leaves = node.leaves()?;
@@ -31,6 +31,6 @@ pub fn hello<R: Peer>(alloc: Global, node: &R) -> Result<Bytes, Memory>
     requires { R.stopped node.now ≡ false }
     ensures { IfOk result (λ text. text ≡ text_of_hello (hello_of (R.stands node.now) (R.records node.now))) }
 {
-    let told = node_hello(node)?;
-    encode_hello(alloc, &told)
+    let hello = node_hello(node)?;
+    encode_hello(alloc, &hello)
 }

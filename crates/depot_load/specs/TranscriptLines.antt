@@ -1,4 +1,4 @@
--- What the lines of a transcript tell of a load. Each text is read so: a line that is in none of these forms tells nothing.
+-- What the lines of a transcript say of a load. Each text is read so: a line that is in none of these forms says nothing.
 use Rattle.std.specs.Prelude.{ℕ, Bool, false, ◌&&◌, List, [], ◌∷◌, map, Option, None, is_some, option_map, option_and_then, unwrap_or, codes, if◌then◌else◌}
 use Rattle.std.specs.Str.{bytes_eq}
 use Rattle.depot_lines.specs.Language.{split}
@@ -29,10 +29,10 @@ named_number name (word ∷ number ∷ words) = if bytes_eq word name then optio
 -- ---- answers, by their words
 
 -- of a put: `SEQ/CLOCK`
-abbrev pub told_by_put : List (List ℕ) → TranscriptLine
-told_by_put [] = Other
-told_by_put (word ∷ []) = if is_pair word then Put else Other
-told_by_put (word ∷ more ∷ words) = Other
+abbrev pub line_of_put : List (List ℕ) → TranscriptLine
+line_of_put [] = Other
+line_of_put (word ∷ []) = if is_pair word then Put else Other
+line_of_put (word ∷ more ∷ words) = Other
 
 -- of a stream that was given: `accepted A known K refused R` and what follows
 abbrev pub report_in : List (List ℕ) → Option TranscriptLine
@@ -46,21 +46,21 @@ hello_in answer = option_map (λ (c : ℕ × List (List ℕ)). Hello c.0) (named
 -- ---- lines
 
 -- by the name of the event, the second of its words behind that, and the words of its answer
-abbrev pub told_by : List ℕ → List ℕ → List (List ℕ) → TranscriptLine
-told_by name word answer =
-    if bytes_eq name (codes "put") then told_by_put answer else
+abbrev pub line_of_event : List ℕ → List ℕ → List (List ℕ) → TranscriptLine
+line_of_event name word answer =
+    if bytes_eq name (codes "put") then line_of_put answer else
     if bytes_eq name (codes "get") then Read word (behind_spaces answer) else
     if bytes_eq name (codes "give") then unwrap_or (report_in answer) Other else
     if bytes_eq name (codes "hello") then unwrap_or (hello_in answer) Other else Other
 
--- by the words of a line: the arrow is the fourth word of each line that tells something
+-- by the words of a line: the arrow is the fourth word of each line that says something
 abbrev pub line_of_words : List (List ℕ) → TranscriptLine
 line_of_words [] = Other
 line_of_words (name ∷ []) = Other
 line_of_words (name ∷ node ∷ []) = Other
 line_of_words (name ∷ node ∷ word ∷ []) = Other
-line_of_words (name ∷ node ∷ word ∷ arrow ∷ answer) = if bytes_eq arrow (codes "->") then told_by name word answer else Other
+line_of_words (name ∷ node ∷ word ∷ arrow ∷ answer) = if bytes_eq arrow (codes "->") then line_of_event name word answer else Other
 
 -- line by line: lines stand between LFs (10), words between spaces (32)
-unfoldable pub told_lines_of : List ℕ → List TranscriptLine
-told_lines_of transcript = map (λ line. line_of_words (split 32 line)) (split 10 transcript)
+unfoldable pub lines_of_transcript : List ℕ → List TranscriptLine
+lines_of_transcript transcript = map (λ line. line_of_words (split 32 line)) (split 10 transcript)

@@ -1,5 +1,5 @@
 //! Whether the last reads of each key show the same writes.
-ghost use Rattle.std.specs.Prelude.{◌≡◌, map, IfOk, option_copied};
+ghost use Rattle.std.specs.Prelude.{◌≡◌, map, IfOk};
 ghost use Rattle.std.specs.List.{filter_map, list_all};
 ghost use Rattle.std.specs.Str.{bytes_eq};
 ghost use Rattle.depot_load.specs.Summaries.{agree, agree_on, agrees, are_same, writes_under};
@@ -8,37 +8,18 @@ use crate::transcript_lines::TranscriptLine;
 use depot_base::Memory;
 use std::alloc::Global;
 
-/// The writes that a read of this key shows. None of another line.
-fn writes_under<'a>(told: &'a TranscriptLine, key: &[u8]) -> Option<&'a [u8]>
-    ensures { option_copied result ≡ writes_under key.now told.now }
-{
-    match told {
-        TranscriptLine::Put => None,
-        TranscriptLine::Read { key: of, writes } => {
-            if of.as_slice() == key {
-                Some(writes.as_slice())
-            } else {
-                None
-            }
-        }
-        TranscriptLine::Report { .. } => None,
-        TranscriptLine::Hello { .. } => None,
-        TranscriptLine::Other => None,
-    }
-}
-
-/// The same of each read of this key.
+/// The writes that each read of this key shows.
 #[tactic(auto, using(crate::proofs::KeptLoads::kept))]
 fn all_writes<'a>(
     alloc: Global,
-    told_lines: &'a [TranscriptLine],
+    lines: &'a [TranscriptLine],
     key: &[u8],
 ) -> Result<Vec<&'a [u8]>, Memory>
-    ensures { IfOk result (λ list. map (λ writes. writes.now) list.items ≡ filter_map (writes_under key.now) told_lines.now) }
+    ensures { IfOk result (λ list. map (λ writes. writes.now) list.items ≡ filter_map (writes_under key.now) lines.now) }
 {
     let mut list = Vec::new(alloc);
-    for told in told_lines {
-        let Some(writes) = writes_under(told, key) else {
+    for line in lines {
+        let Some(writes) = line.writes_under(key) else {
             continue;
         };
         list.push(writes)?;
@@ -66,37 +47,30 @@ fn are_same(texts: &[&[u8]]) -> bool
 
 /// Whether the last five reads of this key show the same writes.
 #[tactic(auto, using(crate::proofs::KeptLoads::kept))]
-fn agree_on(alloc: Global, told_lines: &[TranscriptLine], key: &[u8]) -> Result<bool, Memory>
-    ensures { IfOk result (λ yes. yes ≡ agree_on key.now told_lines.now) }
+fn agree_on(alloc: Global, lines: &[TranscriptLine], key: &[u8]) -> Result<bool, Memory>
+    ensures { IfOk result (λ yes. yes ≡ agree_on key.now lines.now) }
 {
-    let all = all_writes(alloc, told_lines, key)?;
+    let all = all_writes(alloc, lines, key)?;
     let all = all.as_slice();
     Ok(are_same(&all[all.len().saturating_sub(5)..]))
 }
 
 /// The same of the key that is read, if one is.
-fn agrees(
-    alloc: Global,
-    told_lines: &[TranscriptLine],
-    told: &TranscriptLine,
-) -> Result<bool, Memory>
-    ensures { IfOk result (λ yes. yes ≡ agrees told_lines.now told.now) }
+fn agrees(alloc: Global, lines: &[TranscriptLine], line: &TranscriptLine) -> Result<bool, Memory>
+    ensures { IfOk result (λ yes. yes ≡ agrees lines.now line.now) }
 {
-    match told {
-        TranscriptLine::Put => Ok(true),
-        TranscriptLine::Read { key, .. } => agree_on(alloc, told_lines, key.as_slice()),
-        TranscriptLine::Report { .. } => Ok(true),
-        TranscriptLine::Hello { .. } => Ok(true),
-        TranscriptLine::Other => Ok(true),
+    match line {
+        TranscriptLine::Read { key, .. } => agree_on(alloc, lines, key.as_slice()),
+        _ => Ok(true),
     }
 }
 
 /// The same of each key that is read.
-pub fn agree(alloc: Global, told_lines: &[TranscriptLine]) -> Result<bool, Memory>
-    ensures { IfOk result (λ yes. yes ≡ agree told_lines.now) }
+pub fn agree(alloc: Global, lines: &[TranscriptLine]) -> Result<bool, Memory>
+    ensures { IfOk result (λ yes. yes ≡ agree lines.now) }
 {
-    for told in told_lines {
-        if !agrees(alloc, told_lines, told)? {
+    for line in lines {
+        if !agrees(alloc, lines, line)? {
             return Ok(false);
         }
     }

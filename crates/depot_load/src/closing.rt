@@ -2,9 +2,9 @@
 ghost use Rattle.std.specs.Prelude.{◌≡◌, ◌<◌, OnOk};
 ghost use Rattle.depot_load.specs.Loads.{exchange, greet, read};
 
+use crate::event_parts::{key, label, node};
 use crate::load_draft::LoadDraft;
 use crate::rounds::{bundle, give, other_than};
-use crate::word_pairs::{key, label, node};
 use depot_base::Memory;
 use depot_schedule::Event;
 use std::alloc::Global;

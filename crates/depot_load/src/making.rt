@@ -3,9 +3,9 @@ ghost use Rattle.std.specs.Prelude.{◌≡◌, ◌<◌, ◌++◌, ◌∷◌, [],
 ghost use Rattle.depot_load.specs.Loads.{begun, whole_draft, exchange, greet, load_of, member, members, read, round, steps};
 
 use crate::closing::{exchange, greet, read};
+use crate::event_parts::node;
 use crate::load_draft::LoadDraft;
 use crate::rounds::{FAULTY, round};
-use crate::word_pairs::node;
 use depot_base::{Memory, Sequence};
 use depot_schedule::{Member, Members, Schedule};
 use std::alloc::Global;

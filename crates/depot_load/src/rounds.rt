@@ -4,8 +4,8 @@ ghost use Rattle.depot_load.specs.Loads.{bundled, drawn, exchange_round, faulty_
 ghost use Rattle.depot_lines.specs.Spelling.{is_letter};
 ghost use Rattle.depot_schedule.specs.declared.event.Event.TheVariants.{Give};
 
+use crate::event_parts::{key, label, node, value};
 use crate::load_draft::LoadDraft;
-use crate::word_pairs::{key, label, node, value};
 use depot_base::{Key, Memory, NodeId, Sequence};
 use depot_schedule::{Event, HistoryWord};
 use std::alloc::Global;

@@ -4,8 +4,8 @@ ghost use Rattle.depot_answers.specs.AnswerTexts.{text_of_number, spaced};
 ghost use Rattle.depot_load.specs.Summaries.{agreement_text, name_of_agreement, reports_text, summary_line, summary_of};
 
 use crate::agreement::agree;
-use crate::load_totals::{Count, convicted_last, puts, total};
-use crate::transcript_lines::{TranscriptLine, told_lines_of};
+use crate::load_totals::{convicted_last, puts, total};
+use crate::transcript_lines::{Count, TranscriptLine, lines_of_transcript};
 use depot_answers::numbered;
 use depot_base::{Bytes, Memory};
 use depot_lines::word_writers::word;
@@ -26,14 +26,14 @@ fn spaced_number(alloc: Global, line: &mut Bytes, name: &str, n: u128) -> Result
     line.push_all(words.as_bytes())
 }
 
-/// The sums of what reports tell.
+/// The sums over reports.
 #[tactic(auto, using(depot_base::proofs::Writing::texts))]
-fn reports(alloc: Global, line: &mut Bytes, told_lines: &[TranscriptLine]) -> Result<(), Memory>
-    ensures { OnOk result (line.new ≡ line.old ++ reports_text told_lines.now) }
+fn reports(alloc: Global, line: &mut Bytes, lines: &[TranscriptLine]) -> Result<(), Memory>
+    ensures { OnOk result (line.new ≡ line.old ++ reports_text lines.now) }
 {
-    spaced_number(alloc, line, "accepted", total(told_lines, Count::Accepted))?;
-    spaced_number(alloc, line, "known", total(told_lines, Count::Known))?;
-    spaced_number(alloc, line, "refused", total(told_lines, Count::Refused))
+    spaced_number(alloc, line, "accepted", total(lines, Count::Accepted))?;
+    spaced_number(alloc, line, "known", total(lines, Count::Known))?;
+    spaced_number(alloc, line, "refused", total(lines, Count::Refused))
 }
 
 /// Whether reads agree.
@@ -45,17 +45,17 @@ fn agreement(line: &mut Bytes, agree: bool) -> Result<(), Memory>
     word(line, name_of_agreement(agree).as_bytes())
 }
 
-/// The line that sums up what lines tell.
+/// The line that sums up what lines say.
 #[tactic(auto, using(depot_base::proofs::Writing::texts))]
-fn summary_line(alloc: Global, number: u32, told_lines: &[TranscriptLine]) -> Result<Bytes, Memory>
-    ensures { IfOk result (λ line. line ≡ summary_line number told_lines.now) }
+fn summary_line(alloc: Global, number: u32, lines: &[TranscriptLine]) -> Result<Bytes, Memory>
+    ensures { IfOk result (λ line. line ≡ summary_line number lines.now) }
 {
-    let convicted = convicted_last(alloc, told_lines)?;
-    let agree = agree(alloc, told_lines)?;
+    let convicted = convicted_last(alloc, lines)?;
+    let agree = agree(alloc, lines)?;
     let mut line = Bytes::new(alloc);
     numbered(alloc, &mut line, "load", u64::from(number))?;
-    spaced_number(alloc, &mut line, "puts", puts(told_lines) as u128)?;
-    reports(alloc, &mut line, told_lines)?;
+    spaced_number(alloc, &mut line, "puts", puts(lines) as u128)?;
+    reports(alloc, &mut line, lines)?;
     spaced_number(alloc, &mut line, "convicted", convicted)?;
     agreement(&mut line, agree)?;
     line.push_all(b"\n")?;
@@ -69,6 +69,6 @@ fn summary_line(alloc: Global, number: u32, told_lines: &[TranscriptLine]) -> Re
 pub fn summary(alloc: Global, number: u32, transcript: &[u8]) -> Result<Bytes, Memory>
     ensures { IfOk result (λ line. line ≡ summary_of number transcript.now) }
 {
-    let told_lines = told_lines_of(alloc, transcript)?;
-    summary_line(alloc, number, told_lines.as_slice())
+    let lines = lines_of_transcript(alloc, transcript)?;
+    summary_line(alloc, number, lines.as_slice())
 }

@@ -1,8 +1,9 @@
-//! What the lines of a transcript tell.
-ghost use Rattle.std.specs.Prelude.{◌≡◌, None, Some, IfOk, MatchOption};
+//! What the lines of a transcript say of a load.
+ghost use Rattle.std.specs.Prelude.{◌≡◌, None, Some, IfOk, MatchOption, option_copied};
 ghost use Rattle.depot_lines.specs.Language.{split};
 ghost use Rattle.depot_lines.specs.LineReading.{behind_spaces};
-ghost use Rattle.depot_load.specs.TranscriptLines.{hello_in, is_pair, named_number, report_in, told_by, told_by_put, line_of_words, told_lines_of};
+ghost use Rattle.depot_load.specs.Summaries.{convicted_in, counted_in, is_put_line, writes_under};
+ghost use Rattle.depot_load.specs.TranscriptLines.{hello_in, is_pair, named_number, report_in, line_of_event, line_of_put, line_of_words, lines_of_transcript};
 
 use depot_base::{Bytes, Memory};
 use depot_lines::Parts;
@@ -13,7 +14,7 @@ use std::alloc::Global;
 /// The greatest number of a transcript.
 const MOST: u64 = 9_223_372_036_854_775_807;
 
-/// What a line of a transcript tells of a load.
+/// What a line of a transcript says of a load.
 #[derive(Debug, Drop)]
 pub enum TranscriptLine {
     /// A put was done.
@@ -41,6 +42,70 @@ pub enum TranscriptLine {
     },
     /// Nothing that is summed up.
     Other,
+}
+
+/// One of the numbers of a report.
+#[derive(Clone, Copy, Debug, PartialEq, Eq)]
+pub enum Count {
+    /// How many frames were new.
+    Accepted,
+    /// How many were known.
+    Known,
+    /// How many were refused.
+    Refused,
+}
+
+impl TranscriptLine {
+    /// Whether a put was done.
+    pub fn is_put(&self) -> bool
+        ensures { result ≡ is_put_line self.now }
+    {
+        matches!(self, TranscriptLine::Put)
+    }
+
+    /// A number of a report, and 0 of another line.
+    pub fn counted(&self, which: Count) -> u64
+        ensures { result ≡ counted_in which self.now }
+    {
+        match self {
+            TranscriptLine::Report {
+                accepted,
+                known,
+                refused,
+            } => match which {
+                Count::Accepted => *accepted,
+                Count::Known => *known,
+                Count::Refused => *refused,
+            },
+            _ => 0,
+        }
+    }
+
+    /// How many nodes a hello names as convicted. None of another line.
+    pub fn convicted(&self) -> Option<u64>
+        ensures { result ≡ convicted_in self.now }
+    {
+        match self {
+            TranscriptLine::Hello { convicted } => Some(*convicted),
+            _ => None,
+        }
+    }
+
+    /// The writes that a read of this key shows. None of another line.
+    pub fn writes_under(&self, key: &[u8]) -> Option<&[u8]>
+        ensures { option_copied result ≡ writes_under key.now self.now }
+    {
+        match self {
+            TranscriptLine::Read { key: of, writes } => {
+                if of.as_slice() == key {
+                    Some(writes.as_slice())
+                } else {
+                    None
+                }
+            }
+            _ => None,
+        }
+    }
 }
 
 /// Whether a word is two numbers with a slash between them.
@@ -73,9 +138,9 @@ fn named_number(words: &mut Parts<'_>, name: &str) -> Option<u64>
     number_word(number, 0, MOST)
 }
 
-/// What the answer of a put tells.
-fn told_by_put(answer: &mut Parts<'_>) -> TranscriptLine
-    ensures { result ≡ told_by_put answer.old }
+/// The line of a put, by its answer.
+fn line_of_put(answer: &mut Parts<'_>) -> TranscriptLine
+    ensures { result ≡ line_of_put answer.old }
 {
     let Some(word) = answer.next() else {
         return TranscriptLine::Other;
@@ -121,17 +186,17 @@ fn behind_spaces(alloc: Global, words: &mut Parts<'_>) -> Result<Bytes, Memory>
     Ok(text)
 }
 
-/// What a line tells, by the name of its event, the second word behind that, and its answer.
-fn told_by(
+/// What a line says, by the name of its event, the second word behind that, and its answer.
+fn line_of_event(
     alloc: Global,
     name: &[u8],
     word: &[u8],
     answer: &mut Parts<'_>,
 ) -> Result<TranscriptLine, Memory>
-    ensures { IfOk result (λ told. told ≡ told_by name.now word.now answer.old) }
+    ensures { IfOk result (λ line. line ≡ line_of_event name.now word.now answer.old) }
 {
     if is(name, "put") {
-        return Ok(told_by_put(answer));
+        return Ok(line_of_put(answer));
     }
     if is(name, "get") {
         return Ok(TranscriptLine::Read {
@@ -148,9 +213,9 @@ fn told_by(
     Ok(TranscriptLine::Other)
 }
 
-/// What a line tells.
+/// What a line says.
 fn line_of_words(alloc: Global, line: &[u8]) -> Result<TranscriptLine, Memory>
-    ensures { IfOk result (λ told. told ≡ line_of_words (split 32 line.now)) }
+    ensures { IfOk result (λ found. found ≡ line_of_words (split 32 line.now)) }
 {
     let mut words = Parts::new(line, b' ');
     let Some(name) = words.next() else {
@@ -166,21 +231,21 @@ fn line_of_words(alloc: Global, line: &[u8]) -> Result<TranscriptLine, Memory>
         return Ok(TranscriptLine::Other);
     };
     if is(arrow, "->") {
-        told_by(alloc, name, word, &mut words)
+        line_of_event(alloc, name, word, &mut words)
     } else {
         Ok(TranscriptLine::Other)
     }
 }
 
-/// What the lines of a text tell, one by one.
-#[tactic(auto, unfolding(crate::specs::TranscriptLines::told_lines_of), using(depot_base::proofs::Writing::texts))]
-pub fn told_lines_of(alloc: Global, text: &[u8]) -> Result<Vec<TranscriptLine>, Memory>
-    ensures { IfOk result (λ told_lines. told_lines.items ≡ told_lines_of text.now) }
+/// What the lines of a text say, one by one.
+#[tactic(auto, unfolding(crate::specs::TranscriptLines::lines_of_transcript), using(depot_base::proofs::Writing::texts))]
+pub fn lines_of_transcript(alloc: Global, text: &[u8]) -> Result<Vec<TranscriptLine>, Memory>
+    ensures { IfOk result (λ list. list.items ≡ lines_of_transcript text.now) }
 {
-    let mut told_lines = Vec::new(alloc);
+    let mut list = Vec::new(alloc);
     let mut lines = Parts::new(text, b'\n');
     while let Some(line) = lines.next() {
-        told_lines.push(line_of_words(alloc, line)?)?;
+        list.push(line_of_words(alloc, line)?)?;
     }
-    Ok(told_lines)
+    Ok(list)
 }

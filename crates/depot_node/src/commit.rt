@@ -19,7 +19,7 @@ use depot_decide::keep_parents;
 use depot_journal::AppendError;
 use depot_model::Scheme;
 use depot_outside::Disk;
-use depot_readings::Growth;
+use depot_readings::{Growth, RECORD_OVERHEAD};
 use std::alloc::Global;
 
 /// Why records were not appended, for which there is room.
@@ -110,7 +110,7 @@ impl<D: Disk, S: Scheme> Store<D, S> {
         let _runs = self.journal.is_stopped();
         let mut new = new;
         let count = new.count() as u32;
-        let size = new.bytes() as u32 - FRAME * count;
+        let size = new.bytes() as u32 - RECORD_OVERHEAD * count;
         let Ok(()) = self.journal.reserve(count, size) else {
             drop(new);
             drop(parents);
@@ -134,6 +134,3 @@ impl<D: Disk, S: Scheme> Store<D, S> {
         }
     }
 }
-
-/// The bytes that a record takes in a journal besides its text: its length, and the gate after it.
-const FRAME: u32 = 5;

@@ -3,7 +3,8 @@ use Rattle.std.proofs.Common.{◌≡◌, ℕ, List, [], ◌∷◌, ◌++◌, map
 use Rattle.std.specs.List.{flat_map}
 use Rattle.std.proofs.lemmas.List.{append-nil}
 use Rattle.depot_base.specs.declared.record.Record.{Record}
-use Rattle.depot_answers.specs.AnswerTexts.{name_of_more, spaced, text_of_counts, text_of_refused, text_of_report}
+use Rattle.depot_answers.specs.AnswerTexts.{name_of_more, report_text, spaced, text_of_counts, text_of_refused, text_of_report}
+use Rattle.depot_answers.specs.Closings.{closing_of}
 use Rattle.depot_gossip.specs.Bundling.{Bundles}
 use Rattle.depot_gossip.specs.declared.bundle_error.BundleError.{BundleError}
 use Rattle.depot_gossip.specs.declared.bundle_error.BundleError.TheVariants as error
@@ -23,11 +24,16 @@ use Rattle.depot_node_lines.specs.declared.feeds.FeedResult.{FeedResult}
 
 -- ---- a stream
 
-pub fed_lines_are : (s : Feeding) (told : FeedResult) (first : List ℕ) (one two all : List ℕ) → IsToldOf s told → first ≡ 32 ∷ [] → one ≡ first ++ text_of_report s → two ≡ one ++ 10 ∷ [] → all ≡ two ++ flat_map ended (map text_of_refused told.report.refused)
+-- the text of a report is that of the feeding whose report it is
+report_is : (s : Feeding) (told : FeedResult) → IsToldOf s told → report_text told.report (closing_of told.closing) ≡ text_of_report s
+unfolding text_of_report
+report_is s told t = rw (← t.report, ← t.closing) refl
+
+pub fed_lines_are : (s : Feeding) (told : FeedResult) (first : List ℕ) (one two all : List ℕ) → IsToldOf s told → first ≡ 32 ∷ [] → one ≡ first ++ report_text told.report (closing_of told.closing) → two ≡ one ++ 10 ∷ [] → all ≡ two ++ flat_map ended (map text_of_refused told.report.refused)
     → all ≡ fed_lines s
 fed_lines_are s told first one two all t is_first is_one is_two is_all =
     let refused : told.report.refused ≡ s.refused = sym (ap (λ (r : Report). r.refused) t.report) ∙ report_refused s in
-    rw (is_all, refused, is_two, is_one, is_first) refl
+    rw (is_all, refused, is_two, is_one, is_first, ← report_is s told t) refl
 
 -- ---- a bundle
 

@@ -1,8 +1,9 @@
 -- How a reader is fed frame by frame, and what is told of it.
-use Rattle.std.proofs.Common.{◌≡◌, ◌≢◌, ℕ, zero, suc, ◌+◌, ◌-◌, ◌<◌, ◌≤◌, List, [], ◌∷◌, ◌++◌, length, take, drop, get_or, map, Bool, true, false, not, cond, ◌||◌, Option, Some, None, Result, Ok, Err, refl, sym, ap, subst, ◌∙◌, arith}
+use Rattle.std.proofs.Common.{◌≡◌, ◌≢◌, ℕ, zero, suc, ◌+◌, ◌-◌, ◌<◌, ◌≤◌, List, [], ◌∷◌, ◌++◌, length, take, drop, get_or, map, Bool, true, false, not, cond, ◌||◌, Option, Some, None, Result, Ok, Err, refl, sym, ap, subst, ◌∙◌, append_assoc, length-append, arith}
 use Rattle.std.specs.Option.{option_map_or}
 use Rattle.std.specs.Prelude.{nat_lt, slice_get, ◌==◌}
 use Rattle.std.specs.Int.{w32, from_be_bytes}
+use Rattle.std.proofs.Math.Seq.{take-append_seam}
 use Rattle.std.proofs.lemmas.Grind.{flat_map-append}
 use Rattle.std.proofs.lemmas.List.{append-nil, drop-drop, length-drop, length-take, map-append}
 use Rattle.depot_answers.specs.AnswerTexts.{spaced, text_of_write}
@@ -31,7 +32,7 @@ use Rattle.depot_model.specs.Lawful.{IsLawful}
 use Rattle.depot_model.specs.Lists.{IsIn}
 use Rattle.depot_model.specs.Order.{AreLatestIn, Precedes}
 use Rattle.depot_model.specs.ReaderFeeds.{ReaderFeed, frames_from, reader_fed, reader_feed_from, reader_feed_of, told_more}
-use Rattle.depot_model.specs.Readers.{Reader, stands_below, too_full, told, reader_takes, seen_among, seen_by_reader, shown_by_reader}
+use Rattle.depot_model.specs.Readers.{Reader, ReaderOutcome, stands_below, too_full, told, reader_takes, seen_among, seen_by_reader, shown_by_reader}
 use Rattle.depot_model.specs.Roster.{Verifies}
 use Rattle.depot_model.specs.World.{Shown}
 use Rattle.depot_model.specs.declared.taken.Taken.{Taken}
@@ -46,7 +47,7 @@ use Rattle.depot_trim.specs.declared.trim_error.TrimTake.{TrimTake}
 use Rattle.depot_trim.specs.declared.trim_error.TrimTake.TheVariants as failed
 use Rattle.depot_trim.specs.declared.trimmed.Trimmed.{Trimmed}
 use Rattle.depot_node_lines.specs.Printing.{shown_text, shown_value}
-use Rattle.depot_node_lines.specs.ReaderPrinting.{AreCountedWithin, IsReaderFed, IsReaderTold, after_frame, goes_on}
+use Rattle.depot_node_lines.specs.ReaderPrinting.{AreCountedWithin, HasTakenFront, IsReaderFed, IsReaderTold, after_frame, front_fed, goes_on}
 use Rattle.depot_node_lines.specs.declared.readers.ReaderFeedResult.{ReaderFeedResult}
 
 -- ---- frames
@@ -128,40 +129,7 @@ no_frame_stands n at bytes place.Open is never = no_more_frames n bytes is
 no_frame_stands n at bytes place.Ill is never = no_frame_more n bytes is
 no_frame_stands n at bytes (place.Frame tag end) is never = absurd (never tag end refl)
 
--- ---- a reader that is fed
-
--- The frames in front were taken: so it stands, and these are the frames behind.
-pub record IsFedSoFar {S : Type 0} (verifies : Verifies) (whole : ReaderFeed) (n : ℕ) (bytes : List ℕ) (t : ReaderFeedResult) (reader : Trimmed S) : Type 0 where
-  pub feed : ReaderFeed
-  pub none_full : feed.full ≡ None
-  pub is_told : IsReaderTold feed t
-  pub is_reader : IsReaderOf verifies feed.reader reader
-  pub is : whole ≡ reader_fed feed (frames_from n bytes)
-
--- nothing was taken yet
-pub fed_from_start : {S : Type 0} (verifies : Verifies) (R : Reader) (stream : List ℕ) (reader : Trimmed S) → IsReaderOf verifies R reader → IsFedSoFar verifies (reader_feed_of R stream) MOST_FRAMES stream (record { counts = record { accepted = 0; known = 0; refused = 0; below = 0 }; full = None }) reader
-unfolding reader_feed_of
-fed_from_start verifies R stream reader is = record {
-  feed = reader_feed_from R;
-  none_full = refl;
-  is_told = record { accepted = refl; known = refl; refused = refl; below = refl; full = refl };
-  is_reader = is;
-  is = refl;
-}
-
--- A stream is being taken from this place on, with so many frames behind.
-pub record IsTaking {S : Type 0} (verifies : Verifies) (start : Trimmed S) (stream : List ℕ) (at taken : ℕ) (t : ReaderFeedResult) (reader : Trimmed S) : Type 0 where
-  pub within : at ≤ length stream
-  pub counts : AreCountedWithin taken t
-  pub somebodys : (R : Reader) × IsReaderOf verifies R reader
-  pub so_far : (R : Reader) → IsReaderOf verifies R start → IsFedSoFar verifies (reader_feed_of R stream) (MOST_FRAMES - taken) (drop at stream) t reader
-
--- nothing is behind
-pub fed_all : {S : Type 0} (verifies : Verifies) (whole : ReaderFeed) (n : ℕ) (bytes : List ℕ) (t : ReaderFeedResult) (reader : Trimmed S) → IsFedSoFar verifies whole n bytes t reader → frames_from n bytes ≡ [] → IsReaderFed verifies whole (Ok t) reader
-unfolding reader_fed
-fed_all verifies whole n bytes t reader so none =
-    let same : whole ≡ so.feed = so.is ∙ ap (reader_fed so.feed) none in
-    subst (λ (s : ReaderFeed). IsReaderTold s t × IsReaderOf verifies s.reader reader) (sym same) (so.is_told, so.is_reader)
+-- ---- frames in front
 
 -- one frame more was answered so
 told_step : (s : ReaderFeed) (f : Frame) (fs : List Frame) (answer : Result Taken Check) (R : Reader) → reader_takes s.reader (form_of f.tag) f.payload ≡ told answer R → reader_fed s (f ∷ fs) ≡ reader_fed (told_more answer R s) fs
@@ -176,52 +144,137 @@ full_step : (s : ReaderFeed) (f : Frame) (fs : List Frame) (what : Full) → rea
 unfolding reader_fed
 full_step s f fs what is = rw (is, reader_fed) refl
 
+-- none of these frames met a limit, so those behind them are taken too
+behind_one : (s : ReaderFeed) (f : Frame) (fs rest : List Frame) (after : ReaderFeed) (outcome : ReaderOutcome) → reader_takes s.reader (form_of f.tag) f.payload ≡ outcome → reader_fed s (f ∷ fs) ≡ after → after.full ≡ None
+    → ((then : ReaderFeed) → reader_fed then fs ≡ after → reader_fed then (fs ++ rest) ≡ reader_fed after rest) → reader_fed s (f ∷ (fs ++ rest)) ≡ reader_fed after rest
+behind_one s f fs rest after (told answer R) is fed none behind = told_step s f (fs ++ rest) answer R is ∙ behind (told_more answer R s) (sym (told_step s f fs answer R is) ∙ fed)
+behind_one s f fs rest after (stands_below id) is fed none behind = below_step s f (fs ++ rest) id is ∙ behind (record s { below = s.below + 1 }) (sym (below_step s f fs id is) ∙ fed)
+behind_one s f fs rest after (too_full what) is fed none behind =
+    let met : Some what ≡ None = ap (λ (x : ReaderFeed). x.full) (sym (full_step s f fs what is) ∙ fed) ∙ none in
+    absurd cc
+
+fed_behind : (s : ReaderFeed) (front rest : List Frame) (after : ReaderFeed) → reader_fed s front ≡ after → after.full ≡ None → reader_fed s (front ++ rest) ≡ reader_fed after rest
+unfolding reader_fed
+fed_behind s [] rest after fed none = ap (λ (x : ReaderFeed). reader_fed x rest) fed
+fed_behind s (f ∷ fs) rest after fed none = behind_one s f fs rest after (reader_takes s.reader (form_of f.tag) f.payload) refl fed none (λ then is. fed_behind then fs rest after is none)
+
+-- ---- a reader that is fed
+
+-- The frames in front were taken: so it stands, and these are the frames behind.
+pub record IsFedSoFar {S : Type 0} (verifies : Verifies) (R : Reader) (stream : List ℕ) (n : ℕ) (bytes : List ℕ) (t : ReaderFeedResult) (reader : Trimmed S) : Type 0 where
+  pub front : List Frame
+  pub parts : frames_from MOST_FRAMES stream ≡ front ++ frames_from n bytes
+  pub feed : ReaderFeed
+  pub fed : reader_fed (reader_feed_from R) front ≡ feed
+  pub none_full : feed.full ≡ None
+  pub is_told : IsReaderTold feed t
+  pub is_reader : IsReaderOf verifies feed.reader reader
+
+-- nothing was taken yet
+pub fed_from_start : {S : Type 0} (verifies : Verifies) (R : Reader) (stream : List ℕ) (reader : Trimmed S) → IsReaderOf verifies R reader → IsFedSoFar verifies R stream MOST_FRAMES stream (record { counts = record { accepted = 0; known = 0; refused = 0; below = 0 }; full = None }) reader
+unfolding reader_fed
+fed_from_start verifies R stream reader is = record {
+  front = [];
+  parts = refl;
+  feed = reader_feed_from R;
+  fed = refl;
+  none_full = refl;
+  is_told = record { accepted = refl; known = refl; refused = refl; below = refl; full = refl };
+  is_reader = is;
+}
+
+-- what becomes of the whole stream
+whole_is : {S : Type 0} (verifies : Verifies) (R : Reader) (stream : List ℕ) (n : ℕ) (bytes : List ℕ) (t : ReaderFeedResult) (reader : Trimmed S) (so : IsFedSoFar verifies R stream n bytes t reader) → reader_feed_of R stream ≡ reader_fed so.feed (frames_from n bytes)
+unfolding reader_feed_of
+whole_is verifies R stream n bytes t reader so = ap (reader_fed (reader_feed_from R)) so.parts ∙ fed_behind (reader_feed_from R) so.front (frames_from n bytes) so.feed so.fed so.none_full
+
+-- A stream is being taken from this place on, with so many frames behind.
+pub record IsTaking {S : Type 0} (verifies : Verifies) (start : Trimmed S) (stream : List ℕ) (at taken : ℕ) (t : ReaderFeedResult) (reader : Trimmed S) : Type 0 where
+  pub within : at ≤ length stream
+  pub counts : AreCountedWithin taken t
+  pub somebodys : (R : Reader) × IsReaderOf verifies R reader
+  pub so_far : (R : Reader) → IsReaderOf verifies R start → IsFedSoFar verifies R stream (MOST_FRAMES - taken) (drop at stream) t reader
+
+-- nothing is behind
+pub fed_all : {S : Type 0} (verifies : Verifies) (R : Reader) (stream : List ℕ) (n : ℕ) (bytes : List ℕ) (t : ReaderFeedResult) (reader : Trimmed S) → IsFedSoFar verifies R stream n bytes t reader → frames_from n bytes ≡ [] → IsReaderFed verifies R stream (Ok t) reader
+unfolding reader_fed
+fed_all verifies R stream n bytes t reader so none =
+    let same : reader_feed_of R stream ≡ so.feed = whole_is verifies R stream n bytes t reader so ∙ ap (reader_fed so.feed) none in
+    subst (λ (s : ReaderFeed). IsReaderTold s t × IsReaderOf verifies s.reader reader) (sym same) (so.is_told, so.is_reader)
+
+-- the frame in front was answered, and it is one more of those that were taken
+one_front : (R : Reader) (stream bytes behind : List ℕ) (n : ℕ) (front : List Frame) (f : Frame) → frames_from MOST_FRAMES stream ≡ front ++ frames_from n bytes → frames_from n bytes ≡ f ∷ frames_from (n - 1) behind → frames_from MOST_FRAMES stream ≡ (front ++ f ∷ []) ++ frames_from (n - 1) behind
+one_front R stream bytes behind n front f parts next = parts ∙ ap (λ (l : List Frame). front ++ l) next ∙ sym (append_assoc front (f ∷ []) (frames_from (n - 1) behind))
+
 -- the frame in front was answered, and those behind it are taken too
-pub fed_on : {S : Type 0} (verifies : Verifies) (whole : ReaderFeed) (n : ℕ) (bytes behind : List ℕ) (f : Frame) (t : ReaderFeedResult) (answer : Result Taken TrimTake) (old new : Trimmed S) (so : IsFedSoFar verifies whole n bytes t old)
-    → frames_from n bytes ≡ f ∷ frames_from (n - 1) behind → ReaderTakes verifies so.feed.reader (form_of f.tag) f.payload answer new → goes_on answer ≡ true → IsFedSoFar verifies whole (n - 1) behind (after_frame answer t) new
-fed_on verifies whole n bytes behind f t (Ok New) old new so next takes on = record {
+pub fed_on : {S : Type 0} (verifies : Verifies) (R : Reader) (stream : List ℕ) (n : ℕ) (bytes behind : List ℕ) (f : Frame) (t : ReaderFeedResult) (answer : Result Taken TrimTake) (old new : Trimmed S) (so : IsFedSoFar verifies R stream n bytes t old)
+    → frames_from n bytes ≡ f ∷ frames_from (n - 1) behind → ReaderTakes verifies so.feed.reader (form_of f.tag) f.payload answer new → goes_on answer ≡ true → IsFedSoFar verifies R stream (n - 1) behind (after_frame answer t) new
+unfolding reader_fed
+fed_on verifies R stream n bytes behind f t (Ok New) old new so next takes on = record {
+  front = so.front ++ f ∷ [];
+  parts = one_front R stream bytes behind n so.front f so.parts next;
   feed = told_more (Ok New) takes.0 so.feed;
+  fed = fed_behind (reader_feed_from R) so.front (f ∷ []) so.feed so.fed so.none_full ∙ told_step so.feed f [] (Ok New) takes.0 takes.1.0;
   none_full = so.none_full;
   is_told = record { accepted = ap (λ (k : ℕ). k + 1) so.is_told.accepted; known = so.is_told.known; refused = so.is_told.refused; below = so.is_told.below; full = so.is_told.full };
   is_reader = takes.1.1;
-  is = so.is ∙ ap (reader_fed so.feed) next ∙ told_step so.feed f (frames_from (n - 1) behind) (Ok New) takes.0 takes.1.0;
 }
-fed_on verifies whole n bytes behind f t (Ok Known) old new so next takes on = record {
+fed_on verifies R stream n bytes behind f t (Ok Known) old new so next takes on = record {
+  front = so.front ++ f ∷ [];
+  parts = one_front R stream bytes behind n so.front f so.parts next;
   feed = told_more (Ok Known) takes.0 so.feed;
+  fed = fed_behind (reader_feed_from R) so.front (f ∷ []) so.feed so.fed so.none_full ∙ told_step so.feed f [] (Ok Known) takes.0 takes.1.0;
   none_full = so.none_full;
   is_told = record { accepted = so.is_told.accepted; known = ap (λ (k : ℕ). k + 1) so.is_told.known; refused = so.is_told.refused; below = so.is_told.below; full = so.is_told.full };
   is_reader = takes.1.1;
-  is = so.is ∙ ap (reader_fed so.feed) next ∙ told_step so.feed f (frames_from (n - 1) behind) (Ok Known) takes.0 takes.1.0;
 }
-fed_on verifies whole n bytes behind f t (Err (failed.Refused c)) old new so next takes on = record {
+fed_on verifies R stream n bytes behind f t (Err (failed.Refused c)) old new so next takes on = record {
+  front = so.front ++ f ∷ [];
+  parts = one_front R stream bytes behind n so.front f so.parts next;
   feed = told_more (Err c) takes.0 so.feed;
+  fed = fed_behind (reader_feed_from R) so.front (f ∷ []) so.feed so.fed so.none_full ∙ told_step so.feed f [] (Err c) takes.0 takes.1.0;
   none_full = so.none_full;
   is_told = record { accepted = so.is_told.accepted; known = so.is_told.known; refused = ap (λ (k : ℕ). k + 1) so.is_told.refused; below = so.is_told.below; full = so.is_told.full };
   is_reader = takes.1.1;
-  is = so.is ∙ ap (reader_fed so.feed) next ∙ told_step so.feed f (frames_from (n - 1) behind) (Err c) takes.0 takes.1.0;
 }
-fed_on verifies whole n bytes behind f t (Err (failed.BelowCheckpoint id)) old new so next takes on = record {
+fed_on verifies R stream n bytes behind f t (Err (failed.BelowCheckpoint id)) old new so next takes on = record {
+  front = so.front ++ f ∷ [];
+  parts = one_front R stream bytes behind n so.front f so.parts next;
   feed = record so.feed { below = so.feed.below + 1 };
+  fed = fed_behind (reader_feed_from R) so.front (f ∷ []) so.feed so.fed so.none_full ∙ below_step so.feed f [] id takes.0;
   none_full = so.none_full;
   is_told = record { accepted = so.is_told.accepted; known = so.is_told.known; refused = so.is_told.refused; below = ap (λ (k : ℕ). k + 1) so.is_told.below; full = so.is_told.full };
   is_reader = takes.1;
-  is = so.is ∙ ap (reader_fed so.feed) next ∙ below_step so.feed f (frames_from (n - 1) behind) id takes.0;
 }
-fed_on verifies whole n bytes behind f t (Err (failed.Full what)) old new so next takes on = absurd cc
-fed_on verifies whole n bytes behind f t (Err failed.Memory) old new so next takes on = absurd cc
+fed_on verifies R stream n bytes behind f t (Err (failed.Full what)) old new so next takes on = absurd cc
+fed_on verifies R stream n bytes behind f t (Err failed.Memory) old new so next takes on = absurd cc
 
 -- there was no room for the frame in front
-pub fed_to_full : {S : Type 0} (verifies : Verifies) (whole : ReaderFeed) (n : ℕ) (bytes behind : List ℕ) (f : Frame) (t : ReaderFeedResult) (answer : Result Taken TrimTake) (old new : Trimmed S) (so : IsFedSoFar verifies whole n bytes t old)
-    → frames_from n bytes ≡ f ∷ frames_from (n - 1) behind → ReaderTakes verifies so.feed.reader (form_of f.tag) f.payload answer new → goes_on answer ≡ false → answer ≢ Err failed.Memory → IsReaderFed verifies whole (Ok (after_frame answer t)) new
-fed_to_full verifies whole n bytes behind f t (Ok New) old new so next takes on found = absurd cc
-fed_to_full verifies whole n bytes behind f t (Ok Known) old new so next takes on found = absurd cc
-fed_to_full verifies whole n bytes behind f t (Err (failed.Refused c)) old new so next takes on found = absurd cc
-fed_to_full verifies whole n bytes behind f t (Err (failed.BelowCheckpoint id)) old new so next takes on found = absurd cc
-fed_to_full verifies whole n bytes behind f t (Err failed.Memory) old new so next takes on found = absurd (found refl)
-fed_to_full verifies whole n bytes behind f t (Err (failed.Full what)) old new so next takes on found =
-    let same : whole ≡ record so.feed { full = Some what } = so.is ∙ ap (reader_fed so.feed) next ∙ full_step so.feed f (frames_from (n - 1) behind) what takes.0 in
+pub fed_to_full : {S : Type 0} (verifies : Verifies) (R : Reader) (stream : List ℕ) (n : ℕ) (bytes behind : List ℕ) (f : Frame) (t : ReaderFeedResult) (answer : Result Taken TrimTake) (old new : Trimmed S) (so : IsFedSoFar verifies R stream n bytes t old)
+    → frames_from n bytes ≡ f ∷ frames_from (n - 1) behind → ReaderTakes verifies so.feed.reader (form_of f.tag) f.payload answer new → goes_on answer ≡ false → answer ≢ Err failed.Memory → IsReaderFed verifies R stream (Ok (after_frame answer t)) new
+fed_to_full verifies R stream n bytes behind f t (Ok New) old new so next takes on found = absurd cc
+fed_to_full verifies R stream n bytes behind f t (Ok Known) old new so next takes on found = absurd cc
+fed_to_full verifies R stream n bytes behind f t (Err (failed.Refused c)) old new so next takes on found = absurd cc
+fed_to_full verifies R stream n bytes behind f t (Err (failed.BelowCheckpoint id)) old new so next takes on found = absurd cc
+fed_to_full verifies R stream n bytes behind f t (Err failed.Memory) old new so next takes on found = absurd (found refl)
+fed_to_full verifies R stream n bytes behind f t (Err (failed.Full what)) old new so next takes on found =
+    let same : reader_feed_of R stream ≡ record so.feed { full = Some what } = whole_is verifies R stream n bytes t old so ∙ ap (reader_fed so.feed) next ∙ full_step so.feed f (frames_from (n - 1) behind) what takes.0 in
     subst (λ (s : ReaderFeed). IsReaderTold s (record t { full = Some what }) × IsReaderOf verifies s.reader new) (sym same)
     (record { accepted = so.is_told.accepted; known = so.is_told.known; refused = so.is_told.refused; below = so.is_told.below; full = refl }, takes.1)
+
+-- no memory was found for the frame in front
+fed_to_front : {S : Type 0} (verifies : Verifies) (R : Reader) (stream : List ℕ) (n : ℕ) (bytes : List ℕ) (f : Frame) (behind : List Frame) (t : ReaderFeedResult) (old new : Trimmed S) (so : IsFedSoFar verifies R stream n bytes t old)
+    → frames_from n bytes ≡ f ∷ behind → IsReaderOf verifies so.feed.reader new → HasTakenFront verifies R stream new
+fed_to_front verifies R stream n bytes f behind t old new so next reads =
+    let parts : frames_from MOST_FRAMES stream ≡ so.front ++ f ∷ behind = so.parts ∙ ap (λ (l : List Frame). so.front ++ l) next in
+    let fed : front_fed R stream (length so.front) ≡ so.feed = ap (reader_fed (reader_feed_from R)) (ap (take (length so.front)) parts ∙ take-append_seam so.front (f ∷ behind)) ∙ so.fed in
+    let long : length (frames_from MOST_FRAMES stream) ≡ length so.front + suc (length behind) = ap length parts ∙ length-append so.front (f ∷ behind) in
+    record {
+      count = length so.front;
+      next = omega (arith, long);
+      room = ap (λ (x : ReaderFeed). x.full) fed ∙ so.none_full;
+      reader = subst (λ (x : ReaderFeed). IsReaderOf verifies x.reader new) (sym fed) reads;
+    }
 
 -- whatever the answer is, it is a reader then
 pub is_somebodys : {S : Type 0} (verifies : Verifies) (R : Reader) (f : Frame) (answer : Result Taken TrimTake) (new : Trimmed S) → ReaderTakes verifies R (form_of f.tag) f.payload answer new → (R : Reader) × IsReaderOf verifies R new
@@ -250,8 +303,8 @@ taking_from_start verifies start stream t is some = subst (λ (x : ReaderFeedRes
   so_far = λ R reads. fed_from_start verifies R stream start reads;
 })
 
-pub taken_all : {S : Type 0} (verifies : Verifies) (start : Trimmed S) (stream : List ℕ) (at taken : ℕ) (t : ReaderFeedResult) (reader : Trimmed S) → IsTaking verifies start stream at taken t reader → frames_from (MOST_FRAMES - taken) (drop at stream) ≡ [] → (R : Reader) → IsReaderOf verifies R start → IsReaderFed verifies (reader_feed_of R stream) (Ok t) reader
-taken_all verifies start stream at taken t reader k none R reads = fed_all verifies (reader_feed_of R stream) (MOST_FRAMES - taken) (drop at stream) t reader (k.so_far R reads) none
+pub taken_all : {S : Type 0} (verifies : Verifies) (start : Trimmed S) (stream : List ℕ) (at taken : ℕ) (t : ReaderFeedResult) (reader : Trimmed S) → IsTaking verifies start stream at taken t reader → frames_from (MOST_FRAMES - taken) (drop at stream) ≡ [] → (R : Reader) → IsReaderOf verifies R start → IsReaderFed verifies R stream (Ok t) reader
+taken_all verifies start stream at taken t reader k none R reads = fed_all verifies R stream (MOST_FRAMES - taken) (drop at stream) t reader (k.so_far R reads) none
 
 pub taken_most : (n taken : ℕ) (bytes : List ℕ) → n ≤ taken → frames_from (n - taken) bytes ≡ []
 unfolding frames_from
@@ -274,20 +327,30 @@ taking_on {S} verifies start stream part at taken end tag t now old new answer k
       counts = counted_more taken answer t k.counts;
       somebodys = is_somebodys verifies k.somebodys.0 f answer new (takes_it k.somebodys.0 k.somebodys.1);
       so_far = λ R reads. let so = k.so_far R reads in
-          subst (λ (n : ℕ). IsFedSoFar verifies (reader_feed_of R stream) n (drop end stream) (after_frame answer t) new) count
-          (fed_on verifies (reader_feed_of R stream) (MOST_FRAMES - taken) (drop at stream) (drop end stream) f t answer old new so next (takes_it so.feed.reader so.is_reader) on);
+          subst (λ (n : ℕ). IsFedSoFar verifies R stream n (drop end stream) (after_frame answer t) new) count
+          (fed_on verifies R stream (MOST_FRAMES - taken) (drop at stream) (drop end stream) f t answer old new so next (takes_it so.feed.reader so.is_reader) on);
     })
 
 pub taking_full : {S : Type 0} (verifies : Verifies) (start : Trimmed S) (stream part : List ℕ) (at taken end : ℕ) (tag : FrameTag) (t now : ReaderFeedResult) (old new : Trimmed S) (answer : Result Taken TrimTake) → IsTaking verifies start stream at taken t old → taken < MOST_FRAMES → StandsAt (frame_at (drop at stream)) at (place.Frame tag end)
-    → (frame_byte tag == 4) ≡ false → part ≡ take (end - (at + 5)) (drop (at + 5) stream) → Takes verifies old (frame_byte tag) part answer new → now ≡ after_frame answer t → goes_on answer ≡ false → answer ≢ Err failed.Memory → (R : Reader) → IsReaderOf verifies R start → IsReaderFed verifies (reader_feed_of R stream) (Ok now) new
+    → (frame_byte tag == 4) ≡ false → part ≡ take (end - (at + 5)) (drop (at + 5) stream) → Takes verifies old (frame_byte tag) part answer new → now ≡ after_frame answer t → goes_on answer ≡ false → answer ≢ Err failed.Memory → (R : Reader) → IsReaderOf verifies R start → IsReaderFed verifies R stream (Ok now) new
 taking_full verifies start stream part at taken end tag t now old new answer k some stands going cut takes is on found R reads =
     let payload = stands.0 in
     let f : Frame = record { tag = frame_byte tag; payload = payload } in
     let same : part ≡ payload = cut ∙ part_is at end (frame_byte tag) stream payload stands.1.0 stands.1.1 in
     let next = next_frame MOST_FRAMES taken at end (frame_byte tag) stream payload some stands.1.0 stands.1.1 going in
     let so = k.so_far R reads in
-    subst (λ (x : ReaderFeedResult). IsReaderFed verifies (reader_feed_of R stream) (Ok x) new) (sym is)
-    (fed_to_full verifies (reader_feed_of R stream) (MOST_FRAMES - taken) (drop at stream) (drop end stream) f t answer old new so next (subst (λ (x : List ℕ). ReaderTakes verifies so.feed.reader (form_of (frame_byte tag)) x answer new) same (takes so.feed.reader so.is_reader)) on found)
+    subst (λ (x : ReaderFeedResult). IsReaderFed verifies R stream (Ok x) new) (sym is)
+    (fed_to_full verifies R stream (MOST_FRAMES - taken) (drop at stream) (drop end stream) f t answer old new so next (subst (λ (x : List ℕ). ReaderTakes verifies so.feed.reader (form_of (frame_byte tag)) x answer new) same (takes so.feed.reader so.is_reader)) on found)
+
+-- no memory was found for the frame at this place
+pub taking_short : {S : Type 0} (verifies : Verifies) (start : Trimmed S) (stream part : List ℕ) (at taken end : ℕ) (tag : FrameTag) (t : ReaderFeedResult) (old new : Trimmed S) (answer : Result Taken TrimTake) → IsTaking verifies start stream at taken t old → taken < MOST_FRAMES → StandsAt (frame_at (drop at stream)) at (place.Frame tag end)
+    → (frame_byte tag == 4) ≡ false → Takes verifies old (frame_byte tag) part answer new → answer ≡ Err failed.Memory → (R : Reader) → IsReaderOf verifies R start → HasTakenFront verifies R stream new
+taking_short verifies start stream part at taken end tag t old new answer k some stands going takes short R reads =
+    let f : Frame = record { tag = frame_byte tag; payload = stands.0 } in
+    let next = next_frame MOST_FRAMES taken at end (frame_byte tag) stream stands.0 some stands.1.0 stands.1.1 going in
+    let so = k.so_far R reads in
+    fed_to_front verifies R stream (MOST_FRAMES - taken) (drop at stream) f (frames_from (MOST_FRAMES - taken - 1) (drop end stream)) t old new so next
+    (subst (λ (x : Result Taken TrimTake). ReaderTakes verifies so.feed.reader (form_of (frame_byte tag)) part x new) short (takes so.feed.reader so.is_reader))
 
 -- ---- what it shows
 

@@ -1,8 +1,9 @@
 -- What is told of a reader that takes a stream.
-use Rattle.std.specs.Prelude.{◌≡◌, ◌+◌, ◌≤◌, ℕ, Bool, true, false, Some, Result, Ok, Err}
+use Rattle.std.specs.Prelude.{◌≡◌, ◌+◌, ◌≤◌, ◌<◌, ℕ, Bool, true, false, List, length, take, Some, None, Result, Ok, Err}
+use Rattle.depot_base.specs.declared.limits.TheConstants.{MOST_FRAMES}
 use Rattle.depot_base.specs.declared.memory.Memory.{Memory}
 use Rattle.depot_model.specs.Readers.{Reader}
-use Rattle.depot_model.specs.ReaderFeeds.{ReaderFeed}
+use Rattle.depot_model.specs.ReaderFeeds.{ReaderFeed, frames_from, reader_fed, reader_feed_from, reader_feed_of}
 use Rattle.depot_model.specs.Roster.{Verifies}
 use Rattle.depot_model.specs.declared.taken.Taken.{Taken}
 use Rattle.depot_model.specs.declared.taken.Taken.TheVariants.{New, Known}
@@ -20,10 +21,21 @@ pub record IsReaderTold (s : ReaderFeed) (t : ReaderFeedResult) : Type 0 where
   pub below : s.below ≡ t.counts.below
   pub full : s.full ≡ t.full
 
--- A reader was fed so, and it is told so. Where no memory was found it is a reader that took the first frames.
-abbrev pub IsReaderFed : {S : Type 0} → Verifies → ReaderFeed → Result ReaderFeedResult Memory → Trimmed S → Type 0
-IsReaderFed verifies s (Ok told) t = IsReaderTold s told × IsReaderOf verifies s.reader t
-IsReaderFed verifies s (Err memory) t = (R : Reader) × IsReaderOf verifies R t
+-- what a reader makes of the first so many frames of a stream
+abbrev pub front_fed : Reader → List ℕ → ℕ → ReaderFeed
+front_fed R stream n = reader_fed (reader_feed_from R) (take n (frames_from MOST_FRAMES stream))
+
+-- A reader took a front of a stream's frames, none of which met a limit, and nothing of the next one.
+pub record HasTakenFront {S : Type 0} (verifies : Verifies) (R : Reader) (stream : List ℕ) (t : Trimmed S) : Type 0 where
+  pub count : ℕ
+  pub next : count < length (frames_from MOST_FRAMES stream)
+  pub room : (front_fed R stream count).full ≡ None
+  pub reader : IsReaderOf verifies (front_fed R stream count).reader t
+
+-- A reader was fed this stream, and it is told so. Where no memory was found for a frame it has taken those in front of it.
+abbrev pub IsReaderFed : {S : Type 0} → Verifies → Reader → List ℕ → Result ReaderFeedResult Memory → Trimmed S → Type 0
+IsReaderFed verifies R stream (Ok told) t = IsReaderTold (reader_feed_of R stream) told × IsReaderOf verifies (reader_feed_of R stream).reader t
+IsReaderFed verifies R stream (Err memory) t = HasTakenFront verifies R stream t
 
 -- ---- frame by frame
 

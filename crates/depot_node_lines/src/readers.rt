@@ -3,7 +3,7 @@ ghost use Rattle.std.specs.Prelude.{◌≡◌, ◌≢◌, ◌≤◌, ◌+◌, �
 ghost use Rattle.depot_base.specs.Tags.{frame_byte};
 ghost use Rattle.depot_base.specs.declared.limits.TheConstants.{MOST_FRAMES};
 ghost use Rattle.depot_model.specs.Feeding.{form_of};
-ghost use Rattle.depot_model.specs.ReaderFeeds.{ReaderFeed, reader_feed_of};
+ghost use Rattle.depot_model.specs.ReaderFeeds.{ReaderFeed};
 ghost use Rattle.depot_model.specs.Readers.{Reader, seen_by_reader};
 ghost use Rattle.depot_answers.specs.AnswerTexts.{spaced, text_of_reader_feed};
 ghost use Rattle.depot_answers.specs.Sightings.{sighting_of_seen};
@@ -111,13 +111,13 @@ fn take_frame<S: Scheme>(
 }
 
 /// Gives a reader the frames of a stream one by one, up to the first that isn't whole or finds no room, at most 524,288, and none behind
-/// an End frame. After Memory the reader has taken the first of them.
+/// an End frame. After Memory the reader has taken the frames in front of the one for which there was none.
 pub fn feed_reader<S: Scheme>(
     reader: &mut Trimmed<S>,
     stream: &[u8],
 ) -> Result<ReaderFeedResult, Memory>
     requires { (R : Reader) × IsReaderOf S.verifies R reader.old }
-    ensures { (R : Reader) → IsReaderOf S.verifies R reader.old → IsReaderFed S.verifies (reader_feed_of R stream.now) result reader.new }
+    ensures { (R : Reader) → IsReaderOf S.verifies R reader.old → IsReaderFed S.verifies R stream.now result reader.new }
 {
     let mut told = ReaderFeedResult::none();
     let mut at = 0;

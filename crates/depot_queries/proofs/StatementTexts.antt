@@ -1,13 +1,16 @@
 -- The statements that the records of a journal hold, and their texts.
 use Rattle.std.proofs.Common.{◌≡◌, ℕ, suc, ◌^◌, ◌<◌, ◌≤◌, List, [], ◌∷◌, length, map, take, drop, Some, Option, refl, sym, ap, subst, ◌∙◌, arith, inl, inr}
 use Rattle.std.specs.Prelude.{slice_get, option_map, Result, Ok, Err, IfOk}
+use Rattle.std.specs.Int.{w32, from_be_bytes}
 use Rattle.std.specs.Option.{option_map_or}
+use Rattle.std.proofs.lemmas.List.{length-take, length-drop}
 use Rattle.std.proofs.lemmas.Option.{slice_get-map}
 use Rattle.std.proofs.lemmas.Result.{IfOk-weaker}
 use Rattle.depot_base.specs.Statement.{seq_of}
 use Rattle.depot_base.specs.declared.key.PublicKey.{PublicKey}
 use Rattle.depot_base.specs.declared.update.Update.{Update}
 use Rattle.depot_base.specs.declared.statement.Statement.{Statement}
+use Rattle.depot_base.specs.declared.statement.Statement.TheVariants as statements
 use Rattle.depot_base.specs.declared.statement.Signed.{Signed}
 use Rattle.depot_base.specs.declared.record.Record.{Record}
 use Rattle.depot_base.specs.declared.record.Record.TheVariants.{Birth, OwnPut, OwnVoucher, Foreign, Conviction, Held}
@@ -21,13 +24,14 @@ use Rattle.depot_base.specs.Cursor.{numeral}
 use Rattle.depot_base.specs.Format.{number}
 use Rattle.depot_model.specs.Records.{record_text, tagged, text_of_record, IsTextOf}
 use Rattle.depot_model.specs.Roster.{key_of}
-use Rattle.depot_model.specs.Texts.{IsStatement, IsSigned, text_of_statement, text_of_signed}
+use Rattle.depot_model.specs.Texts.{statement, update_fields, voucher_fields, IsStatement, text_of_statement, text_of_signed}
 use Rattle.depot_model.proofs.Elements.{in_at}
-use Rattle.depot_laws.proofs.Candidates.{signed_fits}
+use Rattle.depot_model.proofs.LogLaws.{told-numeral}
 use Rattle.depot_laws.proofs.Nexts.{next_of}
 use Rattle.depot_laws.proofs.OwnTexts.{own_statement_fits}
 use Rattle.depot_laws.proofs.Splits.{flat_gives, lawful_texts}
 use Rattle.depot_queries.specs.SignedRecords.{IsLeafText, IsSignable, IsSignedTextOf}
+use Rattle.depot_base.proofs.CallLaws.{numeral_long}
 use Rattle.depot_base.proofs.GeneralLaws.{parts_at}
 
 -- ---- the text of a place
@@ -38,6 +42,30 @@ text_of_place here J place r text l at e =
     let same : option_map text_of_record (slice_get J place) ≡ Some text = sym (slice_get-map text_of_record J place) ∙ e in
     let is : Some (text_of_record r) ≡ Some text = ap (option_map text_of_record) (sym at) ∙ same in
     record { fits = lawful_texts here J r l (in_at J place r at); is = cc }
+
+-- ---- the body of a statement
+
+-- behind its version, its kind and its writer stands its number
+number_in_body : (s : Statement) → take 4 (drop 4 (text_of_statement s)) ≡ numeral w32 (seq_of s)
+unfolding statement update_fields voucher_fields number numeral
+number_in_body (statements.Update u) = refl
+number_in_body (statements.Voucher v) = refl
+
+seq_in_range : (s : Statement) → IsStatement s → seq_of s ≤ 4294967295
+unfolding statement update_fields voucher_fields number
+seq_in_range (statements.Update u) (version, (kind, (writer, (seq, more)))) = seq.1
+seq_in_range (statements.Voucher v) (version, (kind, (node, (seq, more)))) = seq.1
+
+-- which is read back
+pub seq_in_body : (s : Statement) (body : List ℕ) → IsStatement s → body ≡ text_of_statement s → from_be_bytes w32 (take 4 (drop 4 body)) ≡ seq_of s
+seq_in_body s body fits is =
+    ap (λ (b : List ℕ). from_be_bytes w32 (take 4 (drop 4 b))) is ∙ ap (from_be_bytes w32) (number_in_body s) ∙ told-numeral (seq_of s) (omega (arith, seq_in_range s fits))
+
+-- so the body is long enough for it
+pub body_is_long : (s : Statement) (body : List ℕ) → body ≡ text_of_statement s → 8 ≤ length body
+body_is_long s body is =
+    let four : length (take 4 (drop 4 body)) ≡ 4 = ap (λ (b : List ℕ). length (take 4 (drop 4 b))) is ∙ ap length (number_in_body s) ∙ numeral_long (seq_of s) in
+    omega (arith, four, length-take 4 (drop 4 body), length-drop 4 body)
 
 -- ---- own statements
 
@@ -86,13 +114,6 @@ unfolding signed_with
 signed_by_parts sign s body signature seq text number signed =
     let signature_is = signed ∙ ap (λ (n : ℕ). sign n body) number ∙ ap (sign (seq_of s)) text in
     λ i. record { statement = s; body = text i; signature = signature_is i }
-
--- it has a text, where signatures aren't too long
-pub parts_fit : (sign : Signs) (s : Statement) (body signature : List ℕ) (seq : ℕ) → IsStatement s → ((n : ℕ) (b : List ℕ) → length (sign n b) ≤ 8192) → body ≡ text_of_statement s → seq ≡ seq_of s → signature ≡ sign seq body
-    → IsSigned (record { statement = s; body = body; signature = signature })
-unfolding signed_with
-parts_fit sign s body signature seq fits short text number signed =
-    subst (λ (x : Signed). IsSigned x) (sym (signed_by_parts sign s body signature seq text number signed)) (signed_fits sign s fits (short (seq_of s) (text_of_statement s)))
 
 -- ---- another's statement
 

@@ -1,6 +1,7 @@
 //! The signed statement of a record.
 ghost use Rattle.std.specs.Prelude.{◌≡◌, ◌∷◌, ◌+◌, ◌≤◌, ℕ, List, length, take, drop, map, IfOk, option_copied, option_to_list};
 ghost use Rattle.std.specs.Int.{w32, from_be_bytes};
+ghost use Rattle.depot_base.specs.declared.limits.TheConstants.{MOST_BODY, MOST_SIGNATURE};
 ghost use Rattle.depot_base.specs.declared.record.Record.{Record};
 ghost use Rattle.depot_base.specs.declared.statement.Statement.{Statement};
 ghost use Rattle.depot_model.specs.Bundle.{signed_with};
@@ -9,9 +10,8 @@ ghost use Rattle.depot_model.specs.Texts.{IsStatement, text_of_statement, text_o
 ghost use Rattle.depot_model.specs.Records.{IsTextOf};
 ghost use Rattle.depot_queries.specs.SignedRecords.{IsLeafText, IsSignable, IsSignedTextOf};
 
-use depot_base::{Bytes, DecodeError, Memory, RecordTag, Signed, Statement};
+use depot_base::{Bytes, Memory, RecordTag};
 use depot_model::Signer;
-use depot_update::{decode_statement, encode_signed};
 use std::alloc::Global;
 
 /// The text of the signed statement that a record holds: another's as it came, an own one signed now. `text` is the record's.
@@ -53,32 +53,37 @@ fn body_in_own_put(text: &[u8]) -> &[u8]
     &text[5..5 + length as usize]
 }
 
-/// The statement with this body, which is one's.
-fn statement_of(alloc: Global, body: &[u8]) -> Result<Statement, Memory>
-    requires { (s : Statement) × (IsStatement s × (body.now ≡ text_of_statement s)) }
-    ensures { IfOk result (λ found. (s : Statement) → IsStatement s → body.now ≡ text_of_statement s → found ≡ s) }
-{
-    match decode_statement(alloc, body) {
-        Ok(statement) => Ok(statement),
-        Err(DecodeError::Memory) => Err(Memory),
-        Err(DecodeError::IllFormed(_)) => unreachable!(),
-    }
-}
-
-/// The text of a statement of the signer's own, signed now. `body` is the statement's.
+/// The text of a statement of the signer's own, signed now. `body` is the statement's: it is signed and written as it stands.
 fn own_text<G: Signer>(alloc: Global, signer: &G, body: &[u8]) -> Result<Bytes, Memory>
     requires { (s : Statement) × IsLeafText (G.key_of signer.now) s body.now }
     ensures { IfOk result (λ text. (s : Statement) → IsStatement s → body.now ≡ text_of_statement s → text ≡ text_of_signed (signed_with (G.signature_of signer.now) s)) }
 {
-    let statement = statement_of(alloc, body)?;
-    let signature = signer.sign(statement.seq(), body)?;
-    let body = Bytes::from_slice(alloc, body)?;
-    let signed = Signed {
-        statement,
-        body,
-        signature,
-    };
-    encode_signed(alloc, &signed)
+    let signature = signer.sign(seq_in(body), body)?;
+    write_signed(alloc, body, signature.as_slice())
+}
+
+/// The number of the statement with this body. An update and a voucher have it at one offset: behind version, kind and node.
+fn seq_in(body: &[u8]) -> u32
+    requires { 8 ≤ length body.now }
+    ensures { result ≡ from_be_bytes w32 (take 4 (drop 4 body.now)) }
+{
+    u32::from_be_bytes([body[4], body[5], body[6], body[7]])
+}
+
+/// The text of the signed statement with this body and this signature: each behind its length. Its memory is found first.
+#[tactic(auto, using(depot_base::proofs::Writing::texts), unfolding(depot_model::specs::Texts::signed, depot_base::specs::Format::number, depot_base::specs::Format::bytes_of))]
+fn write_signed(alloc: Global, body: &[u8], signature: &[u8]) -> Result<Bytes, Memory>
+    requires body { length body.now ≤ MOST_BODY }
+    requires signature { length signature.now ≤ MOST_SIGNATURE }
+    ensures { IfOk result (λ text. (s : Statement) → body.now ≡ text_of_statement s → text ≡ text_of_signed (record { statement = s; body = body.now; signature = signature.now })) }
+{
+    let room = Vec::with_capacity(alloc, 8 + body.len() + signature.len())?;
+    let mut text = Bytes::from_vec(room);
+    text.push_u32(body.len() as u32)?;
+    text.push_all(body)?;
+    text.push_u32(signature.len() as u32)?;
+    text.push_all(signature)?;
+    Ok(text)
 }
 
 /// The text without its first byte.

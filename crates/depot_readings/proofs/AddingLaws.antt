@@ -12,10 +12,10 @@ use Rattle.depot_model.specs.declared.taken.Taken.{Taken}
 use Rattle.depot_readings.specs.AddedValues.{AddsAll}
 use Rattle.depot_readings.proofs.HeldLaws.{Adds, adds_next, adds_none}
 
--- what holds of the names before and of the next one holds of all up to there
-pub each_next : (P : NamedValue → Type 0) (ns : List NamedValue) (i : ℕ) (n : NamedValue) → i < length ns → n ≡ get_or ns i n → ((m : NamedValue) → IsIn m (take i ns) → P m) → P n → (m : NamedValue) → IsIn m (take (i + 1) ns) → P m
-each_next P ns i n low is before own m on =
-    elim (in_pushed m (take i ns) n (subst (λ (xs : List NamedValue). IsIn m xs) (take_next ns i n low is) on)) [ inl front ↦ before m front | inr here ↦ subst P here own ]
+-- what holds of those before and of the next one holds of all up to there
+pub each_next : {X : Type 0} (P : X → Type 0) (ns : List X) (i : ℕ) (n : X) → i < length ns → n ≡ get_or ns i n → ((m : X) → IsIn m (take i ns) → P m) → P n → (m : X) → IsIn m (take (i + 1) ns) → P m
+each_next {X = X} P ns i n low is before own m on =
+    elim (in_pushed m (take i ns) n (subst (λ (xs : List X). IsIn m xs) (take_next ns i n low is) on)) [ inl front ↦ before m front | inr here ↦ subst P here own ]
 
 -- All values but those that are left are added.
 pub record AreIn (all left : List (List ℕ)) (place : ℕ) (old new : Values) : Type 0 where

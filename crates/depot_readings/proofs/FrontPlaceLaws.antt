@@ -12,20 +12,20 @@ use Rattle.std.proofs.lemmas.Option.{slice_get_within}
 use Rattle.depot_base.specs.declared.proof.Proof.{Proof}
 use Rattle.depot_base.specs.declared.record.Record.{Record}
 use Rattle.depot_base.specs.declared.record.Record.TheVariants.{Birth, OwnPut, OwnVoucher, Foreign, Conviction, Held}
-use Rattle.depot_base.specs.declared.update.NamedValue.{NamedValue}
 use Rattle.depot_base.specs.declared.voucher.Voucher.{Voucher}
 use Rattle.depot_base.proofs.GeneralLaws.{bytes_eq_comm, from_pushed, get_last, or_none, same_test, take_next, to_pushed}
 use Rattle.depot_model.specs.Journal.{accused, proof_by}
 use Rattle.depot_model.specs.Lists.{IsIn, is_among}
 use Rattle.depot_model.specs.Vouching.{own_voucher_by, records_of}
-use Rattle.depot_readings.specs.FrontPlaces.{AddsPlaces, AreFrontPlaces, AreNewPlaces, convictions_from, pairs_from, vouches, vouches_at, with_place}
-use Rattle.depot_readings.specs.Named.{is_name, is_value_named, has_named_value}
+use Rattle.depot_readings.specs.FrontPlaces.{AddsPlaces, AreFrontPlaces, AreNewPlaces, convictions_from, voucher_places_from, vouches, vouches_at, with_place}
 use Rattle.depot_readings.specs.NewRecords.{records_in, vouchers_of}
+use Rattle.depot_readings.specs.VoucherPlaces.{is_among_places, is_voucher_place, has_voucher_place}
 use Rattle.depot_readings.specs.declared.front_places.ConvictedAt.{ConvictedAt}
 use Rattle.depot_readings.specs.declared.front_places.FrontPlaces.{FrontPlaces}
 use Rattle.depot_readings.specs.declared.front_places.NewPlaces.{NewPlaces}
 use Rattle.depot_readings.specs.declared.news.NewVoucher.{NewVoucher}
 use Rattle.depot_readings.specs.declared.news.News.{News}
+use Rattle.depot_readings.specs.declared.voucher_places.VoucherPlace.{VoucherPlace}
 use Rattle.depot_readings.proofs.VoucherRecords.{records_push}
 
 -- ---- convictions
@@ -47,30 +47,30 @@ none_convicting n (v ∷ vs) = none_convicting (n + 1) vs
 
 -- ---- ids with places
 
--- the pairs of two lists of records are those of the first, and behind them those of the second
-pairs_from-append : (n : ℕ) (J new : List Record) → pairs_from n (J ++ new) ≡ pairs_from n J ++ pairs_from (n + length J) new
-unfolding pairs_from
-pairs_from-append n [] new = ap (λ (k : ℕ). pairs_from k new) (omega arith)
-pairs_from-append n (r ∷ J) new =
-    let here : List NamedValue = flat_map (λ (v : Voucher). with_place n v.ids) (own_voucher_by r) in
-    ap (λ (ps : List NamedValue). here ++ ps) (pairs_from-append (n + 1) J new ∙ ap (λ (k : ℕ). pairs_from (n + 1) J ++ pairs_from k new) (omega arith))
-    ∙ sym (append_assoc here (pairs_from (n + 1) J) (pairs_from (n + length (r ∷ J)) new))
+-- those of two lists of records are those of the first, and behind them those of the second
+voucher_places_from-append : (n : ℕ) (J new : List Record) → voucher_places_from n (J ++ new) ≡ voucher_places_from n J ++ voucher_places_from (n + length J) new
+unfolding voucher_places_from
+voucher_places_from-append n [] new = ap (λ (k : ℕ). voucher_places_from k new) (omega arith)
+voucher_places_from-append n (r ∷ J) new =
+    let here : List VoucherPlace = flat_map (λ (v : Voucher). with_place n v.ids) (own_voucher_by r) in
+    ap (λ (ps : List VoucherPlace). here ++ ps) (voucher_places_from-append (n + 1) J new ∙ ap (λ (k : ℕ). voucher_places_from (n + 1) J ++ voucher_places_from k new) (omega arith))
+    ∙ sym (append_assoc here (voucher_places_from (n + 1) J) (voucher_places_from (n + length (r ∷ J)) new))
 
 -- one own voucher more
-pub pairs_push : (n : ℕ) (J : List Record) (v : Voucher) → pairs_from n (J ++ OwnVoucher v ∷ []) ≡ pairs_from n J ++ with_place (n + length J) v.ids
-unfolding pairs_from
-pairs_push n J v =
-    pairs_from-append n J (OwnVoucher v ∷ []) ∙ ap (λ (ps : List NamedValue). pairs_from n J ++ ps) (append-nil (with_place (n + length J) v.ids ++ []) ∙ append-nil (with_place (n + length J) v.ids))
+pub places_push : (n : ℕ) (J : List Record) (v : Voucher) → voucher_places_from n (J ++ OwnVoucher v ∷ []) ≡ voucher_places_from n J ++ with_place (n + length J) v.ids
+unfolding voucher_places_from
+places_push n J v =
+    voucher_places_from-append n J (OwnVoucher v ∷ []) ∙ ap (λ (ps : List VoucherPlace). voucher_places_from n J ++ ps) (append-nil (with_place (n + length J) v.ids ++ []) ∙ append-nil (with_place (n + length J) v.ids))
 
 -- the same of new vouchers that are gone through
-pub next_pairs : (n : ℕ) (xs : List NewVoucher) (i : ℕ) (x : NewVoucher) (place : ℕ) (old new : List NamedValue) → i < length xs → x ≡ get_or xs i x → place ≡ n + i → old ≡ pairs_from n (records_of (vouchers_of (take i xs))) → new ≡ old ++ with_place place x.voucher.ids
-    → new ≡ pairs_from n (records_of (vouchers_of (take (i + 1) xs)))
-next_pairs n xs i x place old new low is at before more =
+pub next_places : (n : ℕ) (xs : List NewVoucher) (i : ℕ) (x : NewVoucher) (place : ℕ) (old new : List VoucherPlace) → i < length xs → x ≡ get_or xs i x → place ≡ n + i → old ≡ voucher_places_from n (records_of (vouchers_of (take i xs))) → new ≡ old ++ with_place place x.voucher.ids
+    → new ≡ voucher_places_from n (records_of (vouchers_of (take (i + 1) xs)))
+next_places n xs i x place old new low is at before more =
     let front : List NewVoucher = take i xs in
     let many : length (records_of (vouchers_of front)) ≡ i = omega (arith, low, length-map (vouchers_of front) (λ (v : Voucher). OwnVoucher v), length-map front (λ (y : NewVoucher). y.voucher), length-take i xs) in
-    more ∙ ap (λ (ps : List NamedValue). ps ++ with_place place x.voucher.ids) before
-    ∙ ap (λ (k : ℕ). pairs_from n (records_of (vouchers_of front)) ++ with_place k x.voucher.ids) (at ∙ ap (λ (k : ℕ). n + k) (sym many))
-    ∙ sym (ap (λ (ys : List NewVoucher). pairs_from n (records_of (vouchers_of ys))) (take_next xs i x low is) ∙ ap (pairs_from n) (records_push front x) ∙ pairs_push n (records_of (vouchers_of front)) x.voucher)
+    more ∙ ap (λ (ps : List VoucherPlace). ps ++ with_place place x.voucher.ids) before
+    ∙ ap (λ (k : ℕ). voucher_places_from n (records_of (vouchers_of front)) ++ with_place k x.voucher.ids) (at ∙ ap (λ (k : ℕ). n + k) (sym many))
+    ∙ sym (ap (λ (ys : List NewVoucher). voucher_places_from n (records_of (vouchers_of ys))) (take_next xs i x low is) ∙ ap (voucher_places_from n) (records_push front x) ∙ places_push n (records_of (vouchers_of front)) x.voucher)
 
 and_over : (a b c : Bool) → ((a && c) || (b && c)) ≡ ((a || b) && c)
 and_over true true true = refl
@@ -80,19 +80,19 @@ and_over true false false = refl
 and_over false b c = refl
 
 -- an id stands with a place where it is one of the ids, and the place is theirs
-placed : (n : ℕ) (ids : List (List ℕ)) (id : List ℕ) (place : ℕ) → is_name (with_place n ids) id place ≡ (is_among id ids && eqb n place)
+placed : (n : ℕ) (ids : List (List ℕ)) (id : List ℕ) (place : ℕ) → is_among_places (with_place n ids) id place ≡ (is_among id ids && eqb n place)
 placed n [] id place = refl
 placed n (h ∷ hs) id place =
-    ap (λ (b : Bool). (b && eqb n place) || is_name (with_place n hs) id place) (bytes_eq_comm h id) ∙ ap (λ (b : Bool). (bytes_eq id h && eqb n place) || b) (placed n hs id place)
+    ap (λ (b : Bool). (b && eqb n place) || is_among_places (with_place n hs) id place) (bytes_eq_comm h id) ∙ ap (λ (b : Bool). (bytes_eq id h && eqb n place) || b) (placed n hs id place)
     ∙ and_over (bytes_eq id h) (is_among id hs) (eqb n place)
 
-record_pairs : (n : ℕ) (r : Record) (id : List ℕ) (place : ℕ) → is_name (flat_map (λ v. with_place n v.ids) (own_voucher_by r)) id place ≡ (vouches id r && eqb n place)
-record_pairs n (OwnVoucher v) id place = ap (λ (ps : List NamedValue). is_name ps id place) (append-nil (with_place n v.ids)) ∙ placed n v.ids id place ∙ ap (λ (b : Bool). b && eqb n place) (or_none (is_among id v.ids))
-record_pairs n (Birth node h) id place = refl
-record_pairs n (OwnPut u values) id place = refl
-record_pairs n (Foreign s) id place = refl
-record_pairs n (Conviction p) id place = refl
-record_pairs n (Held value) id place = refl
+record_places : (n : ℕ) (r : Record) (id : List ℕ) (place : ℕ) → is_among_places (flat_map (λ v. with_place n v.ids) (own_voucher_by r)) id place ≡ (vouches id r && eqb n place)
+record_places n (OwnVoucher v) id place = ap (λ (ps : List VoucherPlace). is_among_places ps id place) (append-nil (with_place n v.ids)) ∙ placed n v.ids id place ∙ ap (λ (b : Bool). b && eqb n place) (or_none (is_among id v.ids))
+record_places n (Birth node h) id place = refl
+record_places n (OwnPut u values) id place = refl
+record_places n (Foreign s) id place = refl
+record_places n (Conviction p) id place = refl
+record_places n (Held value) id place = refl
 
 -- ---- the record of a place
 
@@ -125,41 +125,41 @@ vouches_push J r id place = same_test _ _ to back where
         at_passing (vouches id) (J ++ r ∷ []) place r (ap (slice_get (J ++ r ∷ [])) (sym (eqb-true (length J) place parts.1)) ∙ get_last J r) parts.0
   ]
 
--- more records vouch where they did, and where their pairs say
-vouches_more : (J new : List Record) (id : List ℕ) (place : ℕ) → vouches_at (J ++ new) id place ≡ (vouches_at J id place || is_name (pairs_from (length J) new) id place)
-unfolding pairs_from
+-- more records vouch where they did, and where the new ones vouch
+vouches_more : (J new : List Record) (id : List ℕ) (place : ℕ) → vouches_at (J ++ new) id place ≡ (vouches_at J id place || is_among_places (voucher_places_from (length J) new) id place)
+unfolding voucher_places_from
 vouches_more J [] id place = ap (λ (K : List Record). vouches_at K id place) (append-nil J) ∙ or_none (vouches_at J id place)
 vouches_more J (r ∷ rs) id place =
     let next : List Record = J ++ r ∷ [] in
-    let here : List NamedValue = flat_map (λ (v : Voucher). with_place (length J) v.ids) (own_voucher_by r) in
-    let rest : List NamedValue = pairs_from (length J + 1) rs in
+    let here : List VoucherPlace = flat_map (λ (v : Voucher). with_place (length J) v.ids) (own_voucher_by r) in
+    let rest : List VoucherPlace = voucher_places_from (length J + 1) rs in
     ap (λ (K : List Record). vouches_at K id place) (sym (append_assoc J (r ∷ []) rs))
     ∙ vouches_more next rs id place
-    ∙ ap (λ (n : ℕ). vouches_at next id place || is_name (pairs_from n rs) id place) (length-append J (r ∷ []))
-    ∙ ap (λ (b : Bool). b || is_name rest id place) (vouches_push J r id place ∙ ap (λ (b : Bool). vouches_at J id place || b) (sym (record_pairs (length J) r id place)))
-    ∙ or_assoc (vouches_at J id place) (is_name here id place) (is_name rest id place)
-    ∙ ap (λ (b : Bool). vouches_at J id place || b) (sym (list_any-append (λ (n : NamedValue). is_value_named n id place) here rest))
+    ∙ ap (λ (n : ℕ). vouches_at next id place || is_among_places (voucher_places_from n rs) id place) (length-append J (r ∷ []))
+    ∙ ap (λ (b : Bool). b || is_among_places rest id place) (vouches_push J r id place ∙ ap (λ (b : Bool). vouches_at J id place || b) (sym (record_places (length J) r id place)))
+    ∙ or_assoc (vouches_at J id place) (is_among_places here id place) (is_among_places rest id place)
+    ∙ ap (λ (b : Bool). vouches_at J id place || b) (sym (list_any-append (λ (v : VoucherPlace). is_voucher_place v id place) here rest))
 
 -- ---- what is kept
 
 -- nothing stands in front of no records
-pub none_in_front : (front : FrontPlaces) → front.convictions.items ≡ [] → ((id : List ℕ) (place : ℕ) → has_named_value front.vouchers id place ≡ false) → AreFrontPlaces [] front
+pub none_in_front : (front : FrontPlaces) → front.convictions.items ≡ [] → ((id : List ℕ) (place : ℕ) → has_voucher_place front.vouchers id place ≡ false) → AreFrontPlaces [] front
 unfolding convictions_from
 none_in_front front none empty = record { convictions = none; vouchers = empty }
 
 -- it grows with the records
 pub front_grows : (J : List Record) (news : News) (count : ℕ) (new : NewPlaces) (mid then : FrontPlaces) → count ≡ length J → AreNewPlaces count news new → then.convictions.items ≡ mid.convictions.items ++ option_to_list new.conviction
-    → ((id : List ℕ) (place : ℕ) → has_named_value then.vouchers id place ≡ (has_named_value mid.vouchers id place || is_name new.vouchers.items id place)) → AreFrontPlaces J mid → AreFrontPlaces (J ++ records_in news) then
+    → ((id : List ℕ) (place : ℕ) → has_voucher_place then.vouchers id place ≡ (has_voucher_place mid.vouchers id place || is_among_places new.vouchers.items id place)) → AreFrontPlaces J mid → AreFrontPlaces (J ++ records_in news) then
 front_grows J news count new mid then is n convictions vouchers f = record {
   convictions = convictions ∙ ap (λ (cs : List ConvictedAt). cs ++ option_to_list new.conviction) f.convictions
       ∙ ap (λ (cs : List ConvictedAt). convictions_from 0 J ++ cs) (n.conviction ∙ ap (λ (k : ℕ). convictions_from k (records_in news)) is) ∙ sym (convictions_from-append 0 J (records_in news) ∙ ap (λ (k : ℕ). convictions_from 0 J ++ convictions_from k (records_in news)) (omega arith));
-  vouchers = λ id place. vouchers id place ∙ ap (λ (b : Bool). b || is_name new.vouchers.items id place) (f.vouchers id place)
-      ∙ ap (λ (ps : List NamedValue). vouches_at J id place || is_name ps id place) (n.vouchers ∙ ap (λ (k : ℕ). pairs_from k (records_in news)) is) ∙ sym (vouches_more J (records_in news) id place);
+  vouchers = λ id place. vouchers id place ∙ ap (λ (b : Bool). b || is_among_places new.vouchers.items id place) (f.vouchers id place)
+      ∙ ap (λ (ps : List VoucherPlace). vouches_at J id place || is_among_places ps id place) (n.vouchers ∙ ap (λ (k : ℕ). voucher_places_from k (records_in news)) is) ∙ sym (vouches_more J (records_in news) id place);
 }
 
 -- what is told of an id
-pub adds_places : {E : Type 0} (r : Result (Unit {0}) E) (J : List Record) (front : FrontPlaces) (id : List ℕ) (old new : List ℕ) → AreFrontPlaces J front → length J < 4294967296 → OnOk r ((size : ℕ) → IsIn size old → IsIn size new)
-    → OnOk r ((size : ℕ) → size < 4294967296 → has_named_value front.vouchers id size ≡ true → IsIn size new) → OnOk r ((size : ℕ) → IsIn size new → IsIn size old ⊎ (has_named_value front.vouchers id size ≡ true)) → OnOk r (AddsPlaces J id old new)
+pub adds_places : {E : Type 0} (r : Result (Unit {0}) E) (J : List Record) (front : FrontPlaces) (id : List ℕ) (old new : List ℕ) → AreFrontPlaces J front → length J < 4294967296 → OnOk r ((place : ℕ) → IsIn place old → IsIn place new)
+    → OnOk r ((place : ℕ) → place < 4294967296 → has_voucher_place front.vouchers id place ≡ true → IsIn place new) → OnOk r ((place : ℕ) → IsIn place new → IsIn place old ⊎ (has_voucher_place front.vouchers id place ≡ true)) → OnOk r (AddsPlaces J id old new)
 adds_places (Err e) J front id old new f short kept all only = tt
 adds_places (Ok done) J front id old new f short kept all only = record {
   kept = kept;

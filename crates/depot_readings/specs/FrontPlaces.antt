@@ -4,16 +4,16 @@ use Rattle.std.specs.List.{flat_map, list_any}
 use Rattle.std.specs.Option.{option_to_list}
 use Rattle.std.specs.Vec.{vec_capacity}
 use Rattle.depot_base.specs.declared.record.Record.{Record}
-use Rattle.depot_base.specs.declared.update.NamedValue.{NamedValue}
 use Rattle.depot_model.specs.Journal.{accused, proof_by}
 use Rattle.depot_model.specs.Lists.{IsIn, is_among}
 use Rattle.depot_model.specs.Vouching.{own_voucher_by}
-use Rattle.depot_readings.specs.Named.{HasRooms, has_named_value}
 use Rattle.depot_readings.specs.NewRecords.{records_in}
+use Rattle.depot_readings.specs.VoucherPlaces.{HasPlaceRooms, has_voucher_place}
 use Rattle.depot_readings.specs.declared.news.News.{News}
 use Rattle.depot_readings.specs.declared.front_places.ConvictedAt.{ConvictedAt}
 use Rattle.depot_readings.specs.declared.front_places.FrontPlaces.{FrontPlaces}
 use Rattle.depot_readings.specs.declared.front_places.NewPlaces.{NewPlaces}
+use Rattle.depot_readings.specs.declared.voucher_places.VoucherPlace.{VoucherPlace}
 
 -- ---- convictions
 
@@ -33,13 +33,13 @@ abbrev pub vouches_at : List Record → List ℕ → ℕ → Bool
 vouches_at J id place = list_any (vouches id) (option_to_list (slice_get J place))
 
 -- ids with a place
-abbrev pub with_place : ℕ → List (List ℕ) → List NamedValue
-with_place n ids = map (λ id. record { hash = id; size = n }) ids
+abbrev pub with_place : ℕ → List (List ℕ) → List VoucherPlace
+with_place n ids = map (λ id. record { id = id; place = n }) ids
 
 -- the ids that own vouchers among the records from place n on name, each with the place
-unfoldable pub pairs_from : ℕ → List Record → List NamedValue
-pairs_from n [] = []
-pairs_from n (r ∷ rs) = flat_map (λ v. with_place n v.ids) (own_voucher_by r) ++ pairs_from (n + 1) rs
+unfoldable pub voucher_places_from : ℕ → List Record → List VoucherPlace
+voucher_places_from n [] = []
+voucher_places_from n (r ∷ rs) = flat_map (λ v. with_place n v.ids) (own_voucher_by r) ++ voucher_places_from (n + 1) rs
 
 -- These numbers are those that were, and the places of the own vouchers that name this id.
 pub record AddsPlaces (J : List Record) (id : List ℕ) (old new : List ℕ) : Type 0 where
@@ -52,14 +52,14 @@ pub record AddsPlaces (J : List Record) (id : List ℕ) (old new : List ℕ) : T
 -- These are the convictions by these records, and the ids that own vouchers among them name, each with the vouchers' places.
 pub record AreFrontPlaces (J : List Record) (front : FrontPlaces) : Type 0 where
   pub convictions : front.convictions.items ≡ convictions_from 0 J
-  pub vouchers : (id : List ℕ) (place : ℕ) → has_named_value front.vouchers id place ≡ vouches_at J id place
+  pub vouchers : (id : List ℕ) (place : ℕ) → has_voucher_place front.vouchers id place ≡ vouches_at J id place
 
 -- what a growth brings of it behind so many records
 pub record AreNewPlaces (count : ℕ) (news : News) (new : NewPlaces) : Type 0 where
   pub conviction : option_to_list new.conviction ≡ convictions_from count (records_in news)
-  pub vouchers : new.vouchers.items ≡ pairs_from count (records_in news)
+  pub vouchers : new.vouchers.items ≡ voucher_places_from count (records_in news)
 
 -- there is room for it
 pub record HasRoomFor (front : FrontPlaces) (new : NewPlaces) : Type 0 where
   pub conviction : vec_len front.convictions + length (option_to_list new.conviction) ≤ vec_capacity front.convictions
-  pub vouchers : HasRooms front.vouchers new.vouchers.items
+  pub vouchers : HasPlaceRooms front.vouchers new.vouchers.items

@@ -9,6 +9,7 @@ pub mod Taken
 pub mod Places
 pub mod OwnIds
 pub mod FrontPlaces
+pub mod VoucherPlaces
 pub mod ReadingsParts
 pub mod AddedValues
 pub mod Lacking

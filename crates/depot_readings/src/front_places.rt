@@ -1,18 +1,17 @@
 //! Where the records stand that a bundle has in front: convictions, and own vouchers by the ids that they name.
-ghost use Rattle.std.specs.Prelude.{◌≡◌, ◌<◌, ◌≤◌, ◌+◌, ◌^◌, ◌++◌, ◌||◌, ◌⊎◌, ℕ, List, [], true, length, OnOk, IfOk};
+ghost use Rattle.std.specs.Prelude.{◌≡◌, ◌≤◌, ◌+◌, ◌++◌, ◌||◌, ℕ, List, [], length, OnOk, IfOk};
 ghost use Rattle.std.specs.Option.{option_to_list};
 ghost use Rattle.depot_base.specs.declared.limits.TheConstants.{MOST_RECORDS};
 ghost use Rattle.depot_base.specs.declared.record.Record.{Record};
 ghost use Rattle.depot_model.specs.Journal.{accused};
-ghost use Rattle.depot_model.specs.Lists.{IsIn};
 ghost use Rattle.depot_model.specs.Vouching.{records_of};
-ghost use Rattle.depot_readings.specs.FrontPlaces.{AreFrontPlaces, AreNewPlaces, HasRoomFor, convictions_from, pairs_from, with_place};
-ghost use Rattle.depot_readings.specs.Named.{is_name, has_named_value};
+ghost use Rattle.depot_readings.specs.FrontPlaces.{AreFrontPlaces, AreNewPlaces, HasRoomFor, convictions_from, voucher_places_from, with_place};
 ghost use Rattle.depot_readings.specs.NewRecords.{records_in, vouchers_of};
+ghost use Rattle.depot_readings.specs.VoucherPlaces.{has_voucher_place, is_among_places};
 
-use crate::named::NamedValues;
 use crate::news::{NewVoucher, News};
-use depot_base::{Hash32, Memory, NamedValue, NodeId, Proof};
+use crate::voucher_places::{VoucherPlace, VoucherPlaces};
+use depot_base::{Hash32, Memory, NodeId, Proof};
 use std::alloc::Global;
 
 /// A convicted node, and the place, from 0, of the record that convicts it.
@@ -28,15 +27,14 @@ pub struct ConvictedAt {
 #[derive(Drop)]
 pub struct FrontPlaces {
     pub(crate) convictions: Vec<ConvictedAt>,
-    // Each pair of an id and a place stands as a hash and a number: whoever signs a voucher picks its ids, so they are in order.
-    pub(crate) vouchers: NamedValues,
+    pub(crate) vouchers: VoucherPlaces,
 }
 
 /// What a growth brings of it.
 #[derive(Drop)]
 pub(crate) struct NewPlaces {
     pub(crate) conviction: Option<ConvictedAt>,
-    pub(crate) vouchers: Vec<NamedValue>,
+    pub(crate) vouchers: Vec<VoucherPlace>,
 }
 
 impl FrontPlaces {
@@ -46,7 +44,7 @@ impl FrontPlaces {
     {
         FrontPlaces {
             convictions: Vec::new(alloc),
-            vouchers: NamedValues::new(alloc),
+            vouchers: VoucherPlaces::new(alloc),
         }
     }
 
@@ -66,7 +64,7 @@ impl FrontPlaces {
     pub(crate) fn add(&mut self, new: &NewPlaces)
         requires { HasRoomFor self.old new.now }
         ensures convictions { self.new.convictions.items ≡ self.old.convictions.items ++ option_to_list new.now.conviction }
-        ensures vouchers { (id : List ℕ) (place : ℕ) → has_named_value self.new.vouchers id place ≡ (has_named_value self.old.vouchers id place || is_name new.now.vouchers.items id place) }
+        ensures vouchers { (id : List ℕ) (place : ℕ) → has_voucher_place self.new.vouchers id place ≡ (has_voucher_place self.old.vouchers id place || is_among_places new.now.vouchers.items id place) }
     {
         if let Some(conviction) = new.conviction {
             self.convictions.push_reserved(conviction);
@@ -80,7 +78,7 @@ pub(crate) fn new_places(alloc: Global, news: &News, count: u32) -> Result<NewPl
     requires { count + length (records_in news.now) ≤ MOST_RECORDS }
     ensures { IfOk result (AreNewPlaces count news.now) }
 {
-    let vouchers = pairs_in(alloc, news, count)?;
+    let vouchers = voucher_places_in(alloc, news, count)?;
     Ok(NewPlaces {
         conviction: conviction_in(news, count),
         vouchers,
@@ -110,69 +108,41 @@ fn convicted_at(proof: &Proof, place: u32) -> ConvictedAt
 }
 
 /// The ids that its own vouchers name, each with its place.
-#[tactic(auto, unfolding(crate::specs::FrontPlaces::pairs_from))]
-fn pairs_in(alloc: Global, news: &News, count: u32) -> Result<Vec<NamedValue>, Memory>
+#[tactic(auto, unfolding(crate::specs::FrontPlaces::voucher_places_from))]
+fn voucher_places_in(alloc: Global, news: &News, count: u32) -> Result<Vec<VoucherPlace>, Memory>
     requires { count + length (records_in news.now) ≤ MOST_RECORDS }
-    ensures { IfOk result (λ pairs. pairs.items ≡ pairs_from count (records_in news.now)) }
+    ensures { IfOk result (λ places. places.items ≡ voucher_places_from count (records_in news.now)) }
 {
     match news {
-        News::Vouchers(vouchers) => pairs_by_all(alloc, vouchers.as_slice(), count),
+        News::Vouchers(vouchers) => places_of_vouchers(alloc, vouchers.as_slice(), count),
         _ => Ok(Vec::new(alloc)),
     }
 }
 
 /// Those of own vouchers behind so many records.
-fn pairs_by_all(
+fn places_of_vouchers(
     alloc: Global,
     vouchers: &[NewVoucher],
     count: u32,
-) -> Result<Vec<NamedValue>, Memory>
+) -> Result<Vec<VoucherPlace>, Memory>
     requires { count + length vouchers.now ≤ MOST_RECORDS }
-    ensures { IfOk result (λ pairs. pairs.items ≡ pairs_from count (records_of (vouchers_of vouchers.now))) }
+    ensures { IfOk result (λ places. places.items ≡ voucher_places_from count (records_of (vouchers_of vouchers.now))) }
 {
-    let mut pairs = Vec::new(alloc);
+    let mut places = Vec::new(alloc);
     let mut place = count;
     for item in vouchers {
-        push_pairs(&mut pairs, item.voucher.ids.as_slice(), place)?;
+        push_with_place(&mut places, item.voucher.ids.as_slice(), place)?;
         place += 1;
     }
-    Ok(pairs)
+    Ok(places)
 }
 
 /// Adds ids with a place.
-fn push_pairs(pairs: &mut Vec<NamedValue>, ids: &[Hash32], place: u32) -> Result<(), Memory>
-    ensures { OnOk result (pairs.new.items ≡ pairs.old.items ++ with_place place ids.now) }
+fn push_with_place(places: &mut Vec<VoucherPlace>, ids: &[Hash32], place: u32) -> Result<(), Memory>
+    ensures { OnOk result (places.new.items ≡ places.old.items ++ with_place place ids.now) }
 {
     for id in ids {
-        pairs.push(NamedValue {
-            hash: *id,
-            size: place,
-        })?;
+        places.push(VoucherPlace { id: *id, place })?;
     }
     Ok(())
-}
-
-impl NamedValues {
-    /// Adds the numbers that are named with a hash.
-    pub(crate) fn push_sizes(&self, hash: &Hash32, found: &mut Vec<u32>) -> Result<(), Memory>
-        ensures kept { OnOk result ((size : ℕ) → IsIn size found.old.items → IsIn size found.new.items) }
-        ensures all { OnOk result ((size : ℕ) → size < 2 ^ 32 → has_named_value self.now hash.now size ≡ true → IsIn size found.new.items) }
-        ensures only { OnOk result ((size : ℕ) → IsIn size found.new.items → IsIn size found.old.items ⊎ (has_named_value self.now hash.now size ≡ true)) }
-    {
-        let least = NamedValue {
-            hash: *hash,
-            size: 0,
-        };
-        let greatest = NamedValue {
-            hash: *hash,
-            size: u32::MAX,
-        };
-        for (name, mark) in self.marks.range(least..=greatest) {
-            if !*mark {
-                continue;
-            }
-            found.push(name.size)?;
-        }
-        Ok(())
-    }
 }

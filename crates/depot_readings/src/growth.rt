@@ -284,11 +284,11 @@ impl Growth {
     }
 }
 
-/// The bytes that a record takes besides its text: its length, and the gate after it.
-const FRAME: u64 = 5;
+/// The bytes that a record takes in a journal besides its text: its length, and the gate after it.
+pub const RECORD_OVERHEAD: u32 = 5;
 
 /// The bytes that a birth takes: its tag, a node and a hash.
-const BIRTH: u64 = FRAME + 1 + 2 + 32;
+const BIRTH: u64 = RECORD_OVERHEAD as u64 + 1 + 2 + 32;
 
 /// The bytes that a record of a text of this length takes.
 fn size_of(length: usize) -> u64
@@ -296,7 +296,7 @@ fn size_of(length: usize) -> u64
     ensures size { result ≡ 5 + length }
     ensures small { result ≤ 5 + MOST_RECORD }
 {
-    FRAME + length as u64
+    RECORD_OVERHEAD as u64 + length as u64
 }
 
 /// The bytes that a record of this text behind a tag takes.

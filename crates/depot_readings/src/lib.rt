@@ -27,10 +27,11 @@ mod readings;
 mod recorded;
 mod taken;
 mod totals;
+mod voucher_places;
 
 pub use counts::JournalCounts;
 pub use front_places::ConvictedAt;
-pub use growth::Growth;
+pub use growth::{Growth, RECORD_OVERHEAD};
 pub use leaves::leaves_with;
 pub use named::{NamedValues, names_in_update};
 pub use readings::Readings;

@@ -1,10 +1,11 @@
 //! Names of values: those that accepted updates name, and those of them that aren't held.
-ghost use Rattle.std.specs.Prelude.{◌≡◌, ◌||◌, ◌&&◌, ◌++◌, [], ◌∷◌, not, ℕ, List, IsTrue, IsOk, IfOk, OnOk, OnErr, false, true};
+ghost use Rattle.std.specs.Prelude.{◌≡◌, ◌<◌, ◌^◌, ◌||◌, ◌&&◌, ◌++◌, ◌⊎◌, [], ◌∷◌, not, ℕ, List, IsTrue, IsOk, IfOk, OnOk, OnErr, false, true};
 ghost use Rattle.std.specs.BTreeMap.{IsUnchanged};
 ghost use Rattle.depot_base.specs.declared.update.NamedValue.{NamedValue};
 ghost use Rattle.depot_base.specs.declared.update.Update.{Update};
 ghost use Rattle.depot_model.specs.Contents.{values_named};
 ghost use Rattle.depot_model.specs.Journal.{accepted, is_wanted};
+ghost use Rattle.depot_model.specs.Lists.{IsIn};
 ghost use Rattle.depot_readings.specs.Named.{PutsMark, TakesMark, has_value_mark, is_value_named, is_name, names_in, names_in_statement, values_named_in, HasRooms, AreNamed};
 ghost use Rattle.depot_readings.specs.NewRecords.{records_in};
 
@@ -76,7 +77,7 @@ impl NamedValues {
 
     /// Finds the memory for a name. After Memory all is as before.
     #[tactic(auto, using(crate::proofs::NamedLaws::named_laws), unfolding(crate::specs::Named::has_named_value, crate::specs::Named::has_room))]
-    fn reserve_one(&mut self, name: NamedValue) -> Result<(), Memory>
+    pub(crate) fn reserve_one(&mut self, name: NamedValue) -> Result<(), Memory>
         ensures room { OnOk result (has_room self.new name ≡ true) }
         ensures rooms { (other : NamedValue) → has_room self.old other ≡ true → has_room self.new other ≡ true }
         ensures same { (hash : List ℕ) (size : ℕ) → has_named_value self.new hash size ≡ has_named_value self.old hash size }
@@ -139,6 +140,29 @@ impl NamedValues {
         for name in given {
             self.add_one(*name);
         }
+    }
+
+    /// Adds the lengths that are named with a hash.
+    pub(crate) fn push_sizes(&self, hash: &Hash32, found: &mut Vec<u32>) -> Result<(), Memory>
+        ensures kept { OnOk result ((size : ℕ) → IsIn size found.old.items → IsIn size found.new.items) }
+        ensures all { OnOk result ((size : ℕ) → size < 2 ^ 32 → has_named_value self.now hash.now size ≡ true → IsIn size found.new.items) }
+        ensures only { OnOk result ((size : ℕ) → IsIn size found.new.items → IsIn size found.old.items ⊎ (has_named_value self.now hash.now size ≡ true)) }
+    {
+        let least = NamedValue {
+            hash: *hash,
+            size: 0,
+        };
+        let greatest = NamedValue {
+            hash: *hash,
+            size: u32::MAX,
+        };
+        for (name, mark) in self.marks.range(least..=greatest) {
+            if !*mark {
+                continue;
+            }
+            found.push(name.size)?;
+        }
+        Ok(())
     }
 
     /// The values that the updates name which a growth accepts, of which it brings one at most.

@@ -176,7 +176,7 @@ impl<S: Scheme> Readings<S> {
     pub fn push_voucher_places(&self, id: &Hash32, found: &mut Vec<u32>) -> Result<(), Memory>
         ensures { OnOk result (AddsPlaces self.now.records id.now found.old.items found.new.items) }
     {
-        self.parts.front.vouchers.push_sizes(id, found)
+        self.parts.front.vouchers.push_places(id, found)
     }
 
     /// How much the journal takes. It takes no memory.

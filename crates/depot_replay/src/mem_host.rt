@@ -91,7 +91,7 @@ impl<S: Scheme + Copy, G: Signer<Of = S> + Copy> StartConfig<S, G> {
         match self.start(disk) {
             Ok(node) => {
                 let printed = counted_printed(self.alloc, "stopped records", node.record_count());
-                told(
+                event_outcome(
                     MemHost {
                         node,
                         start_config: self,
@@ -172,7 +172,10 @@ fn piece_of(stream: &[u8], size: Option<u32>) -> usize
 }
 
 /// What an event came to for a node, with what is printed of it. Where memory is wanting for that, the node is gone.
-fn told<A: Drop>(actor: A, printed: Result<Printed, Memory>) -> Result<EventOutcome<A>, Memory>
+fn event_outcome<A: Drop>(
+    actor: A,
+    printed: Result<Printed, Memory>,
+) -> Result<EventOutcome<A>, Memory>
     ensures actor { IfOk result (λ t. t.actor ≡ actor) }
     ensures printed { IfOk result (λ t. printed ≡ Ok (record { lines = t.lines; bytes = t.bytes })) }
 {
@@ -238,9 +241,9 @@ fn hello_printed<S: Scheme, G: Signer<Of = S>>(
     ensures lines { IfOk result (λ p. p.lines ≡ ended (spaced (text_of_named (hello_of (node_setting S.verifies node.now.store) node.now.store.records)))) }
     ensures bytes { IfOk result (λ p. p.bytes ≡ text_of_hello (hello_of (node_setting S.verifies node.now.store) node.now.store.records)) }
 {
-    let told = node_hello(node)?;
-    let bytes = encode_hello(alloc, &told)?;
-    let lines = hello_line(alloc, &told)?;
+    let hello = node_hello(node)?;
+    let bytes = encode_hello(alloc, &hello)?;
+    let lines = hello_line(alloc, &hello)?;
     Ok(Printed { lines, bytes })
 }
 
@@ -342,7 +345,7 @@ impl<S: Scheme + Copy, G: Signer<Of = S> + Copy> Actor for MemHost<S, G> {
 
     fn get(self, key: &Key) -> Result<EventOutcome<Self>, Memory> {
         let printed = shown_printed(self.start_config.alloc, &self.node, key);
-        told(self, printed)
+        event_outcome(self, printed)
     }
 
     fn receipt(self, ids: &Ids) -> Result<EventOutcome<Self>, Memory> {
@@ -357,7 +360,7 @@ impl<S: Scheme + Copy, G: Signer<Of = S> + Copy> Actor for MemHost<S, G> {
 
     fn settled(self, id: &Hash32, k: u32) -> Result<EventOutcome<Self>, Memory> {
         let printed = settled_printed(self.start_config.alloc, &self.node, id, k);
-        told(self, printed)
+        event_outcome(self, printed)
     }
 
     fn checkpoint(self) -> Result<EventOutcome<Self>, Memory> {
@@ -365,7 +368,7 @@ impl<S: Scheme + Copy, G: Signer<Of = S> + Copy> Actor for MemHost<S, G> {
             Ok(text) => self.put_checkpoint(text),
             Err(refused) => {
                 let printed = unmade_printed(self.start_config.alloc, refused);
-                told(self, printed)
+                event_outcome(self, printed)
             }
         }
     }
@@ -394,7 +397,7 @@ impl<S: Scheme + Copy, G: Signer<Of = S> + Copy> Actor for MemHost<S, G> {
 
     fn hello(self) -> Result<EventOutcome<Self>, Memory> {
         let printed = hello_printed(self.start_config.alloc, &self.node);
-        told(self, printed)
+        event_outcome(self, printed)
     }
 
     fn bundle(self, hello: &[u8]) -> Result<EventOutcome<Self>, Memory> {
@@ -427,7 +430,7 @@ impl<S: Scheme + Copy, G: Signer<Of = S> + Copy> Actor for MemHost<S, G> {
         match start_config.start(node.into_disk()) {
             Ok(node) => {
                 let printed = counted_printed(start_config.alloc, "records", node.record_count());
-                told(MemHost { node, start_config }, printed)
+                event_outcome(MemHost { node, start_config }, printed)
             }
             Err(back) => start_config.refused(back),
         }

@@ -27,8 +27,8 @@ impl<S: Scheme> Reading for MemHostReader<S> {
     ghost reads = { λ r x. IsReaderOf S.verifies r x.trimmed };
 
     fn tgive(&mut self, stream: &[u8]) -> Result<Bytes, Memory> {
-        let told = feed_reader(&mut self.trimmed, stream)?;
-        reader_feed_line(self.alloc, &told)
+        let fed = feed_reader(&mut self.trimmed, stream)?;
+        reader_feed_line(self.alloc, &fed)
     }
 
     fn tget(&self, key: &Key) -> Result<Bytes, Memory> {

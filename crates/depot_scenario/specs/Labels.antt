@@ -1,5 +1,5 @@
 -- What labels name, in a map that keeps them in order.
-use Rattle.std.specs.Prelude.{◌≡◌, ℕ, List, [], ◌∷◌, ◌++◌, false, Option, Some, None, Vec, option_map, option_and_then}
+use Rattle.std.specs.Prelude.{◌≡◌, ℕ, List, [], ◌∷◌, ◌++◌, Bool, true, false, Option, Some, None, Vec, option_map, option_and_then}
 use Rattle.std.specs.Cmp.Lexicographic.{slice_cmp}
 use Rattle.std.specs.Map.{lookup}
 use Rattle.std.specs.Option.{option_map_or}
@@ -53,3 +53,14 @@ label_by e = None
 abbrev pub labels_with : List Labelled → Option (List ℕ) → List ℕ → List Labelled
 labels_with labels None bytes = labels
 labels_with labels (Some label) bytes = labels ++ record { label = label; bytes = bytes; signed = None; plain = false } ∷ []
+
+-- ---- references
+
+-- an event names labels by references
+abbrev pub has_references : Event → Bool
+has_references (event.Update label writer seq clock prev key value deps history) = true
+has_references (event.Updates label writer seq clock prev changes deps history) = true
+has_references (event.Voucher label writer seq refs) = true
+has_references (event.Receipt node refs) = true
+has_references (event.Settled node reference k) = true
+has_references e = false

@@ -1,6 +1,7 @@
 //! The labels that an event names.
-ghost use Rattle.std.specs.Prelude.{◌≡◌, ◌∷◌, ◌++◌, [], map, IfOk};
+ghost use Rattle.std.specs.Prelude.{◌≡◌, ◌∷◌, ◌++◌, [], true, map, IfOk};
 ghost use Rattle.depot_world.specs.Forgetting.{labels_in, labels_of_prev, labels_of_ref, labels_of_refs};
+ghost use Rattle.depot_scenario.specs.Labels.{has_references};
 
 use depot_base::Memory;
 use depot_lines::Label;
@@ -24,19 +25,6 @@ pub fn labels_of<'a>(alloc: Global, event: &'a Event) -> Result<Vec<&'a Label>, 
         Event::Cut { label, source, .. } | Event::Flip { label, source, .. } => {
             two(alloc, label, source)
         }
-        Event::Update {
-            label,
-            prev,
-            deps,
-            ..
-        }
-        | Event::Updates {
-            label,
-            prev,
-            deps,
-            ..
-        } => of_update(alloc, label, prev, deps.as_slice()),
-        Event::Voucher { label, refs, .. } => with_refs(one(alloc, label)?, refs.as_slice()),
         Event::Proof {
             label,
             first,
@@ -53,9 +41,37 @@ pub fn labels_of<'a>(alloc: Global, event: &'a Event) -> Result<Vec<&'a Label>, 
             voucher,
             text,
         } => three(alloc, label, voucher, text),
+        Event::Update { .. }
+        | Event::Updates { .. }
+        | Event::Voucher { .. }
+        | Event::Receipt { .. }
+        | Event::Settled { .. } => of_references(alloc, event),
+        _ => Ok(Vec::new(alloc)),
+    }
+}
+
+/// The labels that an event with references names.
+fn of_references<'a>(alloc: Global, event: &'a Event) -> Result<Vec<&'a Label>, Memory>
+    requires { has_references event.now ≡ true }
+    ensures { IfOk result (λ labels. map (λ label. label.now) labels.items ≡ labels_in event.now) }
+{
+    match event {
+        Event::Update {
+            label,
+            prev,
+            deps,
+            ..
+        }
+        | Event::Updates {
+            label,
+            prev,
+            deps,
+            ..
+        } => of_update(alloc, label, prev, deps.as_slice()),
+        Event::Voucher { label, refs, .. } => with_refs(one(alloc, label)?, refs.as_slice()),
         Event::Receipt { refs, .. } => with_refs(Vec::new(alloc), refs.as_slice()),
         Event::Settled { reference, .. } => with_ref(Vec::new(alloc), reference),
-        _ => Ok(Vec::new(alloc)),
+        _ => unreachable!(),
     }
 }
 

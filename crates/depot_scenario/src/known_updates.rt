@@ -1,5 +1,5 @@
 //! The updates over which right histories are computed.
-ghost use Rattle.std.specs.Prelude.{◌≡◌, ◌∷◌, [], true, Some, IfOk, OnOk, OnErr};
+ghost use Rattle.std.specs.Prelude.{◌≡◌, ◌<◌, ◌∷◌, [], length, true, Some, IfOk, OnOk, OnErr};
 ghost use Rattle.std.specs.List.{AllByRecursion};
 ghost use Rattle.depot_model.specs.History.{history_hash as hash_of_history};
 ghost use Rattle.depot_model.specs.Items.{place_of_id, AreItemsOf};
@@ -35,14 +35,12 @@ fn hold(graph: &mut Graph, update: &Update, id: &Hash32) -> Result<(), Memory>
     requires id { id.now ≡ id_of_update update.now }
     requires text { IsUpdate update.now }
     requires parents { HasSeenParents (⟦<Graph as Past>⟧.updates graph.old) update.now }
+    requires room { length (⟦<Graph as Past>⟧.updates graph.old) < 4294967295 }
     ensures ok { OnOk result (⟦<Graph as Past>⟧.updates graph.new ≡ seen_with (⟦<Graph as Past>⟧.updates graph.old) (update.now ∷ [])) }
     ensures err { OnErr result (⟦<Graph as Past>⟧.updates graph.new ≡ ⟦<Graph as Past>⟧.updates graph.old) }
 {
     if graph.find(id).is_some() {
         return Ok(());
-    }
-    if graph.count() == u32::MAX {
-        return Err(Memory);
     }
     graph.add_uncounted(update.copy()?, &[], *id)?;
     Ok(())
@@ -62,12 +60,13 @@ impl KnownUpdates {
         }
     }
 
-    /// Adds an update with its id, unless one with that id is there. Its parents are. Where histories are asked for there is
-    /// room for 4,294,967,295 updates, and Memory comes behind them too.
+    /// Adds an update with its id, unless one with that id is there. Its parents are, and there are fewer than 4,294,967,295
+    /// updates.
     pub fn add(&mut self, update: &Update, id: &Hash32) -> Result<(), Memory>
         requires id { id.now ≡ id_of_update update.now }
         requires text { IsUpdate update.now }
         requires parents { HasSeenParents self.old.listed.updates update.now }
+        requires room { length self.old.listed.updates < 4294967295 }
         ensures ok { OnOk result (self.new.listed.updates ≡ seen_with self.old.listed.updates (update.now ∷ [])) }
         ensures err { OnErr result (self.new.listed.updates ≡ self.old.listed.updates) }
         ensures asked { self.new.asked ≡ self.old.asked }

@@ -7,7 +7,6 @@ use Rattle.depot_base.specs.declared.record.Record.{Record}
 use Rattle.depot_model.specs.Bundle.{Signs, BundleAnswer, bundled, bundle_answer}
 use Rattle.depot_model.specs.Checks.{Setting}
 use Rattle.depot_model.specs.JournalCalls.{Lasts}
-use Rattle.depot_model.specs.Stops.{HasFront}
 use Rattle.depot_model.specs.World.{Correct}
 use Rattle.depot_model.specs.declared.node_state.NodeState.{Ghosts}
 use Rattle.depot_model.specs.Replicas.{journal_of}
@@ -25,7 +24,7 @@ use Rattle.depot_session.specs.declared.ending.ScriptEnding.TheVariants as endin
 use Rattle.depot_session.specs.SessionRuns.{disk_line}
 use Rattle.depot_session.specs.Sessions.{Session, Step, absent, bundle_step, bundle_to, command_text, ending_of_bundle, lines_of_command, step_of, stored}
 use Rattle.depot_session.specs.ScriptTelling.{IsFaultTold, IsUnchanged, Stores, Tells}
-use Rattle.depot_session.specs.Turns.{IsAt, Turns}
+use Rattle.depot_session.specs.Turns.{IsAt, LeavesBrought, Turns}
 use Rattle.depot_session.proofs.LeftJournals.{leaves_after, leaves_front}
 use Rattle.depot_session.proofs.StoredFiles.{stored_alike, stored_told}
 use Rattle.depot_session.proofs.ToldFaults.{EndsCalmly}
@@ -129,7 +128,7 @@ module _ {N : Type 0} (g : Ghosts N) (counts_now : (v : N) (t : ℕ) (image : Li
   goes_on_made goes = ap (λ (x : Step). x.ending) is ∙ step_ending s hello file effect answer ∙ goes
 
   -- what a stop leaves
-  leaves : IsTrue (g.tells old) → (image : List ℕ) → g.may_leave new image → HasFront (g.records old) (journaled_for answer) image
+  leaves : LeavesBrought g old new (journaled_for answer)
   leaves = leaves_front g counts_now old new (journaled_for answer) runs lasts
 
   -- no memory was found behind the call

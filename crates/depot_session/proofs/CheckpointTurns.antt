@@ -20,7 +20,6 @@ use Rattle.depot_model.specs.Checks.{Setting}
 use Rattle.depot_model.specs.Lawful.{IsLawful, is_empty}
 use Rattle.depot_model.specs.Limits.{Limit, limit_of_put}
 use Rattle.depot_model.specs.Opening.{MadeCheckpoint, made_text, make_of}
-use Rattle.depot_model.specs.Stops.{HasFront}
 use Rattle.depot_model.specs.World.{Correct}
 use Rattle.depot_model.specs.declared.node_state.NodeState.{Ghosts}
 use Rattle.depot_outside.specs.Told.{Shelves, Sinks}
@@ -31,7 +30,7 @@ use Rattle.depot_session.specs.declared.ending.ScriptEnding.TheVariants as endin
 use Rattle.depot_session.specs.SessionRuns.{disk_line}
 use Rattle.depot_session.specs.Sessions.{Session, Step, carried_out, checkpoint_put, checkpoint_step, command_text, ending_of_put, lines_of_command, step_of, stored}
 use Rattle.depot_session.specs.ScriptTelling.{IsFaultTold, IsUnchanged, Stores, Tells}
-use Rattle.depot_session.specs.Turns.{HasNoFault, IsAt, IsRunning, Keeps, Turns, ends_of_put}
+use Rattle.depot_session.specs.Turns.{HasNoFault, IsAt, IsRunning, Keeps, LeavesBrought, Turns, ends_of_put}
 use Rattle.depot_session.proofs.Called.{not_where_some}
 use Rattle.depot_session.proofs.LeftJournals.{leaves_after, leaves_front}
 use Rattle.depot_session.proofs.PutTurns.{ends_by, grown_by, lasts_more, put_journal, put_keeps, put_more, puts_at}
@@ -205,7 +204,7 @@ module _ {N : Type 0} (g : Ghosts N) (old new : N) (file text : List ℕ) (asked
         ∙ ap (λ (K : List Record). K ++ put_more here K changes limit) at.journal
 
     -- a stop leaves a front of them
-    leaves : IsTrue (g.tells old) → (image : List ℕ) → g.may_leave new image → HasFront J more image
+    leaves : LeavesBrought g old new more
     leaves = leaves_front g counts_now old new more running.runs (lasts_more g old new changes done running puts call)
 
     -- no memory was found behind the put

@@ -7,6 +7,7 @@ pub mod StoredFiles
 pub mod ToldFaults
 pub mod Called
 pub mod Uncalled
+pub mod PrintedAnswers
 pub mod FittingScripts
 pub mod PutTurns
 pub mod ReceiptTurns
@@ -28,3 +29,5 @@ pub mod RunEnds
 pub mod CheckpointTurns
 pub mod SignTurns
 pub mod ReaderTurns
+pub mod UnhinderedStreams
+pub mod UnhinderedSteps

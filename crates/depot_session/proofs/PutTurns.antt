@@ -1,5 +1,5 @@
 -- What a put makes of a node, of the shelf and of the sink.
-use Rattle.std.proofs.Common.{◌≡◌, ◌<◌, ◌≤◌, ◌⊎◌, ℕ, false, IsTrue, List, [], ◌∷◌, ◌++◌, Option, Some, None, Result, Ok, Err, refl, sym, ap, subst, ◌∙◌, ◌↔◌, inl}
+use Rattle.std.proofs.Common.{◌≡◌, ◌<◌, ◌≤◌, ◌⊎◌, ℕ, false, List, [], ◌∷◌, ◌++◌, Option, Some, None, Result, Ok, Err, refl, sym, ap, subst, ◌∙◌, ◌↔◌, inl}
 use Rattle.std.specs.Prelude.{◌≢◌, IsErrOf, IsErr}
 use Rattle.std.specs.Result.{IsErrAnd}
 use Rattle.std.proofs.lemmas.List.{append-nil}
@@ -23,7 +23,6 @@ use Rattle.depot_model.specs.Own.{next_own, values_of}
 use Rattle.depot_model.specs.Receipts.{AreReceiptsTrue}
 use Rattle.depot_model.specs.JournalCalls.{Lasts}
 use Rattle.depot_model.specs.Replicas.{journal_of}
-use Rattle.depot_model.specs.Stops.{HasFront}
 use Rattle.depot_model.specs.declared.node_state.NodeState.{Ghosts}
 use Rattle.depot_model.specs.Putting.{Puts, IsPutCall, put_records}
 use Rattle.depot_model.specs.declared.put_answers.PutDone.{PutDone}
@@ -37,9 +36,10 @@ use Rattle.depot_session.specs.declared.ending.ScriptEnding.TheVariants as endin
 use Rattle.depot_session.specs.SessionRuns.{IsHandedOut, disk_line}
 use Rattle.depot_session.specs.Sessions.{Session, IsPut, Step, command_text, ending_of_put, put_step, step_of}
 use Rattle.depot_session.specs.ScriptTelling.{IsFaultTold, IsUnchanged, Tells}
-use Rattle.depot_session.specs.Turns.{HasNoFault, IsAt, IsRunning, Keeps, LeftBy, Turns, ends_of_put}
+use Rattle.depot_session.specs.Turns.{HasNoFault, IsAt, IsRunning, Keeps, LeavesBrought, LeftBy, TellsPrinted, Turns, ends_of_put}
 use Rattle.depot_session.proofs.Called.{keeps_called, not_where_some}
 use Rattle.depot_session.proofs.LeftJournals.{leaves_after, leaves_front}
+use Rattle.depot_session.proofs.PrintedAnswers.{by_print}
 use Rattle.depot_session.proofs.ToldFaults.{EndsCalmly, NamesFaults}
 use Rattle.depot_session.proofs.Turning.{disk_told, told, without_memory}
 use Rattle.depot_session.proofs.UnwrittenTexts.{nothing_written}
@@ -198,11 +198,11 @@ module _ {N : Type 0} (g : Ghosts N) (old new : N) (changes : List Change) (done
     brings = put_journal here s c changes (limit_of_put here J changes) (sym at.node) same_limit ∙ ap (λ (K : List Record). K ++ put_more here K changes (limit_of_put here J changes)) at.journal
 
     -- after it a stop leaves a front of them
-    leaves : IsTrue (g.tells old) → (image : List ℕ) → g.may_leave new image → HasFront J more image
+    leaves : LeavesBrought g old new more
     leaves = leaves_front g counts_now old new more running.runs lasts_more
 
     -- no file has changed
-    others : (name : List ℕ) → (shelf.file_after name ≡ shelf.file name) ⊎ IsHandedOut (LeftBy g old new) c step name
+    others : (name : List ℕ) → (shelf.file_after name ≡ shelf.file name) ⊎ IsHandedOut (LeftBy g old new) shelf c step name
     others name = inl (unchanged name)
 
     -- the command's step is that of the put
@@ -236,3 +236,9 @@ module _ {N : Type 0} (g : Ghosts N) (old new : N) (changes : List Change) (done
       so : Turns g old new c step shelf sink r
       so = told g old new c step shelf sink more brings leaves others (runs_on (g.stopped old) running.runs call.journal.stops well) (grown_by settled well ∙ sym brings)
           (λ name. unchanged name ∙ at.same_files name) (leaves_after g old new _ call.journal.lasts) ends r ends_as tells_so
+
+    -- what is printed of it was told, or that the disk failed
+    pub put_printed : (ends : Option ScriptEnding) (r : Result (Unit {0}) ScriptEnding) (o : Option Printed) → (o ≡ None) ↔ IsErrOf done refused.Disk → SettlesPut done → IsPrintOf o (put_by here s.correct changes) → ends ≡ ends_of_put done
+        → TellsPrinted sink c o ends r → Turns g old new c (step_of here sign s c) shelf sink r
+    put_printed ends r o stopped settled printed ends_so = by_print sink c ends (λ r. Turns g old new c (step_of here sign s c) shelf sink r) o
+        (λ p is r tells. put_told ends r o p is stopped settled printed ends_so tells) (λ none e fault. put_to_disk e (call.journal.disk.cause.rose (stopped.0 none)) fault) r

@@ -1,5 +1,5 @@
 -- What receipts make of a node, of the shelf and of the sink: what their put makes, or nothing.
-use Rattle.std.proofs.Common.{◌≡◌, ◌<◌, ◌≤◌, ◌⊎◌, ◌+◌, ℕ, false, IsTrue, List, [], ◌∷◌, codes, length, Option, Some, None, Result, Ok, Err, refl, sym, ap, subst, ◌∙◌, ◌↔◌, arith, inl, inr, length-append}
+use Rattle.std.proofs.Common.{◌≡◌, ◌<◌, ◌≤◌, ◌⊎◌, ◌+◌, ℕ, false, List, [], ◌∷◌, codes, length, Option, Some, None, Result, Ok, Err, refl, sym, ap, subst, ◌∙◌, ◌↔◌, arith, inl, inr, length-append}
 use Rattle.std.specs.Prelude.{◌≢◌, IsErrOf, IsErr}
 use Rattle.std.specs.Result.{IsErrAnd}
 use Rattle.depot_answers.specs.AnswerTexts.{text_of_no_receipt}
@@ -24,7 +24,6 @@ use Rattle.depot_model.specs.Lawful.{IsLawful, is_empty}
 use Rattle.depot_model.specs.Limits.{limit_of_put}
 use Rattle.depot_model.specs.Receipts.{NoReceipt, lacks_value, no_receipt, receipt_changes, receipt_key, unknown}
 use Rattle.depot_model.specs.Replicas.{journal_of}
-use Rattle.depot_model.specs.Stops.{HasFront}
 use Rattle.depot_model.specs.declared.node_state.NodeState.{Ghosts}
 use Rattle.depot_model.proofs.FeedGrowth.{IsGrown}
 use Rattle.depot_outside.specs.Told.{Shelves, Sinks}
@@ -38,10 +37,11 @@ use Rattle.depot_session.specs.declared.ending.ScriptEnding.TheVariants as endin
 use Rattle.depot_session.specs.Sessions.{Session, Step, carried_out, command_text, ending_of_receipt, put_step, step_of}
 use Rattle.depot_session.specs.SessionRuns.{IsHandedOut, disk_line}
 use Rattle.depot_session.specs.ScriptTelling.{IsFaultTold, IsUnchanged, Tells}
-use Rattle.depot_session.specs.Turns.{HasNoFault, IsAt, IsRunning, Keeps, LeftBy, Turns, ends_of_put, ends_of_receipt}
+use Rattle.depot_session.specs.Turns.{HasNoFault, IsAt, IsRunning, Keeps, LeavesBrought, LeftBy, TellsPrinted, Turns, ends_of_put, ends_of_receipt}
 use Rattle.depot_session.proofs.Called.{keeps_called}
 use Rattle.depot_session.proofs.LeftJournals.{leaves_after, leaves_front}
 use Rattle.depot_session.proofs.PutTurns.{put_keeps, put_to_disk, put_told, put_without_memory}
+use Rattle.depot_session.proofs.PrintedAnswers.{by_print}
 use Rattle.depot_session.proofs.StepGrowth.{step_grows}
 use Rattle.depot_session.proofs.ToldFaults.{EndsCalmly, NamesFaults}
 use Rattle.depot_session.proofs.Turning.{told, without_memory}
@@ -195,11 +195,11 @@ module _ {N : Type 0} (g : Ghosts N) (old new : N) (id : List ℕ) (asked : List
     brings = subst (λ (K : List Record). IsGrown K step.session.correct.journal) at.journal (step_grows here sign s c)
 
     -- where the node put nothing, a stop leaves none of them
-    leaves : PutsNothing J ids done (g.records new) → IsTrue (g.tells old) → (image : List ℕ) → g.may_leave new image → HasFront J brings.more image
+    leaves : PutsNothing J ids done (g.records new) → LeavesBrought g old new brings.more
     leaves n = leaves_front g counts_now old new brings.more running.runs (lasts_longer {v = journal_of g} old new [] brings.more (call.journal.idle n.idle))
 
     -- no file has changed
-    others : (name : List ℕ) → (shelf.file_after name ≡ shelf.file name) ⊎ IsHandedOut (LeftBy g old new) c step name
+    others : (name : List ℕ) → (shelf.file_after name ≡ shelf.file name) ⊎ IsHandedOut (LeftBy g old new) shelf c step name
     others name = inl (unchanged name)
 
     -- no memory was found for what is printed of it
@@ -210,7 +210,7 @@ module _ {N : Type 0} (g : Ghosts N) (old new : N) (id : List ℕ) (asked : List
     ]
 
     -- the disk failed, and it was told, or not
-    pub receipt_to_disk : (e : ScriptEnding) → IsErrOf done give.Disk → g.faults old < g.faults new → IsFaultTold sink disk_line ending.Disk e → Turns g old new c step shelf sink (Err e)
+    receipt_to_disk : (e : ScriptEnding) → IsErrOf done give.Disk → g.faults old < g.faults new → IsFaultTold sink disk_line ending.Disk e → Turns g old new c step shelf sink (Err e)
     receipt_to_disk e failed rose fault = elim came [
       | inl p ↦ put_to_disk g old new changes p.answer running p.puts (as_put p) counts_now c shelf sink s unchanged at (is_put p.due) e rose fault
       | inr n ↦ absurd (n.well failed)
@@ -232,9 +232,16 @@ module _ {N : Type 0} (g : Ghosts N) (old new : N) (id : List ℕ) (asked : List
           (ap (λ (x : Step). x.ending) same ∙ sym goes_on ∙ sym ends_so) (subst (λ (text : List ℕ). Tells sink text ends r) (ap (command_text c) lines ∙ receipt_text here sign s id) tells)
 
       -- its lines were written, or not
-      pub receipt_told : Turns g old new c step shelf sink r
+      receipt_told : Turns g old new c step shelf sink r
       receipt_told = elim came [
         | inl q ↦ put_told g old new changes q.answer running q.puts (as_put q) counts_now c shelf sink s unchanged at (is_put q.due) ends r o p is ((λ none. q.disk.0 (stopped.0 none)), (λ failed. stopped.1 (q.disk.1 failed))) (q.settles settled)
             (subst (IsPrintOf o) (receipt_is here s.correct ids None (same_reasons ∙ q.due)) printed) (ends_so ∙ q.ends) tells
         | inr n ↦ (let t = n.speaks settled in refused_told n t.0.0 t.0.1 t.1)
       ]
+
+    -- what is printed of it was told, or that the disk failed
+    pub receipt_printed : (ends : Option ScriptEnding) (r : Result (Unit {0}) ScriptEnding) (o : Option Printed) → (o ≡ None) ↔ IsErrOf done give.Disk → SettlesGive done → PrintsReceipts done o → ends ≡ ends_of_receipt done
+        → TellsPrinted sink c o ends r → Turns g old new c step shelf sink r
+    receipt_printed ends r o stopped settled prints ends_so = by_print sink c ends (λ r. Turns g old new c step shelf sink r) o
+        (λ p is r tells. receipt_told ends r o p is stopped settled prints ends_so tells)
+        (λ none e fault. let failed = stopped.0 none in receipt_to_disk e failed (call.journal.disk.cause.rose failed) fault) r

@@ -1,5 +1,5 @@
 -- How the command that signs a checkpoint turns out: as the put of its text, or nothing is put.
-use Rattle.std.proofs.Common.{◌≡◌, ◌↔◌, ◌⊎◌, ◌≤◌, ◌<◌, ℕ, false, IsTrue, List, [], Option, Some, None, Result, Ok, Err, refl, sym, ap, subst, ◌∙◌, inl, inr}
+use Rattle.std.proofs.Common.{◌≡◌, ◌↔◌, ◌⊎◌, ◌≤◌, ◌<◌, ℕ, false, List, [], Option, Some, None, Result, Ok, Err, refl, sym, ap, subst, ◌∙◌, inl, inr}
 use Rattle.std.specs.Prelude.{◌≢◌, IsErrOf, IsErr}
 use Rattle.std.specs.Result.{IsErrAnd}
 use Rattle.depot_base.specs.declared.record.Record.{Record}
@@ -22,7 +22,6 @@ use Rattle.depot_model.specs.Lawful.{IsLawful, is_empty}
 use Rattle.depot_model.specs.Limits.{Limit, limit_of_put}
 use Rattle.depot_model.specs.Opening.{Opened, ill_at, of_roster, with_unknown, opened, opened_text}
 use Rattle.depot_model.specs.Replicas.{journal_of}
-use Rattle.depot_model.specs.Stops.{HasFront}
 use Rattle.depot_model.specs.World.{Correct}
 use Rattle.depot_model.specs.declared.node_state.NodeState.{Ghosts}
 use Rattle.depot_model.proofs.FeedGrowth.{IsGrown}
@@ -34,10 +33,11 @@ use Rattle.depot_session.specs.declared.ending.ScriptEnding.TheVariants as endin
 use Rattle.depot_session.specs.SessionRuns.{IsHandedOut, disk_line}
 use Rattle.depot_session.specs.Sessions.{Session, Step, absent, carried_out, command_text, ending_of_sign, put_step, sign_from, step_of}
 use Rattle.depot_session.specs.ScriptTelling.{IsFaultTold, IsUnchanged, Tells}
-use Rattle.depot_session.specs.Turns.{HasNoFault, IsAt, IsRunning, Keeps, LeftBy, Turns, ends_of_put, ends_of_sign}
+use Rattle.depot_session.specs.Turns.{HasNoFault, IsAt, IsRunning, Keeps, LeavesBrought, LeftBy, TellsPrinted, Turns, ends_of_put, ends_of_sign}
 use Rattle.depot_session.proofs.Called.{keeps_called}
 use Rattle.depot_session.proofs.LeftJournals.{leaves_after, leaves_front}
 use Rattle.depot_session.proofs.PutTurns.{put_keeps, put_to_disk, put_told, put_without_memory}
+use Rattle.depot_session.proofs.PrintedAnswers.{by_print}
 use Rattle.depot_session.proofs.StepGrowth.{step_grows}
 use Rattle.depot_session.proofs.ToldFaults.{EndsCalmly, NamesFaults}
 use Rattle.depot_session.proofs.Turning.{told, without_memory}
@@ -184,11 +184,11 @@ module _ {N : Type 0} (g : Ghosts N) (old new : N) (file text : List ℕ) (done 
     brings = subst (λ (K : List Record). IsGrown K step.session.correct.journal) at.journal (step_grows here (g.signature_of old) s c)
 
     -- where the node put nothing, a stop leaves none of them
-    leaves : PutsNothing here J text done (g.records new) → IsTrue (g.tells old) → (image : List ℕ) → g.may_leave new image → HasFront J brings.more image
+    leaves : PutsNothing here J text done (g.records new) → LeavesBrought g old new brings.more
     leaves n = leaves_front g counts_now old new brings.more running.runs (lasts_longer {v = journal_of g} old new [] brings.more (call.journal.idle n.idle))
 
     -- no file has changed
-    others : (name : List ℕ) → (shelf.file_after name ≡ shelf.file name) ⊎ IsHandedOut (LeftBy g old new) c step name
+    others : (name : List ℕ) → (shelf.file_after name ≡ shelf.file name) ⊎ IsHandedOut (LeftBy g old new) shelf c step name
     others name = inl (unchanged name)
 
     -- no memory was found for what is printed of it
@@ -199,7 +199,7 @@ module _ {N : Type 0} (g : Ghosts N) (old new : N) (file text : List ℕ) (done 
     ]
 
     -- the disk failed, and it was told, or not
-    pub sign_to_disk : (e : ScriptEnding) → IsErrOf done unsigned.Disk → g.faults old < g.faults new → IsFaultTold sink disk_line ending.Disk e → Turns g old new c step shelf sink (Err e)
+    sign_to_disk : (e : ScriptEnding) → IsErrOf done unsigned.Disk → g.faults old < g.faults new → IsFaultTold sink disk_line ending.Disk e → Turns g old new c step shelf sink (Err e)
     sign_to_disk e failed rose fault = elim came [
       | inl p ↦ put_to_disk g old new changes p.answer running p.puts (as_put p) counts_now c shelf sink s unchanged at (is_put p.ids p.due) e rose fault
       | inr n ↦ absurd (n.well failed)
@@ -222,9 +222,16 @@ module _ {N : Type 0} (g : Ghosts N) (old new : N) (file text : List ℕ) (done 
           (subst (λ (x : List ℕ). Tells sink x ends r) (ap (command_text c) lines ∙ ap (λ (x : Step). x.text) (sym is)) tells)
 
       -- its lines were written, or not
-      pub sign_told : Turns g old new c step shelf sink r
+      sign_told : Turns g old new c step shelf sink r
       sign_told = elim came [
         | inl q ↦ put_told g old new changes q.answer running q.puts (as_put q) counts_now c shelf sink s unchanged at (is_put q.ids q.due) ends r o p some ((λ none. q.disk.0 (stopped.0 none)), (λ failed. stopped.1 (q.disk.1 failed))) (q.settles settled)
             (subst (IsPrintOf o) (sign_is here s.correct text (opened q.ids) (same_opened ∙ q.due)) printed) (ends_so ∙ q.ends) tells
         | inr n ↦ refused_told n (n.unopened settled)
       ]
+
+    -- what is printed of it was told, or that the disk failed
+    pub sign_printed : (ends : Option ScriptEnding) (r : Result (Unit {0}) ScriptEnding) (o : Option Printed) → (o ≡ None) ↔ IsErrOf done unsigned.Disk → SettlesSign done → PrintsSigning done o → ends ≡ ends_of_sign done
+        → TellsPrinted sink c o ends r → Turns g old new c step shelf sink r
+    sign_printed ends r o stopped settled prints ends_so = by_print sink c ends (λ r. Turns g old new c step shelf sink r) o
+        (λ p is r tells. sign_told ends r o p is stopped settled prints ends_so tells)
+        (λ none e fault. let failed = stopped.0 none in sign_to_disk e failed (call.journal.disk.cause.rose failed) fault) r

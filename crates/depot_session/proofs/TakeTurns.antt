@@ -1,12 +1,11 @@
 -- How the command of a stream turns out.
-use Rattle.std.proofs.Common.{◌≡◌, ◌<◌, ◌≤◌, ℕ, false, IsTrue, List, Option, Some, None, Result, Ok, Err, refl, sym, ap, subst, ◌∙◌, inl}
+use Rattle.std.proofs.Common.{◌≡◌, ◌<◌, ◌≤◌, ◌↔◌, ℕ, false, List, Option, Some, None, Result, Ok, Err, refl, sym, ap, subst, ◌∙◌, inl}
 use Rattle.std.specs.Prelude.{IfOk, IsErrOf}
 use Rattle.std.specs.Result.{IsErrAnd}
 use Rattle.depot_base.specs.declared.record.Record.{Record}
 use Rattle.depot_model.specs.Bundle.{Signs}
 use Rattle.depot_model.specs.Checks.{Setting}
 use Rattle.depot_model.specs.Feeding.{Closing, Feeding, feed_of, feeding_from, ill_formed, out_of_room}
-use Rattle.depot_model.specs.Stops.{HasFront}
 use Rattle.depot_model.specs.declared.node_state.NodeState.{Ghosts}
 use Rattle.depot_feeds.specs.NodeCalls.{IsFeedCall}
 use Rattle.depot_feeds.specs.declared.feed_error.FeedError.{FeedError}
@@ -14,15 +13,18 @@ use Rattle.depot_feeds.specs.declared.feed_error.FeedError.TheVariants as error
 use Rattle.depot_outside.specs.Told.{Shelves, Sinks}
 use Rattle.depot_script.specs.declared.command.Command.TheVariants as command
 use Rattle.depot_world.specs.Effects.{fed_by, give_by}
-use Rattle.depot_node_lines.specs.Printing.{IsToldOf, SettlesFeed, lines_of_effect}
+use Rattle.depot_node_lines.specs.Printing.{IsPrintOf, IsToldOf, SettlesFeed, lines_of_effect}
 use Rattle.depot_node_lines.specs.declared.feeds.FeedResult.{FeedResult}
+use Rattle.depot_node_lines.specs.declared.printed.Printed.{Printed}
 use Rattle.depot_session.specs.declared.ending.ScriptEnding.{ScriptEnding}
 use Rattle.depot_session.specs.declared.ending.ScriptEnding.TheVariants as ending
 use Rattle.depot_session.specs.SessionRuns.{disk_line}
 use Rattle.depot_session.specs.Sessions.{Session, Step, absent, command_text, ending_of_take, lines_of_command, step_of, take_from}
 use Rattle.depot_session.specs.ScriptTelling.{IsFaultTold, IsUnchanged, Tells}
-use Rattle.depot_session.specs.Turns.{IsAt, Turns}
+use Rattle.depot_session.specs.Turns.{IsAt, LeavesBrought, TellsPrinted, Turns}
+use Rattle.depot_session.proofs.Called.{not_where_some}
 use Rattle.depot_session.proofs.LeftJournals.{leaves_after, leaves_front}
+use Rattle.depot_session.proofs.PrintedAnswers.{by_print}
 use Rattle.depot_session.proofs.ToldFaults.{EndsCalmly}
 use Rattle.depot_session.proofs.Turning.{disk_told, told, without_memory}
 use Rattle.depot_session.proofs.UnwrittenTexts.{nothing_written}
@@ -88,7 +90,7 @@ module _ {N : Type 0} (g : Ghosts N) (counts_now : (v : N) (t : ℕ) (image : Li
   journal = ap (λ (x : Step). x.session.correct.journal) is ∙ take_journal (g.stands old) s (g.records old) file stream at.journal
 
   -- what a stop leaves
-  leaves : IsTrue (g.tells old) → (image : List ℕ) → g.may_leave new image → HasFront (g.records old) fed.appends image
+  leaves : LeavesBrought g old new fed.appends
   leaves = leaves_front g counts_now old new fed.appends runs fed.left.node.journal.lasts
 
   -- no memory was found behind the call
@@ -96,11 +98,11 @@ module _ {N : Type 0} (g : Ghosts N) (counts_now : (v : N) (t : ℕ) (image : Li
   taken_without_memory sink r none same = without_memory g old new (command.Take file) taken_step shelf sink fed.appends (journal ∙ fed.brings) leaves (λ name. inl (unchanged name)) r none (nothing_written sink same)
 
   -- the disk failed in the call
-  pub taken_to_disk : (sink : Sinks) (e : ScriptEnding) → g.faults old < g.faults new → IsFaultTold sink disk_line ending.Disk e → Turns g old new (command.Take file) taken_step shelf sink (Err e)
+  taken_to_disk : (sink : Sinks) (e : ScriptEnding) → g.faults old < g.faults new → IsFaultTold sink disk_line ending.Disk e → Turns g old new (command.Take file) taken_step shelf sink (Err e)
   taken_to_disk sink = disk_told g old new (command.Take file) taken_step shelf sink fed.appends (journal ∙ fed.brings) leaves (λ name. inl (unchanged name))
 
   -- the stream was taken, and its lines told or not
-  pub taken_told : (sink : Sinks) (ends : Option ScriptEnding) (lines : List ℕ) (r : Result (Unit {0}) ScriptEnding) → g.stopped new ≡ false → g.records new ≡ (feed_of (g.stands old) (g.records old) stream).journal → ends ≡ ending_of_take (feed_of (g.stands old) (g.records old) stream).closed
+  taken_told : (sink : Sinks) (ends : Option ScriptEnding) (lines : List ℕ) (r : Result (Unit {0}) ScriptEnding) → g.stopped new ≡ false → g.records new ≡ (feed_of (g.stands old) (g.records old) stream).journal → ends ≡ ending_of_take (feed_of (g.stands old) (g.records old) stream).closed
       → lines ≡ lines_of_effect (fed_by s.correct (feed_of (g.stands old) (g.records old) stream)) → Tells sink (command_text (command.Take file) lines) ends r → Turns g old new (command.Take file) taken_step shelf sink r
   taken_told sink ends lines r goes grown ends_is lines_is t =
       let here = g.stands old in
@@ -108,3 +110,13 @@ module _ {N : Type 0} (g : Ghosts N) (counts_now : (v : N) (t : ℕ) (image : Li
       told g old new (command.Take file) taken_step shelf sink fed.appends (journal ∙ fed.brings) leaves (λ name. inl (unchanged name)) goes (grown ∙ sym journal) (λ other. unchanged other ∙ at.same_files other ∙ ap (λ (x : Step). x.session.files other) (sym is)) (leaves_after g old new _ fed.left.node.journal.lasts) ends r
       (ap (λ (x : Step). x.ending) is ∙ ap (λ (K : List Record). ending_of_take (feed_of here K stream).closed) at.journal ∙ sym ends_is)
       (subst (λ (x : List ℕ). Tells sink x ends r) (ap (command_text (command.Take file)) lines_is ∙ sym text_is) t)
+
+  -- what is printed of it was told, or that the disk failed
+  pub taken_printed : (sink : Sinks) (ends : Option ScriptEnding) (r : Result (Unit {0}) ScriptEnding) (o : Option Printed) → (o ≡ None) ↔ IsErrOf done error.Disk
+      → ((IsErrOf done error.Disk → ⊥) → (g.stopped new ≡ false) × ((g.records new ≡ (feed_of (g.stands old) (g.records old) stream).journal) × (ends ≡ ending_of_take (feed_of (g.stands old) (g.records old) stream).closed)))
+      → IsPrintOf o (fed_by s.correct (feed_of (g.stands old) (g.records old) stream)) → TellsPrinted sink (command.Take file) o ends r → Turns g old new (command.Take file) taken_step shelf sink r
+  taken_printed sink ends r o stopped went prints = by_print sink (command.Take file) ends (λ r. Turns g old new (command.Take file) taken_step shelf sink r) o
+      (λ p is r t.
+      let w = went (not_where_some o p (IsErrOf done error.Disk) is stopped.1) in
+      taken_told sink ends p.lines r w.0 w.1.0 w.1.1 (subst (λ (x : Option Printed). IsPrintOf x (fed_by s.correct (feed_of (g.stands old) (g.records old) stream))) is prints).0 t)
+      (λ none e fault. taken_to_disk sink e (fed.left.node.journal.disk.cause.rose (stopped.0 none)) fault) r

@@ -3,3 +3,4 @@ pub mod KeptReads
 pub mod SessionRuns
 pub mod ScriptTelling
 pub mod Turns
+pub mod Unhindered

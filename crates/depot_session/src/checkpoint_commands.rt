@@ -16,7 +16,7 @@ ghost use Rattle.depot_session.specs.Turns.{IsRunning, IsSomebodys, Keeps, Keeps
 
 use crate::ending::ScriptEnding;
 use crate::last_reader::LastReader;
-use crate::telling::{disk_failed, load, no_file, store_and_tell, tell};
+use crate::telling::{disk_failed, load, no_file, store_and_tell, tell, tell_printed};
 use depot_base::{Bytes, Changes, Key, Memory, Value};
 use depot_lines::FileName;
 use depot_local::LocalNode;
@@ -45,7 +45,7 @@ fn checkpoint_changes(alloc: Global, text: &Bytes) -> Result<Changes, Memory>
 }
 
 /// How a put ends the run, where the node answers neither for want of memory nor for its disk.
-fn ending_of_put(done: &Result<PutDone, PutError>) -> Option<ScriptEnding>
+pub fn ending_of_put(done: &Result<PutDone, PutError>) -> Option<ScriptEnding>
     ensures { result ≡ ends_of_put done.now }
 {
     match done {
@@ -135,7 +135,7 @@ fn ending_of_sign(done: &Result<PutDone, CheckpointError>) -> Option<ScriptEndin
     }
 }
 
-/// A text has only bytes. It does nothing.
+/// A text has only bytes. Called for its clause alone.
 fn are_bytes(text: &[u8])
     ensures { AreBytes text.now }
 {
@@ -168,10 +168,8 @@ pub fn sign<R: LocalNode, F: Shelf, K: Sink>(
     are_bytes(bytes);
     let done = sign_checkpoint(alloc, node, bytes);
     let ends = ending_of_sign(&done);
-    match sign_printed(alloc, done)? {
-        Some(printed) => tell(alloc, command, &printed.lines, ends, out),
-        None => Err(disk_failed(out)),
-    }
+    let printed = sign_printed(alloc, done)?;
+    tell_printed(alloc, command, printed, ends, out)
 }
 
 // ---- readers

@@ -20,11 +20,11 @@ ghost use Rattle.depot_session.specs.Sessions as sessions;
 ghost use Rattle.depot_session.specs.ScriptTelling.{StoresUnder, TellsShelf};
 ghost use Rattle.depot_session.specs.Turns.{EndsByBundle, EndsUnstored, IsRunning, IsSomebodys, Keeps, KeepsLast, StoresAt, TurnsAnywhere, TurnsInRun, TurnsOn, TurnsTracing, ends_of_receipt};
 
-use crate::checkpoint_commands::{checkpoint, sign, tget, tgive, trim};
+use crate::checkpoint_commands::{checkpoint, ending_of_put, sign, tget, tgive, trim};
 use crate::ending::ScriptEnding;
 use crate::kept_reads::{keep, kept};
 use crate::last_reader::LastReader;
-use crate::telling::{disk_failed, load, no_file, store_and_tell, tell};
+use crate::telling::{disk_failed, load, no_file, store_and_tell, tell, tell_printed};
 use depot_answers::Closing;
 use depot_base::{Bytes, Changes, Hash32, Ids, Key, Memory, Value};
 use depot_gossip::{BundleError, Bundled, FeedError, bundle, encode_hello, node_hello};
@@ -58,14 +58,9 @@ fn put<R: LocalNode, K: Sink>(
     ensures same { K.tells out.new ≡ K.tells out.old }
 {
     let done = node.put_all(changes);
-    let ends = match &done {
-        Ok(_) => None,
-        Err(_) => Some(ScriptEnding::Limit),
-    };
-    match put_printed(alloc, done)? {
-        Some(printed) => tell(alloc, command, &printed.lines, ends, out),
-        None => Err(disk_failed(out)),
-    }
+    let ends = ending_of_put(&done);
+    let printed = put_printed(alloc, done)?;
+    tell_printed(alloc, command, printed, ends, out)
 }
 
 /// The one change that gives a key a value, both copied.
@@ -172,10 +167,8 @@ fn give_receipt<R: LocalNode, K: Sink>(
     let ids = one_id(alloc, id)?;
     let done = give(alloc, node, &ids);
     let ends = ending_of_receipt(&done);
-    match receipt_printed(alloc, done)? {
-        Some(printed) => tell(alloc, command, &printed.lines, ends, out),
-        None => Err(disk_failed(out)),
-    }
+    let printed = receipt_printed(alloc, done)?;
+    tell_printed(alloc, command, printed, ends, out)
 }
 
 /// Tells whether so many nodes gave receipts for an update.
@@ -325,10 +318,8 @@ fn take<R: LocalNode, F: Shelf, K: Sink>(
     };
     let fed = feed_whole(alloc, node, stream.as_slice());
     let ends = ending_of_take(&fed);
-    match fed_printed(alloc, fed)? {
-        Some(printed) => tell(alloc, command, &printed.lines, ends, out),
-        None => Err(disk_failed(out)),
-    }
+    let printed = fed_printed(alloc, fed)?;
+    tell_printed(alloc, command, printed, ends, out)
 }
 
 /// The text of a node's trace with these reads.

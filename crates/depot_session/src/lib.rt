@@ -5,7 +5,7 @@
 //! by a fault of the disk, the shelf or the sink; `specs/SessionRuns.antt` says what stands then, on the disk at any stop too.
 //!
 //! Where the receipts of the file's journal are true (`depot_receipts`), so they are in every image of a run: only the command `receipt` writes
-//! their keys, and `checkpoint` and `sign` alone write those of checkpoints, which are others. `session_laws` says what stands in each image then.
+//! their keys, and `checkpoint` and `sign` alone write those of checkpoints, which are others. `session_laws` says what stands in each image then, and which scripts come to their end (`specs/Unhindered.antt`).
 //!
 //! Where a script hands in a trace, the reads of the run are kept, as traces tell them (`kept_reads`); a run of another script keeps none.
 //!
@@ -29,4 +29,4 @@ mod whole_script;
 
 pub use ending::ScriptEnding;
 pub use running::run;
-pub use session_laws::images_hold_what_receipts_speak_of;
+pub use session_laws::{images_hold_what_receipts_speak_of, unhindered_scripts_are_done};

@@ -15,5 +15,6 @@ pub mod ReaderTables
 pub mod ReceiptEvents
 pub mod Remembered
 pub mod RememberedRuns
+pub mod SeenCounts
 pub mod HostPlaces
 pub mod SignedUpdates

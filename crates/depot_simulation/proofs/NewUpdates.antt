@@ -1,8 +1,9 @@
 -- Of the updates that a node accepted only those that are new to it need to be added to those that were seen, one by one.
-use Rattle.std.proofs.Common.{◌≡◌, ℕ, ◌+◌, List, [], ◌∷◌, ◌++◌, take, length, Some, sym, ap, ◌∙◌}
+use Rattle.std.proofs.Common.{◌≡◌, ℕ, ◌+◌, ◌<◌, ◌≤◌, List, [], ◌∷◌, ◌++◌, take, length, Some, sym, ap, ◌∙◌, arith}
 use Rattle.std.specs.List.{slice_get}
 use Rattle.std.proofs.Math.Seq.{take-append_seam}
 use Rattle.std.proofs.lemmas.Grind.{flat_map-append, take_at_read}
+use Rattle.std.proofs.lemmas.List.{length-take-le}
 use Rattle.std.proofs.lemmas.Option.{slice_get_within, get_or_from_slice_get}
 use Rattle.depot_base.specs.declared.record.Record.{Record}
 use Rattle.depot_base.specs.declared.update.Update.{Update}
@@ -16,7 +17,7 @@ use Rattle.depot_laws.proofs.Causes.{lawful_is_causal}
 use Rattle.depot_laws.proofs.OwnTexts.{accepted_fit}
 use Rattle.depot_world.specs.Run.{seen_with}
 use Rattle.depot_model.proofs.FeedGrowth.{IsGrown}
-use Rattle.depot_simulation.proofs.Remembered.{IdsWereSeen, seen_with-append, causal_come, parents_of_next}
+use Rattle.depot_simulation.proofs.Remembered.{IdsWereSeen, seen_with-append, seen_at_most, causal_come, parents_of_next}
 
 -- ---- what a journal that grew accepted
 
@@ -36,6 +37,10 @@ next_front us i u at = (take_at_read us i u (slice_get_within us i u at)).1 ∙ 
 -- the next one is added to what those before it add
 pub adding_goes_on : (us : List Update) (i : ℕ) (u : Update) (seen : List Update) → slice_get us i ≡ Some u → seen_with (seen_with seen (take i us)) (u ∷ []) ≡ seen_with seen (take (i + 1) us)
 adding_goes_on us i u seen at = sym (seen_with-append seen (take i us) (u ∷ [])) ∙ ap (λ (x : List Update). seen_with seen x) (sym (next_front us i u at))
+
+-- where there is room for all, there is for the next one
+pub room_for_next : (seen us : List Update) (i : ℕ) → i < length us → length seen + length us ≤ 4294967295 → length (seen_with seen (take i us)) < 4294967295
+room_for_next seen us i within room = let front : length (take i us) ≡ i = length-take-le i us (omega (arith, within)) in omega (arith, seen_at_most seen (take i us), front, within, room)
 
 -- each update of a lawful journal has a text
 pub added_fits : (here : Setting) (K : List Record) (i : ℕ) (u : Update) → IsLawful here K → slice_get (accepted K) i ≡ Some u → IsUpdate u

@@ -22,7 +22,7 @@ use Rattle.depot_world.specs.Transcript.{Done, pending_at, done_at_node, done, d
 use Rattle.depot_model.proofs.FeedGrowth.{IsGrown, grown_none}
 use Rattle.depot_world.proofs.GoodRuns.{found_is}
 use Rattle.depot_simulation.specs.Acting.{ActorView, AreHosted, CameTo, IsParticipant, IsHosted, TellReads}
-use Rattle.depot_simulation.specs.Doing.{HasDone, HasLeft, effect_of, is_effect}
+use Rattle.depot_simulation.specs.Doing.{HasDone, HasLeft, effect_of, is_effect, participant_of}
 use Rattle.depot_scenario.specs.Labels.{AreLabels, label_by, labels_with}
 use Rattle.depot_simulation.specs.Playing.{IsSimulationAt, IsRemembered, WereSeen, participant_by}
 use Rattle.depot_simulation.specs.Readers.{AreReaders}
@@ -161,10 +161,10 @@ pub record IsLeft (A : Type 0) {R : Type 0} (view : A → ActorView) (reads : Re
   pub host : Host
   pub found : host_in run.hosts node ≡ Some host
   pub is : host.correct.node ≡ node
-  pub hosted : IsHosted setup host (view acting.participant.actor)
-  pub told : TellReads host.correct.reads acting.participant.reads
-  pub count_is : acting.count ≡ length (accepted host.correct.journal)
-  pub back : (w : Host) (x : Participant A) → w.correct.node ≡ node → IsParticipant setup w (participant_by view x) → AreHosted setup (put_host w run.hosts) (map (participant_by view) (insert left.participants.items acting.place x))
+  pub hosted : IsHosted setup host (view acting.actor)
+  pub told : TellReads host.correct.reads acting.reads
+  pub count_is : acting.seat.count ≡ length (accepted host.correct.journal)
+  pub back : (w : Host) (x : Participant A) → w.correct.node ≡ node → IsParticipant setup w (participant_by view x) → AreHosted setup (put_host w run.hosts) (map (participant_by view) (insert left.participants.items acting.seat.place x))
   pub labels_are : AreLabels left.labels.map.entries run.labels
   pub seen_are : left.seen.listed.updates ≡ run.seen
   pub readers_are : AreReaders reads left.readers.map.entries run.readers
@@ -172,10 +172,10 @@ pub record IsLeft (A : Type 0) {R : Type 0} (view : A → ActorView) (reads : Re
 
 pub left_is : (A : Type 0) {R : Type 0} (view : A → ActorView) (reads : Reader → R → Type 0) (setup : Setup) (run : Run) (node : ℕ) (before left : Simulation A R) (acting : ActingNode A) → HasLeft A view node before left acting → IsSimulationAt view reads setup run before → IsLeft A view reads setup run node left acting
 left_is A {R = R} view reads setup run node before left acting l at =
-    let host_place = host_place_at (participant_by view) setup run.hosts before.participants.items node acting.place at.hosted l.place_is in
+    let host_place = host_place_at (participant_by view) setup run.hosts before.participants.items node acting.seat.place at.hosted l.place_is in
     let f = found_is run.hosts node host_place.host host_place.found in
-    let same : host_place.actor ≡ acting.participant = cc (host_place.at, l.part_is) in
-    let sits : IsParticipant setup host_place.host (participant_by view acting.participant) = subst (λ (x : Participant A). IsParticipant setup host_place.host (participant_by view x)) same host_place.hosted in
+    let same : host_place.actor ≡ participant_of acting = cc (host_place.at, l.part_is) in
+    let sits : IsParticipant setup host_place.host (participant_by view (participant_of acting)) = subst (λ (x : Participant A). IsParticipant setup host_place.host (participant_by view x)) same host_place.hosted in
     record {
       host = host_place.host;
       found = host_place.found;
@@ -183,7 +183,7 @@ left_is A {R = R} view reads setup run node before left acting l at =
       hosted = sits.hosted;
       told = sits.told;
       count_is = l.count_is ∙ ap (λ (J : List Record). length (accepted J)) sits.hosted.journal;
-      back = λ w x number is. subst (λ (xs : List (Participant A)). AreHosted setup (put_host w run.hosts) (map (participant_by view) (insert xs acting.place x))) (sym l.others) (host_place.back w x number is);
+      back = λ w x number is. subst (λ (xs : List (Participant A)). AreHosted setup (put_host w run.hosts) (map (participant_by view) (insert xs acting.seat.place x))) (sym l.others) (host_place.back w x number is);
       labels_are = subst (λ (ls : Labels). AreLabels ls.map.entries run.labels) (sym l.labels_stay) at.labels_are;
       seen_are = ap (λ (x : KnownUpdates). x.listed.updates) l.seen_stays ∙ at.seen_are;
       readers_are = subst (λ (rs : Readers R). AreReaders reads rs.map.entries run.readers) (sym l.readers_stay) at.readers_are;
@@ -191,20 +191,20 @@ left_is A {R = R} view reads setup run node before left acting l at =
     }
 
 -- its place is one among the others, or behind them
-pub place_within : (A : Type 0) {R : Type 0} (view : A → ActorView) (node : ℕ) (before left : Simulation A R) (acting : ActingNode A) → HasLeft A view node before left acting → acting.place ≤ length left.participants.items
+pub place_within : (A : Type 0) {R : Type 0} (view : A → ActorView) (node : ℕ) (before left : Simulation A R) (acting : ActingNode A) → HasLeft A view node before left acting → acting.seat.place ≤ length left.participants.items
 place_within A view node before left acting l =
-    let within = slice_get_within before.participants.items acting.place acting.participant l.part_is in
-    omega (arith, length-remove before.participants.items acting.place within, ap length l.others)
+    let within = slice_get_within before.participants.items acting.seat.place (participant_of acting) l.part_is in
+    omega (arith, length-remove before.participants.items acting.seat.place within, ap length l.others)
 
 -- ---- and comes back
 
 -- what it had accepted when it left was seen
 pub had_seen : (A : Type 0) {R : Type 0} (view : A → ActorView) (reads : Reader → R → Type 0) (setup : Setup) (run : Run) (node : ℕ) (left : Simulation A R) (acting : ActingNode A) (K : List Record) → (i : IsLeft A view reads setup run node left acting) → IsGrown i.host.correct.journal K
-    → WereSeen left.seen.listed.updates (take acting.count (accepted K))
+    → WereSeen left.seen.listed.updates (take acting.seat.count (accepted K))
 had_seen A view reads setup run node left acting K i grown =
     let J = i.host.correct.journal in
-    let front : take acting.count (accepted K) ≡ accepted J = ap (λ (n : ℕ). take n (accepted K)) i.count_is ∙ accepted_front J K grown in
-    subst (λ (us : List Update). WereSeen us (take acting.count (accepted K))) (sym i.seen_are) (subst (λ (us : List Update). WereSeen run.seen us) (sym front) i.accepted_were)
+    let front : take acting.seat.count (accepted K) ≡ accepted J = ap (λ (n : ℕ). take n (accepted K)) i.count_is ∙ accepted_front J K grown in
+    subst (λ (us : List Update). WereSeen us (take acting.seat.count (accepted K))) (sym i.seen_are) (subst (λ (us : List Update). WereSeen run.seen us) (sym front) i.accepted_were)
 
 -- the event was done, once the node is back
 done_at : (A : Type 0) {R : Type 0} (view : A → ActorView) (reads : Reader → R → Type 0) (setup : Setup) (run : Run) (o : Option (List ℕ)) (w : EventResult) (lines : List ℕ) (new : Simulation A R) → lines ≡ lines_after_arrow w.answer w.behind
@@ -229,7 +229,7 @@ done_at A view reads setup run (Some label) w lines new told hosted labels seen_
 -- the node is back, and its bytes are under their label
 pub comes_back : (A : Type 0) {R : Type 0} (view : A → ActorView) (reads : Reader → R → Type 0) (setup : Setup) (run : Run) (node : ℕ) (o : Option (List ℕ)) (before left new : Simulation A R) (acting : ActingNode A) (after : Participant A) (lines bytes : List ℕ) (w : EventResult) → IsLawful (view after.actor).here (view after.actor).journal
     → IsSimulationAt view reads setup run before → (i : IsLeft A view reads setup run node left acting) → CameTo setup w (view after.actor) lines bytes → w.host.correct.node ≡ i.host.correct.node → TellReads w.host.correct.reads after.reads
-    → new.participants.items ≡ insert left.participants.items acting.place after
+    → new.participants.items ≡ insert left.participants.items acting.seat.place after
     → new.seen.listed.updates ≡ seen_with left.seen.listed.updates (accepted (view after.actor).journal)
     → ((labels : List Labelled) → AreLabels left.labels.map.entries labels → AreLabels new.labels.map.entries (labels_with labels o bytes)) → new.readers ≡ left.readers
     → HasDone A view reads setup (done_by_node run o w) lines new
@@ -248,16 +248,16 @@ comes_back A {R = R} view reads setup run node o before left new acting after li
 
 -- what the node had accepted before it was seen
 pub effect_had_seen : (A : Type 0) {R : Type 0} (view : A → ActorView) (reads : Reader → R → Type 0) (setup : Setup) (run : Run) (e : Event) (left : Simulation A R) (acting : ActingNode A) (after : A) (lines bytes : List ℕ) → (i : IsLeft A view reads setup run (event_node e) left acting) → CameTo setup (event_result i.host (effect_of setup run e i.host)) (view after) lines bytes
-    → WereSeen left.seen.listed.updates (take acting.count (accepted (view after).journal))
+    → WereSeen left.seen.listed.updates (take acting.seat.count (accepted (view after).journal))
 effect_had_seen A view reads setup run e left acting after lines bytes i came =
     let K = (event_result i.host (effect_of setup run e i.host)).host.correct.journal in
-    subst (λ (x : List Record). WereSeen left.seen.listed.updates (take acting.count (accepted x))) (sym came.hosted.journal) (had_seen A view reads setup run (event_node e) left acting K i (effect_grows setup run e i.host))
+    subst (λ (x : List Record). WereSeen left.seen.listed.updates (take acting.seat.count (accepted x))) (sym came.hosted.journal) (had_seen A view reads setup run (event_node e) left acting K i (effect_grows setup run e i.host))
 
 -- the event was done
 pub effect_done : (A : Type 0) {R : Type 0} (view : A → ActorView) (reads : Reader → R → Type 0) (setup : Setup) (run : Run) (e : Event) (before left new : Simulation A R) (acting : ActingNode A) (after : Participant A) (lines bytes : List ℕ) → is_effect e ≡ true → IsLawful (view after.actor).here (view after.actor).journal → IsSimulationAt view reads setup run before
     → (i : IsLeft A view reads setup run (event_node e) left acting) → CameTo setup (event_result i.host (effect_of setup run e i.host)) (view after.actor) lines bytes
     → TellReads (event_result i.host (effect_of setup run e i.host)).host.correct.reads after.reads
-    → new.participants.items ≡ insert left.participants.items acting.place after
+    → new.participants.items ≡ insert left.participants.items acting.seat.place after
     → new.seen.listed.updates ≡ seen_with left.seen.listed.updates (accepted (view after.actor).journal)
     → ((labels : List Labelled) → AreLabels left.labels.map.entries labels → AreLabels new.labels.map.entries (labels_with labels (label_by e) bytes)) → new.readers ≡ left.readers
     → HasDone A view reads setup (done setup run e) lines new
@@ -298,21 +298,21 @@ pending_host_place : (setup : Setup) (s : Host) (v after : ActorView) (call imag
 pending_host_place setup s v after call image hosted is = subst (λ (x : ActorView). IsHosted setup (pending_host s call image) x) (sym is) (record { here = hosted.here; sign = hosted.sign; journal = hosted.journal; pending = refl })
 
 -- what it had accepted was seen
-pub pending_had_seen : (A : Type 0) {R : Type 0} (view : A → ActorView) (reads : Reader → R → Type 0) (setup : Setup) (run : Run) (node : ℕ) (left : Simulation A R) (acting : ActingNode A) (after : A) (call image : ℕ) → IsLeft A view reads setup run node left acting → view after ≡ record (view acting.participant.actor) { pending = Some (record { call = call; image = image }) }
-    → WereSeen left.seen.listed.updates (take acting.count (accepted (view after).journal))
+pub pending_had_seen : (A : Type 0) {R : Type 0} (view : A → ActorView) (reads : Reader → R → Type 0) (setup : Setup) (run : Run) (node : ℕ) (left : Simulation A R) (acting : ActingNode A) (after : A) (call image : ℕ) → IsLeft A view reads setup run node left acting → view after ≡ record (view acting.actor) { pending = Some (record { call = call; image = image }) }
+    → WereSeen left.seen.listed.updates (take acting.seat.count (accepted (view after).journal))
 pending_had_seen A view reads setup run node left acting after call image i is =
-    let host_place = pending_host_place setup i.host (view acting.participant.actor) (view after) call image i.hosted is in
-    subst (λ (x : List Record). WereSeen left.seen.listed.updates (take acting.count (accepted x))) (sym host_place.journal) (had_seen A view reads setup run node left acting i.host.correct.journal i (grown_none i.host.correct.journal))
+    let host_place = pending_host_place setup i.host (view acting.actor) (view after) call image i.hosted is in
+    subst (λ (x : List Record). WereSeen left.seen.listed.updates (take acting.seat.count (accepted x))) (sym host_place.journal) (had_seen A view reads setup run node left acting i.host.correct.journal i (grown_none i.host.correct.journal))
 
 -- the stop was set
 pub stop_set : (A : Type 0) {R : Type 0} (view : A → ActorView) (reads : Reader → R → Type 0) (setup : Setup) (run : Run) (node call image : ℕ) (before left new : Simulation A R) (acting : ActingNode A) (after : A) → IsLawful (view after).here (view after).journal → IsSimulationAt view reads setup run before
-    → IsLeft A view reads setup run node left acting → view after ≡ record (view acting.participant.actor) { pending = Some (record { call = call; image = image }) }
-    → new.participants.items ≡ insert left.participants.items acting.place (record { actor = after; reads = acting.participant.reads })
+    → IsLeft A view reads setup run node left acting → view after ≡ record (view acting.actor) { pending = Some (record { call = call; image = image }) }
+    → new.participants.items ≡ insert left.participants.items acting.seat.place (record { actor = after; reads = acting.reads })
     → new.seen.listed.updates ≡ seen_with left.seen.listed.updates (accepted (view after).journal)
     → new.labels ≡ left.labels → new.readers ≡ left.readers
     → HasDone A view reads setup (pending_at run node call image) (codes " armed" ++ 10 ∷ []) new
 stop_set A view reads setup run node call image before left new acting after lawful at i is participants seen labels readers =
     let w : EventResult = record { host = pending_host i.host call image; answer = codes " armed"; behind = []; bytes = [] } in
-    let came : CameTo setup w (view after) (codes " armed" ++ 10 ∷ []) [] = record { hosted = pending_host_place setup i.host (view acting.participant.actor) (view after) call image i.hosted is; lines_are = refl; bytes_are = refl } in
+    let came : CameTo setup w (view after) (codes " armed" ++ 10 ∷ []) [] = record { hosted = pending_host_place setup i.host (view acting.actor) (view after) call image i.hosted is; lines_are = refl; bytes_are = refl } in
     subst (λ (d : Done). HasDone A view reads setup d (codes " armed" ++ 10 ∷ []) new) (sym (pending_is run node call image i.host i.found))
-    (comes_back A view reads setup run node None before left new acting (record { actor = after; reads = acting.participant.reads }) (codes " armed" ++ 10 ∷ []) [] w lawful at i came refl i.told participants seen (λ ls are. subst (λ (x : Labels). AreLabels x.map.entries ls) (sym labels) are) readers)
+    (comes_back A view reads setup run node None before left new acting (record { actor = after; reads = acting.reads }) (codes " armed" ++ 10 ∷ []) [] w lawful at i came refl i.told participants seen (λ ls are. subst (λ (x : Labels). AreLabels x.map.entries ls) (sym labels) are) readers)

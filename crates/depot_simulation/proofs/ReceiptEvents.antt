@@ -79,20 +79,20 @@ nothing_at A view reads setup run node effect simulation none at =
 
 -- what it had accepted was seen
 seen_before : (A : Type 0) {R : Type 0} (view : A → ActorView) (reads : Reader → R → Type 0) (setup : Setup) (run : Run) (node : ℕ) (d : Effect) (left : Simulation A R) (acting : ActingNode A) (after : A) (lines bytes : List ℕ) → (i : IsLeft A view reads setup run node left acting) → CameTo setup (event_result i.host d) (view after) lines bytes
-    → IsGrown i.host.correct.journal (event_result i.host d).host.correct.journal → WereSeen left.seen.listed.updates (take acting.count (accepted (view after).journal))
+    → IsGrown i.host.correct.journal (event_result i.host d).host.correct.journal → WereSeen left.seen.listed.updates (take acting.seat.count (accepted (view after).journal))
 seen_before A view reads setup run node d left acting after lines bytes i came grown =
     let K = (event_result i.host d).host.correct.journal in
-    subst (λ (x : List Record). WereSeen left.seen.listed.updates (take acting.count (accepted x))) (sym came.hosted.journal) (had_seen A view reads setup run node left acting K i grown)
+    subst (λ (x : List Record). WereSeen left.seen.listed.updates (take acting.seat.count (accepted x))) (sym came.hosted.journal) (had_seen A view reads setup run node left acting K i grown)
 
 -- the event was done, once the node is back with the reads that it had
 done_there : (A : Type 0) {R : Type 0} (view : A → ActorView) (reads : Reader → R → Type 0) (setup : Setup) (run : Run) (node : ℕ) (effect : Host → Effect) (before left new : Simulation A R) (acting : ActingNode A) (after : A) (lines bytes : List ℕ) → IsLawful (view after).here (view after).journal → IsSimulationAt view reads setup run before
     → (i : IsLeft A view reads setup run node left acting) → CameTo setup (event_result i.host (effect i.host)) (view after) lines bytes → (effect i.host).reads ≡ i.host.correct.reads
-    → new.participants.items ≡ insert left.participants.items acting.place (record { actor = after; reads = acting.participant.reads }) → new.seen.listed.updates ≡ seen_with left.seen.listed.updates (accepted (view after).journal) → new.labels ≡ left.labels → new.readers ≡ left.readers
+    → new.participants.items ≡ insert left.participants.items acting.seat.place (record { actor = after; reads = acting.reads }) → new.seen.listed.updates ≡ seen_with left.seen.listed.updates (accepted (view after).journal) → new.labels ≡ left.labels → new.readers ≡ left.readers
     → HasDone A view reads setup (done_at_node run node None effect) lines new
 done_there A view reads setup run node effect before left new acting after lines bytes lawful at i came none participants seen labels readers =
-    let told : TellReads (event_result i.host (effect i.host)).host.correct.reads acting.participant.reads = subst (λ (rs : List Read). TellReads rs acting.participant.reads) (sym (result_reads i.host (effect i.host) none)) i.told in
+    let told : TellReads (event_result i.host (effect i.host)).host.correct.reads acting.reads = subst (λ (rs : List Read). TellReads rs acting.reads) (sym (result_reads i.host (effect i.host) none)) i.told in
     subst (λ (d : Done). HasDone A view reads setup d lines new) (sym (there_is run node None effect i.host i.found))
-    (comes_back A view reads setup run node None before left new acting (record { actor = after; reads = acting.participant.reads }) lines bytes (event_result i.host (effect i.host)) lawful at i came (same_node i.host (effect i.host)) told participants seen
+    (comes_back A view reads setup run node None before left new acting (record { actor = after; reads = acting.reads }) lines bytes (event_result i.host (effect i.host)) lawful at i came (same_node i.host (effect i.host)) told participants seen
     (λ ls are. subst (λ (x : Labels). AreLabels x.map.entries ls) (sym labels) are) readers)
 
 -- ---- receipts
@@ -103,14 +103,14 @@ at_its_number : (setup : Setup) (s : Host) (node : ℕ) (ids : List (List ℕ)) 
 at_its_number setup s node ids v lines bytes is came = subst (λ (n : ℕ). CameTo setup (event_result s (receipt_by (stands_on setup n) s.correct ids)) v lines bytes) is came
 
 pub receipts_had_seen : (A : Type 0) {R : Type 0} (view : A → ActorView) (reads : Reader → R → Type 0) (setup : Setup) (run : Run) (node : ℕ) (ids : List (List ℕ)) (left : Simulation A R) (acting : ActingNode A) (after : A) (lines bytes : List ℕ) → (i : IsLeft A view reads setup run node left acting)
-    → CameTo setup (event_result i.host (receipt_by (stands_on setup i.host.correct.node) i.host.correct ids)) (view after) lines bytes → WereSeen left.seen.listed.updates (take acting.count (accepted (view after).journal))
+    → CameTo setup (event_result i.host (receipt_by (stands_on setup i.host.correct.node) i.host.correct ids)) (view after) lines bytes → WereSeen left.seen.listed.updates (take acting.seat.count (accepted (view after).journal))
 receipts_had_seen A view reads setup run node ids left acting after lines bytes i came =
     let here = stands_on setup i.host.correct.node in
     seen_before A view reads setup run node (receipt_by here i.host.correct ids) left acting after lines bytes i came (receipt_grows here i.host ids)
 
 pub receipts_given : (A : Type 0) {R : Type 0} (view : A → ActorView) (reads : Reader → R → Type 0) (setup : Setup) (run : Run) (node : ℕ) (ids : List (List ℕ)) (before left new : Simulation A R) (acting : ActingNode A) (after : A) (lines bytes : List ℕ) → IsLawful (view after).here (view after).journal → IsSimulationAt view reads setup run before
     → (i : IsLeft A view reads setup run node left acting) → CameTo setup (event_result i.host (receipt_by (stands_on setup i.host.correct.node) i.host.correct ids)) (view after) lines bytes
-    → new.participants.items ≡ insert left.participants.items acting.place (record { actor = after; reads = acting.participant.reads }) → new.seen.listed.updates ≡ seen_with left.seen.listed.updates (accepted (view after).journal) → new.labels ≡ left.labels → new.readers ≡ left.readers
+    → new.participants.items ≡ insert left.participants.items acting.seat.place (record { actor = after; reads = acting.reads }) → new.seen.listed.updates ≡ seen_with left.seen.listed.updates (accepted (view after).journal) → new.labels ≡ left.labels → new.readers ≡ left.readers
     → HasDone A view reads setup (done_at_node run node None (λ s. receipt_by (stands_on setup node) s.correct ids)) lines new
 receipts_given A view reads setup run node ids before left new acting after lines bytes lawful at i came participants seen labels readers =
     done_there A view reads setup run node (λ s. receipt_by (stands_on setup node) s.correct ids) before left new acting after lines bytes lawful at i (at_its_number setup i.host node ids (view after) lines bytes i.is came)
@@ -119,12 +119,12 @@ receipts_given A view reads setup run node ids before left new acting after line
 -- ---- whether enough were given
 
 pub settled_had_seen : (A : Type 0) {R : Type 0} (view : A → ActorView) (reads : Reader → R → Type 0) (setup : Setup) (run : Run) (node : ℕ) (id : List ℕ) (k : ℕ) (left : Simulation A R) (acting : ActingNode A) (after : A) (lines bytes : List ℕ) → (i : IsLeft A view reads setup run node left acting)
-    → CameTo setup (event_result i.host (settled_by i.host.correct id k)) (view after) lines bytes → WereSeen left.seen.listed.updates (take acting.count (accepted (view after).journal))
+    → CameTo setup (event_result i.host (settled_by i.host.correct id k)) (view after) lines bytes → WereSeen left.seen.listed.updates (take acting.seat.count (accepted (view after).journal))
 settled_had_seen A view reads setup run node id k left acting after lines bytes i came = seen_before A view reads setup run node (settled_by i.host.correct id k) left acting after lines bytes i came (settled_grows i.host id k)
 
 pub settled_told : (A : Type 0) {R : Type 0} (view : A → ActorView) (reads : Reader → R → Type 0) (setup : Setup) (run : Run) (node : ℕ) (id : List ℕ) (k : ℕ) (before left new : Simulation A R) (acting : ActingNode A) (after : A) (lines bytes : List ℕ) → IsLawful (view after).here (view after).journal → IsSimulationAt view reads setup run before
     → (i : IsLeft A view reads setup run node left acting) → CameTo setup (event_result i.host (settled_by i.host.correct id k)) (view after) lines bytes
-    → new.participants.items ≡ insert left.participants.items acting.place (record { actor = after; reads = acting.participant.reads }) → new.seen.listed.updates ≡ seen_with left.seen.listed.updates (accepted (view after).journal) → new.labels ≡ left.labels → new.readers ≡ left.readers
+    → new.participants.items ≡ insert left.participants.items acting.seat.place (record { actor = after; reads = acting.reads }) → new.seen.listed.updates ≡ seen_with left.seen.listed.updates (accepted (view after).journal) → new.labels ≡ left.labels → new.readers ≡ left.readers
     → HasDone A view reads setup (done_at_node run node None (λ s. settled_by s.correct id k)) lines new
 settled_told A view reads setup run node id k before left new acting after lines bytes lawful at i came participants seen labels readers =
     done_there A view reads setup run node (λ s. settled_by s.correct id k) before left new acting after lines bytes lawful at i came (settled_keeps i.host.correct id k) participants seen labels readers

@@ -1,5 +1,5 @@
 -- Updates that were seen: they stay seen, and where the parents of those that come were seen, each stands behind its parents.
-use Rattle.std.proofs.Common.{◌≡◌, ℕ, zero, suc, Bool, true, false, cond, List, [], ◌∷◌, ◌++◌, take, map, Some, refl, ap, subst, ◌∙◌, inr}
+use Rattle.std.proofs.Common.{◌≡◌, ℕ, zero, suc, Bool, true, false, cond, List, [], ◌∷◌, ◌++◌, ◌+◌, ◌≤◌, length, take, map, Some, refl, ap, subst, ◌∙◌, inr, length-append, arith}
 use Rattle.std.specs.List.{AllByRecursion, slice_get}
 use Rattle.depot_base.specs.declared.update.Update.{Update}
 use Rattle.depot_model.specs.Journal.{has_id}
@@ -67,6 +67,18 @@ pub seen_add_nothing : (seen us : List Update) → WereSeen seen us → seen_wit
 unfolding seen_with
 seen_add_nothing seen [] were = refl
 seen_add_nothing seen (u ∷ us) were = ap (λ (b : Bool). seen_with (cond b seen (seen ++ u ∷ [])) us) were.0 ∙ seen_add_nothing seen us were.1
+
+-- no more are added than come
+one_at_most : (seen : List Update) (u : Update) → length (with_one seen u) ≤ length seen + 1
+one_at_most seen u = by_test (has_id seen (id_of_update u)) where
+  by_test : (b : Bool) → length (cond b seen (seen ++ u ∷ [])) ≤ length seen + 1
+  by_test true = omega arith
+  by_test false = omega (arith, length-append seen (u ∷ []))
+
+pub seen_at_most : (seen us : List Update) → length (seen_with seen us) ≤ length seen + length us
+unfolding seen_with
+seen_at_most seen [] = omega arith
+seen_at_most seen (u ∷ us) = omega (arith, seen_at_most (with_one seen u) us, one_at_most seen u)
 
 -- ---- parents
 

@@ -21,7 +21,7 @@ use Rattle.depot_simulation.proofs.Remembered.{IdsWereSeen, were_stay_seen, all_
 -- ---- hosts
 
 -- what holds of a host and of those before holds of all, once it is in its place
-each_put : (P : Host → Type 0) (s : Host) (ss : List Host) → P s → ((x : Host) → IsIn x ss → P x) → (x : Host) → IsIn x (put_host s ss) → P x
+pub each_put : (P : Host → Type 0) (s : Host) (ss : List Host) → P s → ((x : Host) → IsIn x ss → P x) → (x : Host) → IsIn x (put_host s ss) → P x
 unfolding put_host
 each_put P s [] one each x never = absurd never
 each_put P s (t ∷ ss) one each x on = by_test (eqb t.correct.node s.correct.node) (each_put P s ss one (λ y there. each y (inr there)) x) on where

@@ -89,12 +89,16 @@ settling_by run node id k = done_at_node run node None (λ s. settled_by s.corre
 abbrev pub place_of_node : {A : Type 0} → (A → ActorView) → ℕ → List (Participant A) → Option ℕ
 place_of_node view node participants = position (λ p. (view p.actor).here.me == node) participants
 
+-- a node away from its place, with its reads
+abbrev pub participant_of : {A : Type 0} → ActingNode A → Participant A
+participant_of acting = record { actor = acting.actor; reads = acting.reads }
+
 -- The first node of this number left its place.
 pub record HasLeft (A : Type 0) {R : Type 0} (view : A → ActorView) (node : ℕ) (old new : Simulation A R) (acting : ActingNode A) : Type 0 where
-  pub place_is : place_of_node view node old.participants.items ≡ Some acting.place
-  pub part_is : slice_get old.participants.items acting.place ≡ Some acting.participant
-  pub count_is : acting.count ≡ length (accepted (view acting.participant.actor).journal)
-  pub others : new.participants.items ≡ remove old.participants.items acting.place
+  pub place_is : place_of_node view node old.participants.items ≡ Some acting.seat.place
+  pub part_is : slice_get old.participants.items acting.seat.place ≡ Some (participant_of acting)
+  pub count_is : acting.seat.count ≡ length (accepted (view acting.actor).journal)
+  pub others : new.participants.items ≡ remove old.participants.items acting.seat.place
   pub labels_stay : new.labels ≡ old.labels
   pub seen_stays : new.seen ≡ old.seen
   pub readers_stay : new.readers ≡ old.readers

@@ -1,6 +1,7 @@
 -- A run of a schedule at work, and what a run always has.
-use Rattle.std.specs.Prelude.{◌≡◌, ℕ, List, [], Vec, true, Option, Some, map, take}
+use Rattle.std.specs.Prelude.{◌≡◌, ℕ, ◌+◌, ◌*◌, ◌≤◌, List, [], Vec, true, Option, Some, length, map, take}
 use Rattle.std.specs.List.{AllByRecursion}
+use Rattle.depot_base.specs.declared.limits.TheConstants.{MOST_CORRECT, MOST_LINES, MOST_RECORDS}
 use Rattle.depot_base.specs.declared.statement.Signed.{Signed}
 use Rattle.depot_base.specs.declared.update.Update.{Update}
 use Rattle.depot_base.specs.declared.key.PublicKey.{PublicKey}
@@ -61,28 +62,36 @@ pub record IsSimulationFor {A R : Type 0} (view : A → ActorView) (reads : Read
   pub alike : IsAlikeFor es run few
   pub at : IsSimulationAt view reads setup few simulation
 
--- a simulation is at some point of some run
+-- how many updates a run sees at most: a record of a correct node tells of one at most, and so does a line of a schedule
+abbrev pub most_seen : ℕ
+most_seen = MOST_CORRECT * MOST_RECORDS + MOST_LINES
+
+-- a simulation is at some point of some run, which saw no more updates than a run may
 pub record IsPlayed {A R : Type 0} (view : A → ActorView) (reads : Reader → R → Type 0) (simulation : Simulation A R) : Type 0 where
   pub setup : Setup
   pub run : Run
+  pub few : length run.seen ≤ most_seen
   pub at : IsSimulationAt view reads setup run simulation
 
--- a simulation is at some point of some run, in the setup of this scenario, and its nodes may be audited
+-- the same in the setup of this scenario, of a run whose nodes may be audited
 pub record IsPlayedOn {A R S G : Type 0} (verifies : Verifies) (key : G → PublicKey) (sign : G → Signs) (scenario : Scenario S G) (view : A → ActorView) (reads : Reader → R → Type 0) (simulation : Simulation A R) : Type 0 where
   pub setup : Setup
   pub run : Run
   pub on : IsScenarioOf verifies key sign setup scenario
   pub sound : IsSound setup run
+  pub few : length run.seen ≤ most_seen
   pub at : IsSimulationAt view reads setup run simulation
 
 -- the nodes of a run may be audited before each of these events, and after them
 abbrev pub StaysSound : Setup → Run → List Event → Type 0
 StaysSound setup run events = (n : ℕ) → IsSound setup (run_after setup run (take n events))
 
--- a simulation is at some point of some run, in the setup of this scenario, from which these events may be played
+-- a simulation is at some point of some run, in the setup of this scenario, from which these events may be played: with the updates that
+-- were seen they are no more than the lines of a schedule
 pub record MayPlay {A R S G : Type 0} (verifies : Verifies) (key : G → PublicKey) (sign : G → Signs) (scenario : Scenario S G) (events : List Event) (view : A → ActorView) (reads : Reader → R → Type 0) (simulation : Simulation A R) : Type 0 where
   pub setup : Setup
   pub run : Run
   pub on : IsScenarioOf verifies key sign setup scenario
   pub sound : StaysSound setup run events
+  pub few : length run.seen + length events ≤ MOST_LINES
   pub at : IsSimulationAt view reads setup run simulation

@@ -1,11 +1,18 @@
 //! A node that takes part in an event.
 
-use crate::participant::Participant;
+use depot_traces::Reads;
 
-/// A node with its reads, away from its place among the others, and how many updates it had accepted when it left.
-#[derive(Drop)]
-pub struct ActingNode<A> {
+/// Where a node comes back to: its place among the others, from 0, and how many updates it had accepted when it left.
+#[derive(Clone, Copy)]
+pub struct Seat {
     pub place: usize,
     pub count: u32,
-    pub participant: Participant<A>,
+}
+
+/// A node with its reads, away from its place among the others.
+#[derive(Drop)]
+pub struct ActingNode<A> {
+    pub seat: Seat,
+    pub actor: A,
+    pub reads: Reads,
 }

@@ -41,18 +41,17 @@ impl<A: Actor> Simulation<A> {
         ensures asked { self.new.seen.asked ≡ self.old.seen.asked }
     {
         let ActingNode {
-            place,
-            count,
-            participant,
+            seat,
+            actor,
+            mut reads,
         } = acting;
-        let Participant { actor, mut reads } = participant;
         note_read(&actor, event, &mut reads)?;
         let EventOutcome {
             actor,
             lines,
             bytes,
         } = self.acted(actor, event)?;
-        self.come_back(place, count, Participant { actor, reads })?;
+        self.come_back(seat, Participant { actor, reads })?;
         self.labels.keep(event, bytes)?;
         Ok(lines)
     }

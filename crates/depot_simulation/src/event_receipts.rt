@@ -45,14 +45,9 @@ impl<A: Actor> Simulation<A> {
         ensures lines { IfOk result (λ lines. (node : ℕ) → Completes A.view A.Reader.reads node self.old acting (λ setup run. receipts_by setup run node ids.now) lines self.new) }
         ensures asked { self.new.seen.asked ≡ self.old.seen.asked }
     {
-        let ActingNode {
-            place,
-            count,
-            participant,
-        } = acting;
-        let Participant { actor, reads } = participant;
+        let ActingNode { seat, actor, reads } = acting;
         let EventOutcome { actor, lines, .. } = actor.receipt(ids)?;
-        self.come_back(place, count, Participant { actor, reads })?;
+        self.come_back(seat, Participant { actor, reads })?;
         Ok(lines)
     }
 
@@ -82,14 +77,9 @@ impl<A: Actor> Simulation<A> {
         ensures lines { IfOk result (λ lines. (node : ℕ) → Completes A.view A.Reader.reads node self.old acting (λ setup run. settling_by run node id.now k) lines self.new) }
         ensures asked { self.new.seen.asked ≡ self.old.seen.asked }
     {
-        let ActingNode {
-            place,
-            count,
-            participant,
-        } = acting;
-        let Participant { actor, reads } = participant;
+        let ActingNode { seat, actor, reads } = acting;
         let EventOutcome { actor, lines, .. } = actor.settled(id, k)?;
-        self.come_back(place, count, Participant { actor, reads })?;
+        self.come_back(seat, Participant { actor, reads })?;
         Ok(lines)
     }
 }

@@ -37,14 +37,9 @@ impl<A: Actor> Simulation<A> {
         ensures lines { IfOk result (λ lines. (node : ℕ) → Completes A.view A.Reader.reads node self.old acting (λ setup run. pending_at run node call image) lines self.new) }
         ensures asked { self.new.seen.asked ≡ self.old.seen.asked }
     {
-        let ActingNode {
-            place,
-            count,
-            participant,
-        } = acting;
-        let Participant { actor, reads } = participant;
+        let ActingNode { seat, actor, reads } = acting;
         let actor = actor.stop_at(call, image)?;
-        self.come_back(place, count, Participant { actor, reads })?;
+        self.come_back(seat, Participant { actor, reads })?;
         Ok(Bytes::from_slice(self.alloc, b" armed\n")?)
     }
 }

@@ -1,11 +1,11 @@
 //! How a node leaves its place for an event, and comes back.
-ghost use Rattle.std.specs.Prelude.{◌≡◌, ◌≤◌, insert, take, vec_len, None, MatchOption, OnOk};
+ghost use Rattle.std.specs.Prelude.{◌≡◌, ◌≤◌, ◌+◌, insert, length, take, vec_len, None, MatchOption, OnOk};
 ghost use Rattle.depot_model.specs.Journal.{accepted};
 ghost use Rattle.depot_world.specs.Run.{seen_with};
 ghost use Rattle.depot_simulation.specs.Doing.{HasLeft, place_of_node};
 ghost use Rattle.depot_simulation.specs.Playing.{WereSeen};
 
-use crate::acting::ActingNode;
+use crate::acting::{ActingNode, Seat};
 use crate::actor::Actor;
 use crate::participant::Participant;
 use crate::simulation::Simulation;
@@ -17,37 +17,32 @@ impl<A: Actor> Simulation<A> {
         ensures { MatchOption result ((self.new ≡ self.old) × (place_of_node A.view node self.old.participants.items ≡ None)) (λ acting. HasLeft A A.view node self.old self.new acting) }
     {
         let place = self.place_of(node)?;
-        let participant = self.participants.remove(place);
-        Some(ActingNode {
-            place,
-            count: participant.actor.update_count(),
-            participant,
-        })
+        let Participant { actor, reads } = self.participants.remove(place);
+        let count = actor.update_count();
+        let seat = Seat { place, count };
+        Some(ActingNode { seat, actor, reads })
     }
 
-    /// Puts a node back at its place, with its reads. The updates that it accepted are seen; the first `count` of them were.
-    pub fn come_back(
-        &mut self,
-        place: usize,
-        count: u32,
-        participant: Participant<A>,
-    ) -> Result<(), Memory>
-        requires place { place ≤ vec_len self.old.participants }
-        requires seen { WereSeen self.old.seen.listed.updates (take count (accepted (A.view participant.actor).journal)) }
-        ensures participants { OnOk result (self.new.participants.items ≡ insert self.old.participants.items place participant) }
+    /// Puts a node back at its place, with its reads. The updates that it accepted are seen; those that it had accepted when it left were.
+    pub fn come_back(&mut self, seat: Seat, participant: Participant<A>) -> Result<(), Memory>
+        requires place { seat.place ≤ vec_len self.old.participants }
+        requires seen { WereSeen self.old.seen.listed.updates (take seat.count (accepted (A.view participant.actor).journal)) }
+        requires room { length self.old.seen.listed.updates + length (accepted (A.view participant.actor).journal) ≤ 4294967295 }
+        ensures participants { OnOk result (self.new.participants.items ≡ insert self.old.participants.items seat.place participant) }
         ensures labels { self.new.labels ≡ self.old.labels }
         ensures readers { self.new.readers ≡ self.old.readers }
         ensures seen { OnOk result (self.new.seen.listed.updates ≡ seen_with self.old.seen.listed.updates (accepted (A.view participant.actor).journal)) }
         ensures asked { self.new.seen.asked ≡ self.old.seen.asked }
     {
-        self.see(&participant.actor, count)?;
-        self.participants.insert(place, participant)?;
+        self.see(&participant.actor, seat.count)?;
+        self.participants.insert(seat.place, participant)?;
         Ok(())
     }
 
     /// The updates that a node accepted are seen; the first `count` of them were.
     fn see(&mut self, actor: &A, count: u32) -> Result<(), Memory>
-        requires { WereSeen self.old.seen.listed.updates (take count (accepted (A.view actor.now).journal)) }
+        requires seen { WereSeen self.old.seen.listed.updates (take count (accepted (A.view actor.now).journal)) }
+        requires room { length self.old.seen.listed.updates + length (accepted (A.view actor.now).journal) ≤ 4294967295 }
         ensures participants { self.new.participants ≡ self.old.participants }
         ensures labels { self.new.labels ≡ self.old.labels }
         ensures readers { self.new.readers ≡ self.old.readers }

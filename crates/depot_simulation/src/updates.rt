@@ -1,5 +1,5 @@
 //! Updates that faulty nodes sign.
-ghost use Rattle.std.specs.Prelude.{◌≡◌, ◌<◌, ◌^◌, ◌∷◌, [], true, IfOk, IfSome, OnOk};
+ghost use Rattle.std.specs.Prelude.{◌≡◌, ◌<◌, ◌^◌, ◌∷◌, [], length, true, IfOk, IfSome, OnOk};
 ghost use Rattle.depot_model.specs.Journal.{update_in};
 ghost use Rattle.depot_model.specs.Own.{values_of};
 ghost use Rattle.depot_model.specs.Texts.{IsSigned, IsUpdate};
@@ -127,6 +127,7 @@ impl<A: Actor> Simulation<A> {
     ) -> Result<Text, Memory>
         requires text { IfSome made (λ u. IsUpdate u) }
         requires parents { IfSome made (λ u. HasSeenParents self.old.seen.listed.updates u) }
+        requires room { length self.old.seen.listed.updates < 4294967295 }
         requires numbered { IfSome made (λ u. IsNumbered writer seq u) }
         requires leaf { HasLeaf scenario.now.height scenario.now.members.now writer seq }
         requires scenario { IsSomeScenario S.verifies G.key_of G.signature_of scenario.now }
@@ -151,6 +152,7 @@ impl<A: Actor> Simulation<A> {
     ) -> Result<Text, Memory>
         requires text { IsUpdate update }
         requires parents { HasSeenParents self.old.seen.listed.updates update }
+        requires room { length self.old.seen.listed.updates < 4294967295 }
         requires declared { is_declared scenario.now.members.now update.writer ≡ true }
         requires leaf { update.seq < 2 ^ scenario.now.height }
         requires scenario { IsSomeScenario S.verifies G.key_of G.signature_of scenario.now }

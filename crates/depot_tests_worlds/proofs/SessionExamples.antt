@@ -1,5 +1,5 @@
 -- Worked scripts: what a node answers and keeps, each way in which a script ends, and runs that are cut short.
-use Rattle.std.proofs.Common.{◌≡◌, ◌<◌, ℕ, List, [], ◌∷◌, ◌++◌, length, map, replicate, take, true, codes, Some, None, if◌then◌else◌, refl, sym, ap, subst, inl, inr, arith}
+use Rattle.std.proofs.Common.{◌≡◌, ◌<◌, ℕ, List, [], ◌∷◌, ◌++◌, length, map, replicate, take, true, codes, Option, Some, None, if◌then◌else◌, refl, sym, ap, subst, inl, inr, arith}
 use Rattle.std.specs.Str.{bytes_eq}
 use Rattle.depot_base.specs.Closed.{rest_of}
 use Rattle.depot_base.specs.Cursor.{numeral}
@@ -15,7 +15,7 @@ use Rattle.depot_model.specs.Hello.{hello_leaf, hello, convicted_nodes, lacking,
 use Rattle.depot_model.specs.History.{leaves_of, put_by_id, by_id, history_text, history_hash}
 use Rattle.depot_model.specs.Journal.{first_values, has_id, named, prev_of, is_convicted, is_vouched, holds_hash, holds, seen_under, is_wanted}
 use Rattle.depot_model.specs.Judgement.{points}
-use Rattle.depot_model.specs.Limits.{spent_by, tips_of, collides_by, limit_of_own, limit_of_put}
+use Rattle.depot_model.specs.Limits.{Limit, spent, spent_by, tips_of, collides_by, limit_of_own, limit_of_put}
 use Rattle.depot_model.specs.Order.{past}
 use Rattle.depot_model.specs.Own.{precedes_named, next_entries, next_own, leaf_count}
 use Rattle.depot_model.specs.Plain.{plain_root, plain_signature, plain_verifies}
@@ -55,8 +55,9 @@ use Rattle.depot_script.specs.declared.command.Command.{Command}
 use Rattle.depot_script.specs.declared.command.Command.TheVariants as command
 use Rattle.depot_session.specs.declared.ending.ScriptEnding.{ScriptEnding}
 use Rattle.depot_session.specs.declared.ending.ScriptEnding.TheVariants as ending
-use Rattle.depot_session.specs.SessionRuns.{GoesShort, IsCutBy, IsLast, IsToBeWritten, LeavesFront, pending_for, pending_in, world_at}
+use Rattle.depot_session.specs.SessionRuns.{GoesShort, GrowsTo, IsCutBy, IsLast, IsToBeWritten, LeavesFront, pending_for, pending_in, world_at}
 use Rattle.depot_session.specs.Sessions.{Answers, Files, Session, answers_of, ending_of_take, export_by, session_from, step_of}
+use Rattle.depot_session.specs.Unhindered.{AreUnhindered}
 
 -- ---- a script
 
@@ -321,6 +322,7 @@ cut_before image faults w ends last cut is told = record {
   brings = put_goes.brings;
   leaves = λ i left. inl left;
   reads = inl refl;
+  grows = record { grown = its_records; is = put_goes.brings; moments = λ i left. inl left };
   files = λ name. inl refl;
 }
 
@@ -349,8 +351,22 @@ cut_by_sink before after has = record {
   brings = put_goes.brings;
   leaves = λ i is. inr (record { count = 1; has = subst (λ (f : List ℕ). HasRecords (newborn 2 ++ its_records) f) (sym is) has });
   reads = inr (record { count = 1; has = has });
+  grows = record { grown = its_records; is = put_goes.brings; moments = λ i is. inr (record { count = 1; has = subst (λ (f : List ℕ). HasRecords (newborn 2 ++ its_records) f) (sym is) has }) };
   files = λ name. inl refl;
 }
+
+-- a stop in the run may have left a front of what the put brings, and no file that lost the records from before
+put_begun : (image : List ℕ) → HasRecords (newborn 2) image → GrowsTo (newborn 2) (newborn 2 ++ its_records) (disk image image 0)
+put_begun image has = record { grown = its_records; is = refl; moments = λ i is. inr (record { count = 0; has = subst (λ (f : List ℕ). HasRecords (newborn 2 ++ []) f) (sym is) has }) }
+
+never_lost : (after : List Record) (d : Disks) → d.left_in_run [] → (d.may_leave [] → ⊥) → GrowsTo (newborn 2) after d → ⊥
+never_lost after d left kept grows = elim (grows.moments [] left) [
+  | inl before ↦ kept before
+  | inr front ↦ no_birth (take front.count grows.grown) front.has
+] where
+  no_birth : (more : List Record) → HasRecords (newborn 2 ++ more) [] → ⊥
+  no_birth more (inl short) = let none : map text_of_record (newborn 2 ++ more) ≡ [] = short.1 in cc
+  no_birth more (inr ((gate, rest, closed, is), within)) = cc
 
 -- no byte of its line is told where a stop can lose the put
 not_told : IsToBeWritten (pending_for one_put (step_of (node 2) no_signature second one_put) (λ i. i ≡ []) ⊥ (shelf 0)) its_line → ⊥
@@ -360,3 +376,18 @@ not_told (inl (stands, is)) = nothing_there (subst (λ (J : List Record). HasRec
   nothing_there (inr ((gate, rest, closed, is), within)) = cc
 not_told (inr (inl (failed, is))) = failed
 not_told (inr (inr (failed, is))) = omega (arith, failed)
+
+-- ---- scripts that come to their end
+
+-- nothing stands in the way of a put that meets no limit, and of a read
+unhindered : AreUnhindered (node 2) no_signature second (one_put ∷ command.Get k ∷ [])
+unfolding answers_of step_of put_command get_command hello_command bundle_command take_command rest_of numeral number bytes_of inner list_of dep roster_entry signed_with is_covered candidates records_where values_behind candidate_parcels parcels fitting sent_for sent_foreign unvouched bundle_frames bundle_of bundle_answer sight content_checks opponent forked refused_as_convicted statement_checks proof_checks first_failed_check is_known answer_to due named_opponent added growth is_of_kind contradicts kind_of proof_of given_by take_frame fed_frame fed_byte fed ending_of report_of frame_at hello_leaf hello convicted_nodes lacking record_place hello_of leaves_of put_by_id by_id history_text history_hash first_values has_id named prev_of is_convicted is_vouched holds_hash holds is_wanted points spent_by tips_of collides_by limit_of_own limit_of_put past precedes_named next_entries next_own leaf_count plain_root plain_signature plain_verifies birth own_put tagged record_text foreign_leaves full_with key_of is_signed given_as answer_to_text growth_of_text update_fields voucher_fields update_body voucher_body statement signed proof roster id_of_update id_of_statement hash_of_roster put_rising rising groups_behind groups_of new_vouchers limit_of_new limit_of_vouchers named_by text_of_check text_of_limit text_of_report put_by get_by hello_by bundle_by give_by restart_by insert_by order_by latest_in sha256 first_words schedule rounds compress hash_after digest_bytes encode_with decode_pairs digits seen_under write marked is_update_text is_hollow all_verify
+unhindered = (refl, (tt, tt))
+
+-- a stream that isn't there stands in the way of taking it, and a limit in that of a put
+not_without_stream : AreUnhindered (node 2) no_signature second (command.Take (codes "none") ∷ []) → ⊥
+not_without_stream are = let none : ◌≡◌ {A = Option (List ℕ)} None (Some are.0.bytes) = are.0.there in cc
+
+not_at_a_limit : AreUnhindered low (sign 1) (session_from low used [] files) (one_put ∷ []) → ⊥
+unfolding answers_of step_of put_command get_command hello_command bundle_command take_command rest_of numeral number bytes_of inner list_of dep roster_entry signed_with is_covered candidates records_where values_behind candidate_parcels parcels fitting sent_for sent_foreign unvouched bundle_frames bundle_of bundle_answer sight content_checks opponent forked refused_as_convicted statement_checks proof_checks first_failed_check is_known answer_to due named_opponent added growth is_of_kind contradicts kind_of proof_of given_by take_frame fed_frame fed_byte fed ending_of report_of frame_at hello_leaf hello convicted_nodes lacking record_place hello_of leaves_of put_by_id by_id history_text history_hash first_values has_id named prev_of is_convicted is_vouched holds_hash holds is_wanted points spent_by tips_of collides_by limit_of_own limit_of_put past precedes_named next_entries next_own leaf_count plain_root plain_signature plain_verifies birth own_put tagged record_text foreign_leaves full_with key_of is_signed given_as answer_to_text growth_of_text update_fields voucher_fields update_body voucher_body statement signed proof roster id_of_update id_of_statement hash_of_roster put_rising rising groups_behind groups_of new_vouchers limit_of_new limit_of_vouchers named_by text_of_check text_of_limit text_of_report put_by get_by hello_by bundle_by give_by restart_by insert_by order_by latest_in sha256 first_words schedule rounds compress hash_after digest_bytes encode_with decode_pairs digits seen_under write marked is_update_text is_hollow all_verify
+not_at_a_limit are = let none : ◌≡◌ {A = Option Limit} (Some (spent 4)) None = are.0 in cc

@@ -1,5 +1,5 @@
 -- Worked runs of scripts over a shelf: which file one that is cut short names, and what the shelf was asked for.
-use Rattle.std.proofs.Common.{◌≡◌, List, [], ◌∷◌, ◌++◌, ℕ, true, codes, Option, Some, None, refl, sym, inl, inr, arith}
+use Rattle.std.proofs.Common.{◌≡◌, List, [], ◌∷◌, ◌++◌, ℕ, true, codes, Option, Some, None, refl, sym, ◌∙◌, inl, inr, arith}
 use Rattle.depot_model.specs.Bundle.{Signs}
 use Rattle.depot_model.specs.Checks.{Setting}
 use Rattle.depot_model.specs.Readers.{Reader}
@@ -7,8 +7,8 @@ use Rattle.depot_outside.specs.Told.{Shelves}
 use Rattle.depot_script.specs.declared.command.Command.{Command}
 use Rattle.depot_script.specs.declared.command.Command.TheVariants as command
 use Rattle.depot_session.specs.ScriptTelling.{Asked}
-use Rattle.depot_session.specs.SessionRuns.{AsksFirst, AsksShort, AsksWhole, FailsFor}
-use Rattle.depot_session.specs.Sessions.{Session, answers_of, loads_through, step_of, stores_through, take_from}
+use Rattle.depot_session.specs.SessionRuns.{AsksFirst, AsksShort, AsksWhole, FailsFor, IsHandedOut}
+use Rattle.depot_session.specs.Sessions.{Session, Step, answers_of, loads_through, step_of, stores_through, take_from}
 
 abbrev hello : List ℕ
 hello = codes "hello"
@@ -45,6 +45,32 @@ not_where_calm fails = let rose = fails.1.rose in omega (arith, rose)
 
 not_of_two : FailsFor makes_bundle (failed 2 (hello ∷ made ∷ [])) made → ⊥
 not_of_two fails = let is = fails.1.only in cc
+
+-- ---- what is handed out
+
+-- a shelf that failed so often, and on these names, and has these bytes as what was made
+abbrev holding : ℕ → List (List ℕ) → List ℕ → Shelves
+holding faults names bytes = record (failed faults names) { file_after = λ name. Some bytes }
+
+-- what the bundle's step makes
+abbrev Makes : Step → List ℕ → Type 0
+Makes step bytes = (step.ending ≡ None) × (step.session.files made ≡ Some bytes)
+
+module _ (step : Step) (made_this : Makes step (7 ∷ [])) where
+  -- under the name of the bundle that is handed out stand its bytes
+  its_bytes : IsHandedOut (λ image. ⊥) (holding 0 [] (7 ∷ [])) makes_bundle step made
+  its_bytes = record { stores = refl; goes_on = made_this.0; bytes = inr (sym made_this.1); journal = λ image never. absurd never }
+
+  -- and no others
+  not_other_bytes : IsHandedOut (λ image. ⊥) (holding 0 [] (9 ∷ [])) makes_bundle step made → ⊥
+  not_other_bytes handed = elim handed.bytes [
+    | inl fails ↦ (let rose = fails.rose in absurd (omega (arith, rose)))
+    | inr same ↦ (let is : ◌≡◌ {A = Option (List ℕ)} (Some (9 ∷ [])) (Some (7 ∷ [])) = same ∙ made_this.1 in cc)
+  ]
+
+  -- but where the shelf failed on it
+  any_where_it_failed : IsHandedOut (λ image. ⊥) (holding 1 (made ∷ []) (9 ∷ [])) makes_bundle step made
+  any_where_it_failed = record { stores = refl; goes_on = made_this.0; bytes = inl (record { rose = omega arith; only = refl }); journal = λ image never. absurd never }
 
 -- ---- what was asked
 

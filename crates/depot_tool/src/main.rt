@@ -1,15 +1,29 @@
 //! The program `depot`.
 //!
-//! It collects its words, makes the real shelf, disk and sink, calls `depot` and ends with its status. All that it does
-//! is said by the contract of `depot` in `depot_cli`; what the real adapters do is trusted (`depot_outside`).
+//! It takes the numbers of standard streams that were closed, collects its words, makes the real shelf, disk and sink, calls
+//! `depot` and ends with its status. All that it does is said by the contract of `depot` in `depot_cli`; what the real adapters
+//! do is trusted (`depot_outside`).
 #![tactic(auto)]
 
 use depot_base::Memory;
 use depot_cli::{Status, Word, depot};
 use depot_outside::{RealDisk, RealShelf, RealSink};
 use std::env;
-use std::io::ErrorKind;
+use std::fs::{File, OpenOptions};
+use std::io::{self, ErrorKind};
 use std::process::ExitCode;
+
+/// A folder that is held, and never read or written.
+fn held_folder(rt: &HostRuntime) -> io::Result<File> {
+    OpenOptions::new().read(true).open(rt, "/")
+}
+
+/// As many files as there are standard streams. A process may be started with these closed, and then the first file that it
+/// opens gets the number of one: were that the journal, what is printed would be written into it. While these are held, what
+/// is printed to a closed output fails.
+fn stream_numbers(rt: &HostRuntime) -> io::Result<[File; 3]> {
+    Ok([held_folder(rt)?, held_folder(rt)?, held_folder(rt)?])
+}
 
 /// The words behind the program's name. Where one isn't UTF-8 they are no command, so none is given.
 fn words_of(rt: &HostRuntime) -> Result<Vec<Word>, Memory> {
@@ -35,10 +49,18 @@ fn run(rt: &HostRuntime) -> Result<Status, Memory> {
     Ok(depot(rt.alloc(), &words, &mut shelf, &mut disk, &mut out))
 }
 
-fn main(rt: HostRuntime) -> ExitCode {
-    let status = match run(&rt) {
+/// The status of a run, with which the program ends.
+fn status_of(rt: &HostRuntime) -> Status {
+    match run(rt) {
         Ok(status) => status,
         Err(Memory) => Status::Memory,
+    }
+}
+
+fn main(rt: HostRuntime) -> ExitCode {
+    let status = match stream_numbers(&rt) {
+        Ok(_held) => status_of(&rt),
+        Err(_) => Status::Sink,
     };
     ExitCode::from(status.number())
 }

@@ -6,6 +6,6 @@ use Rattle.depot_apart.proofs.named_nodes.is_against_one.Goals as goal
 pub returns-in_default : goal.returns-in_default
 returns-in_default c = λ r told. absurd (some_text r c.args.text.now told.is c.in_default.len_below)
 
-pub returns-then-tag-ne-CONVICTION : goal.returns-then-tag-ne-CONVICTION
-returns-then-tag-ne-CONVICTION c = λ r told.
-    sym (convicts_nobody (nodes_in (map (λ t. t.now) c.args.traces.now)) r (λ is. c.if-tag-ne-CONVICTION.true (tag_is r c.args.text.now told.is ∙ is)))
+pub returns-then-tag-byte : goal.returns-then-tag-byte
+returns-then-tag-byte c = λ r told.
+    sym (convicts_nobody (nodes_in (map (λ t. t.now) c.args.traces.now)) r (λ is. c.if-tag-byte.true (tag_is r c.args.text.now told.is ∙ is ∙ sym c.byte.ensures)))

@@ -1,7 +1,7 @@
 use Rattle.std.proofs.Common.{List, ℕ, [], ◌++◌, not, sym, ap, subst, ◌∙◌}
 use Rattle.std.specs.List.{AllByRecursion, flat_map}
 use Rattle.depot_model.specs.Bundle.{Parcel, candidate_places, candidate_parcels, wanted_parcel, hashes_of, sent_for}
-use Rattle.depot_gossip.specs.Choosing.{Carries, TellsAt, records_at}
+use Rattle.depot_gossip.specs.Choosing.{Carries, HasUpdateAt, records_at}
 use Rattle.depot_gossip.proofs.FitLaws.{is_chosen, with_more}
 use Rattle.depot_gossip.proofs.ChoiceLaws.{candidates_at, parcels_are}
 use Rattle.depot_gossip.proofs.choose.chosen.Goals as goal
@@ -10,7 +10,7 @@ pub add_all-requires-clause-tell : goal.add_all-requires-clause-tell
 add_all-requires-clause-tell g c =
     let J = g.R.NodeState.records c.args.node.now in
     let same = c.as_slice.ensures ∙ c.in_ok-places.ensures in
-    subst (λ (places : List ℕ). AllByRecursion (TellsAt J) places) (sym same) (candidates_at J c.in_ok-ids.ids c.args.hello.now.node).tell
+    subst (λ (places : List ℕ). AllByRecursion (HasUpdateAt J) places) (sym same) (candidates_at J c.in_ok-ids.ids c.args.hello.now.node).tell
 
 pub add_all-requires-clause-none : goal.add_all-requires-clause-none
 add_all-requires-clause-none g c = c.new-sending.ensures (g.R.NodeState.stands c.args.node.now).me

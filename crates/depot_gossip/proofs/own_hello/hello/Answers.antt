@@ -5,4 +5,4 @@ use Rattle.depot_model.specs.Hello.{text_of_hello}
 use Rattle.depot_gossip.proofs.own_hello.hello.Goals as goal
 
 pub returns : goal.returns
-returns g c = subst (λ (h : Hello). IfOk c.encode_hello.result (λ text. text ≡ text_of_hello h)) c.in_ok-told.ensures.told c.encode_hello.ensures
+returns g c = subst (λ (h : Hello). IfOk c.encode_hello.result (λ text. text ≡ text_of_hello h)) c.in_ok-hello.ensures.told c.encode_hello.ensures

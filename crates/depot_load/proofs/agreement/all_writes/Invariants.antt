@@ -3,5 +3,5 @@ use Rattle.std.specs.List.{filter_map}
 use Rattle.depot_load.specs.Summaries.{writes_under}
 use Rattle.depot_load.proofs.agreement.all_writes.Given as goal
 
-abbrev pub invariant-loop-told : goal.invariant-loop-told
-invariant-loop-told l = map (λ writes. writes.now) l.list.items ≡ filter_map (writes_under l.key) (take l.told-index l.told_lines)
+abbrev pub invariant-loop-line : goal.invariant-loop-line
+invariant-loop-line l = map (λ writes. writes.now) l.list.items ≡ filter_map (writes_under l.key) (take l.line-index l.lines)

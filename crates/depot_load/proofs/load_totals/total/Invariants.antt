@@ -3,8 +3,8 @@ use Rattle.std.specs.List.{sum_by}
 use Rattle.depot_load.specs.Summaries.{counted_in}
 use Rattle.depot_load.proofs.load_totals.total.Given as goal
 
-abbrev pub invariant-loop-told : goal.invariant-loop-told
-invariant-loop-told l = record {
-  so_far : l.total ≡ sum_by (counted_in l.which) (take l.told-index l.told_lines);
-  room : l.total ≤ l.told-index * 18446744073709551615;
+abbrev pub invariant-loop-line : goal.invariant-loop-line
+invariant-loop-line l = record {
+  so_far : l.total ≡ sum_by (counted_in l.which) (take l.line-index l.lines);
+  room : l.total ≤ l.line-index * 18446744073709551615;
 }

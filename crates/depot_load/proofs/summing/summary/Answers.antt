@@ -6,4 +6,4 @@ use Rattle.depot_load.proofs.summing.summary.Goals as goal
 
 pub returns : goal.returns
 unfolding summary_of
-returns c = subst (λ (told_lines : List TranscriptLine). IfOk c.summary_line.result (λ line. line ≡ summary_line c.args.number told_lines)) (c.as_slice.ensures.value ∙ c.in_ok-told_lines.ensures) c.summary_line.ensures
+returns c = subst (λ (lines : List TranscriptLine). IfOk c.summary_line.result (λ line. line ≡ summary_line c.args.number lines)) (c.as_slice.ensures.value ∙ c.in_ok-lines.ensures) c.summary_line.ensures

@@ -1,5 +1,6 @@
 use Rattle.std.proofs.Common.{rules, sym, ◌∙◌}
-use Rattle.depot_node_lines.proofs.FedReaders.{end_of_frames, ends_within, is_end, is_no_end, no_frame_stands, taken_all, taken_most, taking_from_start, taking_full, taking_on}
+use Rattle.std.proofs.lemmas.Result.{err_from_is_err_and}
+use Rattle.depot_node_lines.proofs.FedReaders.{end_of_frames, ends_within, is_end, is_no_end, no_frame_stands, taken_all, taken_most, taking_from_start, taking_full, taking_on, taking_short}
 use Rattle.depot_node_lines.proofs.readers.feed_reader.Goals as goal
 
 pub loop-init : goal.loop-init
@@ -29,3 +30,9 @@ loop-preserved g c =
     let within = ends_within c.loop.at c.in-Frame.end c.in-Frame.tag c.args.stream.now c.loop.invariant.within c.in-Frame.ensures in
     taking_on g.S.Scheme.verifies c.args.reader.now c.args.stream.now c.payload_at.result.now c.loop.at c.loop.counter c.in-Frame.end c.in-Frame.tag c.loop.told c.count.new.self c.loop.reader c.take_frame-answer.new.reader c.take_frame-answer.result
     c.loop.invariant c.loop-test.true c.in-Frame.ensures within (is_no_end c.in-Frame.tag (search rules)) c.payload_at.ensures c.take_frame-answer.ensures told.counted.0 (sym told.counted.1 ∙ c.if-not-branch.false)
+
+pub returns-in_err-count : goal.returns-in_err-count
+returns-in_err-count g c = λ R is.
+    let p = err_from_is_err_and c.from_residual.result c.from_residual.ensures.1 in
+    rw p.1 (taking_short g.S.Scheme.verifies c.args.reader.now c.args.stream.now c.payload_at.result.now c.loop.at c.loop.counter c.in-Frame.end c.in-Frame.tag c.loop.told c.loop.reader c.take_frame-answer.new.reader c.take_frame-answer.result
+    c.loop.invariant c.loop-test.true c.in-Frame.ensures (is_no_end c.in-Frame.tag (search rules)) c.take_frame-answer.ensures c.in_err-count.ensures.short R is)

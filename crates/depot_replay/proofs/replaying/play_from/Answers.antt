@@ -1,8 +1,9 @@
-use Rattle.std.proofs.Common.{◌≡◌, ◌++◌, ℕ, List, true, rules, refl, sym, subst, ◌∙◌}
+use Rattle.std.proofs.Common.{◌≡◌, ◌++◌, ◌+◌, ◌≤◌, ℕ, List, length, true, rules, refl, sym, subst, ◌∙◌, arith}
 use Rattle.std.specs.List.{list_any}
 use Rattle.std.proofs.lemmas.List.{append-nil}
 use Rattle.std.proofs.lemmas.Result.{on_err_weaker, on_ok_weaker}
 use Rattle.depot_base.proofs.Writing.{on_err_from}
+use Rattle.depot_base.specs.declared.limits.TheConstants.{MOST_LINES}
 use Rattle.depot_base.specs.Reading.{AddsFrontOf}
 use Rattle.depot_model.proofs.Members.{any_from}
 use Rattle.depot_model.specs.Lists.{IsIn}
@@ -41,6 +42,11 @@ set_by g c =
 stays_sound : (s : Schedule) → IsSchedule s → StaysSound (setup_of s) (run_of (setup_of s) s.members) s.events
 stays_sound s is = λ n. runs_are_sound s n is
 
+-- no update was seen yet, and the events are fewer than the lines
+few_lines : (s : Schedule) → IsSchedule s → length (run_of (setup_of s) s.members).seen + length s.events ≤ MOST_LINES
+unfolding run_of
+few_lines s is = omega (arith, is.lines)
+
 pub begun-requires : goal.begun-requires
 begun-requires g c = let set = set_by g (goal.at.begun-requires g c).After-as_slice in search (rules, set)
 
@@ -53,6 +59,7 @@ play_all-requires-clause-played g c =
       run = run_of (setup_of s) s.members;
       on = set_by g (goal.at.play_all-requires-clause-played g c).After-as_slice;
       sound = stays_sound s c.requires.schedule;
+      few = few_lines s c.requires.schedule;
       at = c.in_ok-play.ensures.at;
     }
 

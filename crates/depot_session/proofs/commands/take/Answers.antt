@@ -2,9 +2,10 @@ use Rattle.std.proofs.Common.{Some, refl, sym, ap, subst, ◌∙◌, arith}
 use Rattle.depot_outside.specs.Told.{shelves, sinks}
 use Rattle.depot_model.specs.Feeding.{feed_of}
 use Rattle.depot_session.specs.declared.ending.ScriptEnding.TheVariants as ending
-use Rattle.depot_session.proofs.Called.{keeps_running, keeps_to_disk, keeps_without_memory, not_where_some}
-use Rattle.depot_session.proofs.TakeTurns.{ends_fed, of_fed, take_ends_calmly, taken_told, taken_to_disk, taken_without_memory, takes_absent}
-use Rattle.depot_session.proofs.ToldFaults.{EndsCalmly, names_fault, names_memory, names_told, never_rose}
+use Rattle.depot_session.proofs.Called.{keeps_without_memory, not_where_some}
+use Rattle.depot_session.proofs.PrintedAnswers.{keeps_printed}
+use Rattle.depot_session.proofs.TakeTurns.{ends_fed, of_fed, take_ends_calmly, taken_printed, taken_without_memory, takes_absent}
+use Rattle.depot_session.proofs.ToldFaults.{EndsCalmly, names_fault, names_memory, never_rose}
 use Rattle.depot_session.proofs.Uncalled.{keeps_uncalled, uncalled_without_file, uncalled_without_memory}
 use Rattle.depot_session.proofs.commands.take.Goals as goal
 
@@ -36,37 +37,26 @@ returns-in_err-printed-clause-turns g c = λ s tells at.
     (λ name. ap (λ files. files name) c.load.ensures.files) (◌∙◌ {a = g.F.Shelf.file c.args.shelf.now c.args.file.now} (loaded tells) (ap (λ bytes. Some bytes) (sym c.as_slice.ensures))) c.requires.running.runs c.feed_whole-fed.result c.feed_whole-fed.ensures.call
     (sinks g.K.Sink c.args.out.now c.args.out.now) c.from_residual-in_err-printed.result c.from_residual-in_err-printed.ensures.1 refl)
 
-pub returns-in-Some-2-clause-keeps : goal.returns-in-Some-2-clause-keeps
-returns-in-Some-2-clause-keeps g c =
-    let n = c.args.node.now in
-    let fed = c.feed_whole-fed.ensures in
-    let x = feed_of (g.R.NodeState.stands n) (g.R.NodeState.records n) c.as_slice.result.now in
-    let settled = c.in_ok-printed.ensures.settled in
-    let not = not_where_some _ _ _ c.in-Some-2.is c.in_ok-printed.ensures.stopped.1 in
-    let ends = ends_fed c.feed_whole-fed.result x c.ending_of_take-ends.result settled not fed.told c.ending_of_take-ends.ensures.ends in
-    keeps_running g.R.NodeState n c.feed_whole-fed.new.node _ _ fed.call.left.node.same fed.call.left.node.journal.disk fed.call.left.lasts c.tell.result (of_fed c.feed_whole-fed.result _ settled not fed.runs) not
-    (names_told _ _ c.tell.ensures.later _ c.ending_of_take-ends.result c.tell.result (subst EndsCalmly (sym ends) (take_ends_calmly x.closed)) c.tell.ensures.tells c.tell.ensures.only)
-
-pub returns-in-Some-2-clause-turns : goal.returns-in-Some-2-clause-turns
-returns-in-Some-2-clause-turns g c = λ s tells at.
-    let n = c.args.node.now in
-    let m = c.feed_whole-fed.new.node in
-    let x = feed_of (g.R.NodeState.stands n) (g.R.NodeState.records n) c.as_slice.result.now in
-    let loaded = rw c.in-Some.is at c.in_ok-stream.ensures.loaded in
-    let settled = c.in_ok-printed.ensures.settled in
-    let not = not_where_some _ _ _ c.in-Some-2.is c.in_ok-printed.ensures.stopped.1 in
-    let print = rw c.in-Some-2.is at (c.in_ok-printed.ensures.printed s.correct x c.feed_whole-fed.ensures.told) in
-    rw c.requires.command (taken_told g.R.NodeState (g.met.R.Replica.counts_now) n m s c.args.file.now c.as_slice.result.now (shelves g.F.Shelf c.args.shelf.now c.load.new.shelf) at (λ name. ap (λ files. files name) c.load.ensures.files) (◌∙◌ {a = g.F.Shelf.file c.args.shelf.now c.args.file.now} (loaded tells) (ap (λ bytes. Some bytes) (sym c.as_slice.ensures))) c.requires.running.runs c.feed_whole-fed.result c.feed_whole-fed.ensures.call
-    (sinks g.K.Sink c.args.out.now c.tell.new.out) c.ending_of_take-ends.result _ c.tell.result (of_fed c.feed_whole-fed.result _ settled not c.feed_whole-fed.ensures.runs) (of_fed c.feed_whole-fed.result _ settled not c.feed_whole-fed.ensures.grown)
-    (ends_fed c.feed_whole-fed.result x c.ending_of_take-ends.result settled not c.feed_whole-fed.ensures.told c.ending_of_take-ends.ensures.ends) print.0 (rw c.requires.command at c.tell.ensures.tells))
-
 pub returns-clause-keeps : goal.returns-clause-keeps
 returns-clause-keeps g c =
+    let n = c.args.node.now in
     let fed = c.feed_whole-fed.ensures in
-    keeps_to_disk g.R.NodeState c.args.node.now c.feed_whole-fed.new.node _ _ fed.call.left.node.same fed.call.left.node.journal.disk fed.call.left.lasts c.disk_failed.ensures.later _ c.disk_failed.result (c.in_ok-printed.ensures.stopped.0 c.in-None.is) c.disk_failed.ensures.told c.disk_failed.ensures.only
+    let x = feed_of (g.R.NodeState.stands n) (g.R.NodeState.records n) c.as_slice.result.now in
+    let p = c.in_ok-printed.ensures in
+    let t = c.tell_printed.ensures in
+    let ends = c.ending_of_take-ends.result in
+    keeps_printed (sinks g.K.Sink c.args.out.now c.tell_printed.new.out) c.args.command.now ends g.R.NodeState n c.feed_whole-fed.new.node _ fed.call.left.node.same fed.call.left.node.journal.disk fed.call.left.lasts (λ not. of_fed c.feed_whole-fed.result _ p.settled not fed.runs)
+    t.later c.in_ok-printed.printed
+    (λ some is. subst EndsCalmly (sym (ends_fed c.feed_whole-fed.result x ends p.settled (not_where_some c.in_ok-printed.printed some _ is p.stopped.1) fed.told c.ending_of_take-ends.ensures.ends)) (take_ends_calmly x.closed)) p.stopped c.tell_printed.result t.tells t.only
 
 pub returns-clause-turns : goal.returns-clause-turns
 returns-clause-turns g c = λ s tells at.
+    let n = c.args.node.now in
+    let fed = c.feed_whole-fed.ensures in
+    let x = feed_of (g.R.NodeState.stands n) (g.R.NodeState.records n) c.as_slice.result.now in
     let loaded = rw c.in-Some.is at c.in_ok-stream.ensures.loaded in
-    rw c.requires.command (taken_to_disk g.R.NodeState (g.met.R.Replica.counts_now) c.args.node.now c.feed_whole-fed.new.node s c.args.file.now c.as_slice.result.now (shelves g.F.Shelf c.args.shelf.now c.load.new.shelf) at (λ name. ap (λ files. files name) c.load.ensures.files)
-    (◌∙◌ {a = g.F.Shelf.file c.args.shelf.now c.args.file.now} (loaded tells) (ap (λ bytes. Some bytes) (sym c.as_slice.ensures))) c.requires.running.runs c.feed_whole-fed.result c.feed_whole-fed.ensures.call (sinks g.K.Sink c.args.out.now c.disk_failed.new.out) c.disk_failed.result (c.feed_whole-fed.ensures.call.left.node.journal.disk.cause.rose (c.in_ok-printed.ensures.stopped.0 c.in-None.is)) c.disk_failed.ensures.told)
+    let p = c.in_ok-printed.ensures in
+    let ends = c.ending_of_take-ends.result in
+    rw c.requires.command (taken_printed g.R.NodeState (g.met.R.Replica.counts_now) n c.feed_whole-fed.new.node s c.args.file.now c.as_slice.result.now (shelves g.F.Shelf c.args.shelf.now c.load.new.shelf) at (λ name. ap (λ files. files name) c.load.ensures.files)
+    (◌∙◌ {a = g.F.Shelf.file c.args.shelf.now c.args.file.now} (loaded tells) (ap (λ bytes. Some bytes) (sym c.as_slice.ensures))) c.requires.running.runs c.feed_whole-fed.result fed.call (sinks g.K.Sink c.args.out.now c.tell_printed.new.out) ends c.tell_printed.result c.in_ok-printed.printed p.stopped
+    (λ not. (of_fed c.feed_whole-fed.result _ p.settled not fed.runs, (of_fed c.feed_whole-fed.result _ p.settled not fed.grown, ends_fed c.feed_whole-fed.result x ends p.settled not fed.told c.ending_of_take-ends.ensures.ends))) (p.printed s.correct x fed.told) (rw c.requires.command at c.tell_printed.ensures.tells))

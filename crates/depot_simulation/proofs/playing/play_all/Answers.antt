@@ -10,6 +10,7 @@ use Rattle.depot_scenario.specs.LabelUses.{AreUses}
 use Rattle.depot_simulation.specs.Playing.{IsSimulationAt, IsSimulationFor}
 use Rattle.depot_simulation.proofs.ForgottenLabels.{next_alike, played_for, stands_for, uses_left}
 use Rattle.depot_simulation.proofs.PlayedEvents.{AreToCome, IsNext, all_so_far, all_to_come, front_before, front_within, next_is, no_fault, none_so_far, on_at, printed_more, run_more, so_far}
+use Rattle.depot_simulation.proofs.SeenCounts.{few_seen}
 use Rattle.depot_simulation.proofs.playing.play_all.Given.{Over}
 use Rattle.depot_simulation.proofs.playing.play_all.Goals as goal
 use Rattle.depot_simulation.proofs.playing.play_all.Goals.{In-Some}
@@ -52,7 +53,14 @@ play_one-played-requires-clause-played g c =
     let p = c.requires.played in
     let i = length c.args.events - length c.loop-event.to_come.items in
     let s = c.loop-event.invariant.at p.setup p.run p.on p.sound p.at in
-    record { setup = p.setup; run = s.few; on = p.on; sound = alike_sound p.setup c.loop-event.to_come.items (run_after p.setup p.run (take i c.args.events)) s.few s.alike (p.sound i); at = s.at }
+    record {
+      setup = p.setup;
+      run = s.few;
+      on = p.on;
+      sound = alike_sound p.setup c.loop-event.to_come.items (run_after p.setup p.run (take i c.args.events)) s.few s.alike (p.sound i);
+      few = few_seen p.setup p.run s.few c.args.events c.loop-event.to_come.items i p.at.remembered p.few (p.sound i) s.alike;
+      at = s.at;
+    }
 
 pub returns-in_err-uses-clause-front : goal.returns-in_err-uses-clause-front
 unfolding printed

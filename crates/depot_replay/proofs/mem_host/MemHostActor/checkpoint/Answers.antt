@@ -15,7 +15,7 @@ returns-in-Err g c =
     let a = c.args.self in
     let n = a.node in
     let there = same_setting g.S.Scheme.verifies n.store.me a.start_config.me n.store.listed a.start_config.roster a.is_me a.is_listed in
-    if_both _ _ _ c.told.result (λ t same is setup x mem_host.
+    if_both _ _ _ c.event_outcome.result (λ t same is setup x mem_host.
     let print = c.unmade_printed-printed.ensures in
     rw same (unmade_came setup x _ _ (state_of n.store.disk) _ c.in-Err.refused mem_host refl a.kept.to_come (as_it_was _) there (IfOk-at_ok _ is print.settled) c.in-Err.ensures _ (IfOk-at_ok _ is print.printed)))
-    c.told.ensures.actor c.told.ensures.printed
+    c.event_outcome.ensures.actor c.event_outcome.ensures.printed

@@ -51,8 +51,8 @@ returns-in-Err g c =
     let cut = start_stopped here s u n.store.records begun (λ L has. c.in-Err.ensures.failing disk L has) in
     rw again.none (restart_stopped setup x _ _ s u cut t.lines mem_host waits (record { here = again.here_is; sign = again.sign_is; journal = again.journal n.store.records (stopped_begun here s u n.store.records begun cut); pending_is = again.none_waits }) again.line)) c.refused.ensures.stopped c.refused.ensures.again
 
-pub invariant_of-told : goal.invariant_of-told
-invariant_of-told g c =
+pub invariant_of-event_outcome : goal.invariant_of-event_outcome
+invariant_of-event_outcome g c =
     let a = c.args.self in
     let n = a.node in
     let m = c.in-Ok.node in
@@ -77,8 +77,8 @@ returns-in-Ok g c =
     let begun = subst (λ (d : MemDisk). IsBegunOn here (state_of d) n.store.records) (sym c.into_disk.ensures) (begun_there g.S.Scheme.verifies n.store.me a.start_config.me n.store.listed a.start_config.roster (state_of n.store.disk) n.store.records a.is_me a.is_listed n.kept.lawful n.kept.some a.kept) in
     let x = started_on here s (state_of m.store.disk) n.store.records m.store.records begun c.in-Ok.ensures.started.from c.in-Ok.ensures.started.calls in
     let waits = sym (ap (λ (d : MemDisk). pending_of (state_of d).next) c.into_disk.ensures) in
-    if_both _ _ _ c.told.result (λ t same is setup y mem_host.
+    if_both _ _ _ c.event_outcome.result (λ t same is setup y mem_host.
     let counted = IfOk-at_ok _ is c.counted_printed-printed.ensures.lines ∙ ap (λ (k : ℕ). ended (spaced (text_of_number (codes "records") k))) (c.record_count.ensures ∙ ap (λ (J : List Record). length J) x.same) in
     let none : t.bytes ≡ [] = IfOk-at_ok _ is c.counted_printed-printed.ensures.bytes in
     rw same (rw none (restart_came setup y _ _ s (state_of m.store.disk) (calls_to_start c.into_disk.result.file.bytes.items) t.lines mem_host waits begun.kept.to_come x.led (three_calls c.into_disk.result.file.bytes.items x.long)
-    (record { here = refl; sign = refl; journal = x.same; pending_is = refl }) counted))) c.told.ensures.actor c.told.ensures.printed
+    (record { here = refl; sign = refl; journal = x.same; pending_is = refl }) counted))) c.event_outcome.ensures.actor c.event_outcome.ensures.printed

@@ -13,8 +13,8 @@ use Rattle.depot_replay.proofs.DiskStops.{none_waits_after}
 use Rattle.depot_replay.proofs.MemHostStarts.{again_wants, started_on}
 use Rattle.depot_replay.proofs.mem_host.StartConfig.stopped.Goals as goal
 
-pub invariant_of-told : goal.invariant_of-told
-invariant_of-told g c =
+pub invariant_of-event_outcome : goal.invariant_of-event_outcome
+invariant_of-event_outcome g c =
     let x = started_on _ (state_of c.args.disk) (state_of c.in-Ok.node.store.disk) c.requires.journal c.in-Ok.node.store.records c.requires.begun c.in-Ok.ensures.started.from c.in-Ok.ensures.started.calls in
     record {
       runs = c.in-Ok.ensures.node.runs;
@@ -29,14 +29,14 @@ returns-in-Ok g c =
     let s = state_of c.args.disk in
     let u = state_of c.in-Ok.node.store.disk in
     let x = started_on _ s u c.requires.journal c.in-Ok.node.store.records c.requires.begun c.in-Ok.ensures.started.from c.in-Ok.ensures.started.calls in
-    if_both _ _ _ c.told.result (λ t same is. rw same (record {
+    if_both _ _ _ c.event_outcome.result (λ t same is. rw same (record {
       here_is = refl;
       sign_is = refl;
       journal = λ J begun. (started_on _ s u J c.in-Ok.node.store.records begun c.in-Ok.ensures.started.from c.in-Ok.ensures.started.calls).same;
       none_waits = none_waits_after s u (calls_to_start c.args.disk.file.bytes.items) x.led c.requires.none_waits;
       line = IfOk-at_ok _ is c.counted_printed-printed.ensures.lines ∙ ap (λ (n : ℕ). ended (spaced (text_of_number (codes "stopped records") n))) c.record_count.ensures;
       none = IfOk-at_ok _ is c.counted_printed-printed.ensures.bytes;
-    })) c.told.ensures.actor c.told.ensures.printed
+    })) c.event_outcome.ensures.actor c.event_outcome.ensures.printed
 
 pub wanting-requires : goal.wanting-requires
 wanting-requires g c = again_wants _ (state_of c.args.disk) (state_of c.in-Err.back.disk) c.in-Err.back.error c.requires c.in-Err.ensures.spares c.in-Err.ensures.failing

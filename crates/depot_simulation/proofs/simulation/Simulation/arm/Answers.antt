@@ -2,6 +2,7 @@ use Rattle.std.proofs.Common.{ℕ, List, sym, subst, arith}
 use Rattle.depot_world.specs.Transcript.{pending_at}
 use Rattle.depot_simulation.specs.Doing.{HasDone}
 use Rattle.depot_simulation.proofs.NodeEvents.{left_is, place_within, pending_had_seen, stop_set}
+use Rattle.depot_simulation.proofs.SeenCounts.{room_for_all}
 use Rattle.depot_simulation.proofs.simulation.Simulation.arm.Goals as goal
 
 pub come_back-requires-clause-place : goal.come_back-requires-clause-place
@@ -16,6 +17,9 @@ come_back-requires-clause-seen g c =
     let p = l.played in
     let i = left_is _ g.A.Actor.view g.A.Reader.Reading.reads p.setup p.run node l.before c.args.self.now c.args.acting l.left p.at in
     pending_had_seen _ g.A.Actor.view g.A.Reader.Reading.reads p.setup p.run node c.args.self.now c.args.acting c.in_ok-actor.actor c.args.call c.args.image i c.in_ok-actor.ensures
+
+pub come_back-requires-clause-room : goal.come_back-requires-clause-room
+come_back-requires-clause-room g c = room_for_all _ g.A.Actor.view g.A.Reader.Reading.reads c.requires.left.0 c.args.self.now c.args.acting c.in_ok-actor.actor (g.met.A.Actor.lawful c.in_ok-actor.actor) c.requires.left.1
 
 pub returns-clause-lines : goal.returns-clause-lines
 returns-clause-lines g c = λ node before left. λ setup run at.

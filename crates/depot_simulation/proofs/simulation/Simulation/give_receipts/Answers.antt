@@ -1,6 +1,7 @@
 use Rattle.std.proofs.Common.{arith}
 use Rattle.depot_simulation.proofs.NodeEvents.{left_is, place_within}
 use Rattle.depot_simulation.proofs.ReceiptEvents.{receipts_given, receipts_had_seen}
+use Rattle.depot_simulation.proofs.SeenCounts.{room_for_all}
 use Rattle.depot_simulation.proofs.simulation.Simulation.give_receipts.Goals as goal
 
 pub come_back-requires-clause-place : goal.come_back-requires-clause-place
@@ -16,6 +17,9 @@ come_back-requires-clause-seen g c =
     let t = c.in_ok-actor.field-0 in
     let i = left_is _ g.A.Actor.view g.A.Reader.Reading.reads p.setup p.run node l.before c.args.self.now c.args.acting l.left p.at in
     receipts_had_seen _ g.A.Actor.view g.A.Reader.Reading.reads p.setup p.run node c.args.ids.now c.args.self.now c.args.acting t.actor t.lines t.bytes i (c.in_ok-actor.ensures p.setup i.host i.hosted)
+
+pub come_back-requires-clause-room : goal.come_back-requires-clause-room
+come_back-requires-clause-room g c = room_for_all _ g.A.Actor.view g.A.Reader.Reading.reads c.requires.left.0 c.args.self.now c.args.acting c.in_ok-actor.field-0.actor (g.met.A.Actor.lawful c.in_ok-actor.field-0.actor) c.requires.left.1
 
 pub returns-clause-lines : goal.returns-clause-lines
 returns-clause-lines g c = λ node before left. λ setup run at.

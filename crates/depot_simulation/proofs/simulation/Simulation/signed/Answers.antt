@@ -3,6 +3,7 @@ use Rattle.depot_base.specs.Writes.{one_change}
 use Rattle.depot_schedule.specs.declared.event.Event.{Event}
 use Rattle.depot_scenario.specs.Scenarios.{MayHappen}
 use Rattle.depot_simulation.proofs.MadeTexts.{IsSignedThere, update_there, updates_there}
+use Rattle.depot_simulation.proofs.SeenCounts.{room_for_one}
 use Rattle.depot_simulation.proofs.simulation.Simulation.signed.Given.{Over}
 use Rattle.depot_simulation.proofs.simulation.Simulation.signed.Goals as goal
 use Rattle.depot_simulation.proofs.simulation.Simulation.signed.Goals.{In-Update, In-Updates}
@@ -23,6 +24,12 @@ given-requires-clause-leaf g c = (one_there g (goal.at.given-requires-clause-lea
 
 pub given-requires-in-Updates-clause-leaf : goal.given-requires-in-Updates-clause-leaf
 given-requires-in-Updates-clause-leaf g c = (several_there g (goal.at.given-requires-in-Updates-clause-leaf g c).In-Updates).leaf
+
+pub given-requires-clause-room : goal.given-requires-clause-room
+given-requires-clause-room g c = room_for_one g.A.Actor.view g.A.Reader.Reading.reads c.args.self.now c.requires.played
+
+pub given-requires-in-Updates-clause-room : goal.given-requires-in-Updates-clause-room
+given-requires-in-Updates-clause-room g c = room_for_one g.A.Actor.view g.A.Reader.Reading.reads c.args.self.now c.requires.played
 
 pub updated-requires-clause-fits : goal.updated-requires-clause-fits
 updated-requires-clause-fits g c =

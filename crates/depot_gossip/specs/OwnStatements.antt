@@ -1,4 +1,4 @@
--- What a bundle tells of its node's own statements.
+-- The node's own statements in a bundle.
 use Rattle.std.specs.Prelude.{◌≡◌, ℕ, ◌≤◌, List, false, length}
 use Rattle.depot_base.specs.declared.limits.TheConstants.{MOST_SIGNATURE}
 use Rattle.depot_base.specs.declared.statement.Signed.{Signed}
@@ -29,7 +29,7 @@ pub record AnswersBundle (here : Setting) (sign : Signs) (J : List Record) (b : 
   pub is : bundle_answer here sign J text ≡ bundled b
 
 -- In the bytes of the bundle stands this signed statement, which is the node's own.
-pub record TellsOwn (here : Setting) (b : Bundle) (s : Signed) : Type 0 where
+pub record HasOwnStatement (here : Setting) (b : Bundle) (s : Signed) : Type 0 where
   pub fits : IsSigned s
   pub on : IsIn (statement_frame s) b.frames
   pub mine : writer_of s.statement ≡ here.me

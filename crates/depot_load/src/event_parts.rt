@@ -1,4 +1,4 @@
-//! The words of a load's events.
+//! What a load's events name: nodes, keys, values and labels.
 ghost use Rattle.std.specs.Prelude.{◌≡◌, ◌<◌, IsTrue, IfOk};
 ghost use Rattle.depot_load.specs.Loads.{load_key, label_of, value_of};
 ghost use Rattle.depot_lines.specs.Spelling.{is_letter};
