@@ -13,7 +13,8 @@ Usage: bench.py [--program FILE] [--times N] [--shares] [NAME ..]
     journal-2000    a node takes 2,000 updates of five writers with their values, opens its journal, and bundles it
     journal-20000   the same of 20,000 updates
 
-Each figure is the least of N runs (5). The unit is measured first, in the same way. With --shares each is run once more under `perf`, which
+Each figure is the least of N runs (5). The unit is measured first, in the same way. Files stand in the folder for temporary files:
+TMPDIR=/dev/shm leaves out what a disk's syncs cost. With --shares each is run once more under `perf`, which
 tells how much of it was SHA-256. In a run of a node one unit is its key, of height 12. Run it by hand, on a machine that does nothing else: it
 is no test. The program is that of ./depot, built.
 """
@@ -203,7 +204,7 @@ WORKLOADS = {
 
 def built():
     """The program of ./depot, built first where it isn't."""
-    subprocess.run([HERE.parent / "depot"], stdout=subprocess.DEVNULL, stderr=subprocess.DEVNULL)
+    subprocess.run([HERE.parent / "depot", "key", "0" * 64, "2"], stdout=subprocess.DEVNULL, stderr=subprocess.DEVNULL)
     return HERE.parent / "crates/depot_tool/out/depot_tool"
 
 

@@ -1,7 +1,7 @@
 # Read by the scripts that measure the program (with `.`), which name the examples' folder as $here: the program, built, as $depot, unless DEPOT
 # names one; the unit of time; and how a run is measured in it. A run that ends otherwise than with status 0 ends the script.
 
-[ -n "${DEPOT:-}" ] || "$here/../depot" >/dev/null || true
+[ -n "${DEPOT:-}" ] || "$here/../depot" key "$(printf '0%.0s' {1..64})" 2 >/dev/null
 depot=${DEPOT:-$here/../crates/depot_tool/out/depot_tool}
 
 # The processor time of a run, in seconds: the least of three where MANY is 3.

@@ -8,7 +8,7 @@
     python3 tools/look.py FILE --proofs FOLDER    puts the proofs of a journal or a stream there, as files for `judge`
 
 It reads by docs/FORMATS.md, verifies no signature, and asks no program. Where a text isn't in its form, what stands
-before the fault is shown, then a line that says where and why, and the status is 2.
+before the fault is shown, then a line that says where and why, and the status is 2; it is 3 where a file can't be read.
 """
 
 import argparse
@@ -19,6 +19,13 @@ import sys
 import formats as f
 
 KINDS = ["roster", "hello", "journal", "proof", "stream", "trace", "checkpoint", "log"]
+
+
+OLD = "it is an old copy, never run it"
+
+
+class NoKind(Exception):
+    """A file is of no kind that is known here; it is said what it looks like most."""
 
 
 class Page:
@@ -101,41 +108,54 @@ def show_roster(data, page, options):
         page.say("member %d: %d statements (height %d), root %s" % (it.node, 2**it.height, it.height, it.root.hex()))
 
 
-def say_leaves(leaves, page, options):
-    records = journal_at(options.journal).records if options.journal else None
+def say_leaves(leaves, roster, page, options):
+    records = records_beside(roster, page, options.journal) if options.journal else None
     for leaf in leaves:
         writer, id = int.from_bytes(leaf[:2], "big"), leaf[2:]
         page.say("leaf of writer %d: %s%s" % (writer, page.hash(id), had_by(records, writer, id)))
+    if records and not any(OLD in line for line in page.lines):
+        page.say("nothing here shows that the journal is an old copy, which proves nothing")
+
+
+def records_beside(roster, page, path):
+    """The records of the journal that leaves are compared with; None, and a line that says why, where nothing follows from that."""
+    try:
+        with open(path, "rb") as file:
+            records = f.read_journal(file.read()).records
+    except f.IllFormed as fault:
+        page.fault = "%s, %s" % (path, fault)
+        return None
+    if not records:
+        page.say("the journal has no record up to its first closed gate: where it had any, never run it")
+    elif isinstance(records[0].record, f.Birth) and records[0].record.roster != roster:
+        page.say("the journal is of another roster, %s, so nothing follows from these leaves" % page.hash(records[0].record.roster))
+        return None
+    return records
 
 
 def show_checkpoint(data, page, options):
     checkpoint = f.read_checkpoint(data)
     page.say("checkpoint for the roster %s, under the key %s" % (page.hash(checkpoint.roster), page.key(f.checkpoint_key(data))))
-    say_leaves(checkpoint.leaves, page, options)
+    say_leaves(checkpoint.leaves, checkpoint.roster, page, options)
 
 
 def show_hello(data, page, options):
     hello = f.read_hello(data)
     page.say("hello of node %d, for the roster %s" % (hello.node, page.hash(hello.roster)))
     page.say("convicted: %s" % (", ".join(map(str, hello.convicted)) or "none"))
-    say_leaves(hello.leaves, page, options)
+    say_leaves(hello.leaves, hello.roster, page, options)
     for value in hello.wanted:
         page.say("wants the value %s" % page.hash(value))
 
 
 def had_by(records, writer, id):
     """What is said of a leaf beside a journal. An own leaf that the journal lacks shows that it is an old copy."""
-    if not records:
+    if records is None:
         return ""
     if id in {it.id for it in f.updates_of(records)}:
         return ", which the journal has"
-    is_own = isinstance(records[0].record, f.Birth) and records[0].record.node == writer
-    return ", which the journal lacks" + (": it is an old copy, never run it" if is_own else "")
-
-
-def journal_at(path):
-    with open(path, "rb") as file:
-        return f.read_journal(file.read())
+    is_own = any(isinstance(it.record, f.Birth) and it.record.node == writer for it in records[:1])
+    return ", which the journal lacks" + (": " + OLD if is_own else "")
 
 
 def show_journal(data, page, options):
@@ -147,11 +167,13 @@ def show_journal(data, page, options):
     except f.IllFormed as fault:
         page.fault = fault
     end = placed[-1].end if placed else 0
+    if not placed and len(data) > LEAST_JOURNAL:
+        page.fault = "at 0: the first gate is %02x, not 01, so no record counts, and a run would begin a new journal over it" % data[0]
     if page.fault:
         page.say("journal: %d whole records in %d bytes, and then damage" % (len(placed), end))
     else:
         told = "journal: %d records, %d bytes up to its closed gate, %d bytes behind it"
-        page.say(told % (len(placed), end + 1, max(0, len(data) - end - 1)))
+        page.say(told % (len(placed), min(end + 1, len(data)), max(0, len(data) - end - 1)))
     values = f.values_of(placed)
     for at, it in enumerate(placed):
         for line in record_lines(it.record, values, page):
@@ -285,8 +307,9 @@ SHOW = {
 }
 
 
-# A journal's first record is a birth, of 35 bytes.
-JOURNAL_HEAD = b"\1\0\0\0\43\1"
+# Behind a journal's first gate stands a birth, of 35 bytes; a gate that is closed there is a stop's in the first append, or damage.
+BIRTH_HEAD = b"\0\0\0\43\1"
+LEAST_JOURNAL = 1 + 4 + 35 + 1
 WHOLE = [
     ("roster", f.read_roster), ("hello", f.read_hello), ("proof", f.read_proof), ("trace", f.read_trace), ("checkpoint", f.read_checkpoint),
     ("log", f.read_log),
@@ -294,28 +317,32 @@ WHOLE = [
 
 
 def kind_of(data):
-    """The kind of a file: a journal by its first bytes, what reads whole, or a stream that has a frame. Else None."""
-    if len(data) <= 1 or data.startswith(JOURNAL_HEAD):
+    """The kind of a file: a journal by its first bytes, what reads whole, or a stream that has a frame. Else NoKind."""
+    if len(data) <= 1 or (data[1:6] == BIRTH_HEAD and data[0] not in (f.STATEMENT, f.VALUE, f.END)):
         return "journal"
+    faults = []
     for kind, read in WHOLE:
         try:
             read(data)
             return kind
-        except f.IllFormed:
-            continue
-    return "stream" if f.read_stream(data).frames else None
+        except f.IllFormed as fault:
+            faults.append((fault.offset, kind, fault))
+    stream = f.read_stream(data)
+    if stream.frames:
+        return "stream"
+    if stream.ending.startswith("cut"):
+        faults.append((len(data), "stream", "at 0: the first frame is cut short"))
+    offset, kind, fault = max(faults, key=lambda it: it[0])
+    # What goes wrong at its version or its kind is none of them.
+    raise NoKind("it is no %s or %s" % (", ".join(KINDS[:-1]), KINDS[-1]) if offset < 2 else "read as a %s, %s" % (kind, fault))
 
 
 def look(data, options):
     """The page of a file of the kind that is asked for, or found."""
     page = Page(options.whole)
-    kind = options.kind or kind_of(data)
-    if kind is None:
-        page.fault = "it is no roster, hello, journal, proof, stream, trace, checkpoint or log; with --kind KIND it is said where it fails"
-        return page
     try:
-        SHOW[kind](data, page, options)
-    except f.IllFormed as fault:
+        SHOW[options.kind or kind_of(data)](data, page, options)
+    except (f.IllFormed, NoKind) as fault:
         page.fault = fault
     return page
 
@@ -333,7 +360,7 @@ def cut_out(data, folder):
     return names
 
 
-def main(words):
+def options_of(words):
     parser = argparse.ArgumentParser(description=__doc__, formatter_class=argparse.RawDescriptionHelpFormatter)
     parser.add_argument("file", metavar="FILE")
     parser.add_argument("--kind", choices=KINDS)
@@ -341,8 +368,11 @@ def main(words):
     parser.add_argument("--roster", metavar="FILE")
     parser.add_argument("--journal", metavar="FILE")
     parser.add_argument("--proofs", metavar="FOLDER")
-    options = parser.parse_args(words)
-    signal.signal(signal.SIGPIPE, signal.SIG_DFL)
+    return parser.parse_args(words)
+
+
+def shown(options):
+    """Prints what the words ask for; the status."""
     with open(options.file, "rb") as file:
         data = file.read()
     if options.proofs:
@@ -356,6 +386,19 @@ def main(words):
         print("not in its form: %s" % page.fault)
         return 2
     return 0
+
+
+def main(words):
+    options = options_of(words)
+    signal.signal(signal.SIGPIPE, signal.SIG_DFL)
+    try:
+        return shown(options)
+    except f.IllFormed as fault:
+        print("look: a proof in %s isn't in its form, %s" % (options.file, fault), file=sys.stderr)
+        return 2
+    except OSError as why:
+        print("look: %s: %s" % (why.filename, why.strerror), file=sys.stderr)
+        return 3
 
 
 if __name__ == "__main__":

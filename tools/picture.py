@@ -158,7 +158,7 @@ def picture(tale):
     return "\n".join(lines + legend(height - 26) + ["</svg>"]) + "\n"
 
 
-def main(words):
+def options_of(words):
     parser = argparse.ArgumentParser(description=__doc__, formatter_class=argparse.RawDescriptionHelpFormatter)
     parser.add_argument("file", metavar="FILE", nargs="?", help="a journal")
     parser.add_argument("--schedule", nargs=2, metavar=("SCHEDULE", "TRANSCRIPT"))
@@ -166,16 +166,38 @@ def main(words):
     options = parser.parse_args(words)
     if (options.file is None) == (options.schedule is None):
         parser.error("one journal, or --schedule SCHEDULE TRANSCRIPT")
+    return options
+
+
+def text_at(path):
+    with open(path, encoding="utf-8", errors="replace") as file:
+        return file.read()
+
+
+def tale_of(options):
+    """The story of the files that the words name; NoStory where they have none."""
+    if options.schedule:
+        return story.of_schedule(*map(text_at, options.schedule))
+    with open(options.file, "rb") as file:
+        tale = story.of_journal(file.read())
+    if tale.mine is None:
+        raise story.NoStory("%s is no journal: no birth of a node stands up to its first closed gate" % options.file)
+    return tale
+
+
+def main(words):
+    options = options_of(words)
     try:
-        if options.schedule:
-            with open(options.schedule[0]) as schedule, open(options.schedule[1]) as transcript:
-                tale = story.of_schedule(schedule.read(), transcript.read())
-        else:
-            with open(options.file, "rb") as file:
-                tale = story.of_journal(file.read())
+        tale = tale_of(options)
     except formats.IllFormed as fault:
-        print("picture: the journal isn't in its form, %s" % fault, file=sys.stderr)
+        print("picture: %s isn't in its form, %s" % (options.file, fault), file=sys.stderr)
         return 2
+    except story.NoStory as why:
+        print("picture: %s" % why, file=sys.stderr)
+        return 2
+    except OSError as why:
+        print("picture: %s: %s" % (why.filename, why.strerror), file=sys.stderr)
+        return 3
     if options.last:
         tale = tale._replace(boxes=tale.boxes[-options.last:])
     sys.stdout.write(picture(tale))

@@ -20,7 +20,7 @@ class BadWords(Exception):
 def member_of(word):
     """The member that a word NUMBER:HEIGHT:ROOT names."""
     parts = word.split(":")
-    if len(parts) != 3 or not all(part.isdigit() for part in parts[:2]):
+    if len(parts) != 3 or not all(part.isascii() and part.isdecimal() for part in parts[:2]):
         raise BadWords("%s isn't NUMBER:HEIGHT:ROOT" % word)
     node, height = int(parts[0]), int(parts[1])
     if not 1 <= node <= 65535:

@@ -12,6 +12,10 @@ from typing import Dict, List, NamedTuple, Optional
 import formats as f
 
 
+class NoStory(Exception):
+    """Files have no story that a picture could tell."""
+
+
 class Box(NamedTuple):
     """An update: its id (of any kind), its name, its parents, and what is said of it."""
 
@@ -289,15 +293,23 @@ def written(verb, words):
     return ", ".join(shown), values
 
 
+class Answer(NamedTuple):
+    """An event's line in a transcript: the event's first word, the words of the answer, the checks of refused frames by their place."""
+
+    verb: str
+    words: List[str]
+    refusals: Dict[int, List[str]]
+
+
 def answers_of(transcript):
-    """For each event of a transcript the words of its answer, and the checks of its refused frames by their place."""
+    """For each event of a transcript its line."""
     answers = []
     for line in transcript.splitlines():
         if line.startswith(" refused "):
             _, place, *check = line.split()
-            answers[-1][1][int(place)] = check
+            answers[-1].refusals[int(place)] = check
         else:
-            answers.append((line.partition(" ->")[2].split(), {}))
+            answers.append(Answer(line.split(" ")[0], line.partition(" ->")[2].split(), {}))
     return answers
 
 
@@ -311,16 +323,22 @@ def told_events(schedule, transcript):
             telling.nodes[words[1]] = Node(int(words[1]))
         elif words[0] not in ("depot", "scheme", "faulty"):
             events.append(words)
-    for words, (answer, refusals) in zip(events, answers_of(transcript)):
-        telling.event(words, answer, refusals)
-        yield telling, words, answer
+    answers = answers_of(transcript)
+    if [words[0] for words in events] != [it.verb for it in answers]:
+        raise NoStory("the transcript isn't that of the schedule: its lines aren't those of the %d events" % len(events))
+    for words, answer in zip(events, answers):
+        telling.event(words, answer.words, answer.refusals)
+        yield telling, words, answer.words
 
 
 def of_schedule(schedule, transcript):
     """The story of a schedule, by the transcript that was printed of it."""
     telling = Telling()
-    for telling, _, _ in told_events(schedule, transcript):
-        pass
+    try:
+        for telling, _, _ in told_events(schedule, transcript):
+            pass
+    except (IndexError, KeyError, ValueError):
+        raise NoStory("these are no schedule and its transcript")
     convicted = {}
     for node in telling.nodes.values():
         for writer, quarrel in node.convicted.items():

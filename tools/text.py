@@ -13,19 +13,31 @@ In NOTES a key or a value is text in double quotes, or hex as in a script. In qu
     get "user:1"
     take ../for-one
 
+Notes with a faulty line make no script at all: the line and the fault are told, and the status is 1. In a pipe into
+`node.py` that is seen with `set -o pipefail`.
+
 `answers` shows keys and values in quotes where they are text that can be printed, and else as hex, as they were.
 """
 
+import os
 import re
+import signal
 import sys
 
 import formats as f
 
+OUTPUT = 5
 ESCAPE = re.compile(r'\\(x[0-9a-f]{2}|["\\nt])')
 # A word is text in quotes or stands between blanks, `=`, `!` and `,`, which in a line of `puts` are words of their own.
 QUOTED = r'"(?:\\.|[^"\\])*"'
 WORD = re.compile(QUOTED + r"|[^\s\"]+")
 PART = re.compile(QUOTED + r'|[=!,]|[^\s"=!,]+')
+# How many words stand behind each command but `puts`.
+WORDS = {
+    "put": 2, "get": 1, "tget": 1, "hello": 1, "bundle": 2, "take": 1, "receipt": 1, "settled": 2, "export": 1, "checkpoint": 1,
+    "sign": 1, "trim": 1, "tgive": 1,
+}
+WITH_KEYS = ("put", "get", "tget")
 BYTES = {"n": b"\n", "t": b"\t", '"': b'"', "\\": b"\\"}
 
 
@@ -51,30 +63,58 @@ def unquoted(text):
 
 
 def hex_of(word):
-    """A key's or a value's word as a script has it: text in quotes becomes hex, and `-` where it is empty."""
-    if not word.startswith('"'):
-        return word
-    return unquoted(word[1:-1]).hex() or "-"
+    """The digits of a key's or a value's word, which is text in quotes, or hex, or `-` for nothing."""
+    if word.startswith('"'):
+        return unquoted(word[1:-1]).hex()
+    if word == "-":
+        return ""
+    if not re.fullmatch("(?:[0-9a-f]{2})+", word):
+        raise BadLine("%s is neither text in quotes nor lower-case hex, two digits a byte" % word)
+    return word
+
+
+def key_of(word):
+    """A key's word as a script has it."""
+    digits = hex_of(word)
+    if not 1 <= len(digits) // 2 <= f.MOST_KEY:
+        raise BadLine("a key has 1 to %d bytes, and this one %d" % (f.MOST_KEY, len(digits) // 2))
+    return digits
+
+
+def value_of(word):
+    """A value's word as a script has it: `-` where it is empty."""
+    digits = hex_of(word)
+    if len(digits) // 2 > f.MOST_VALUE:
+        raise BadLine("a value has at most %d bytes, and this one %d" % (f.MOST_VALUE, len(digits) // 2))
+    return digits or "-"
 
 
 def words_in(line, pattern):
     """The words of a line; nothing but blanks may stand between them."""
     rest = pattern.sub("", line)
     if rest.strip():
-        raise BadLine("what isn't in quotes, or a quote without its end: %s" % rest.strip())
+        raise BadLine("a quote without its end: %s" % rest.strip())
     return pattern.findall(line)
+
+
+def spaced_words(line):
+    """The words of a line that stand apart by blanks."""
+    words = words_in(line, WORD)
+    if len(WORD.sub("x", line).split()) != len(words):
+        raise BadLine("words stand apart by blanks, and here some don't")
+    return words
 
 
 def writes_of(words):
     """The words behind `puts` as one word of a script: KEY=VALUE and KEY! with commas, in the order of the keys."""
     parts, at = [], 0
     while at < len(words):
-        key, mark = hex_of(words[at]), words[at + 1 : at + 2]
+        key, mark = key_of(words[at]), words[at + 1 : at + 2]
         if mark == ["!"]:
             parts.append((key, key + "!"))
             at += 2
         elif mark == ["="] and at + 2 < len(words):
-            parts.append((key, key + "=" + hex_of(words[at + 2])))
+            parts.append((key, key + "=" + value_of(words[at + 2])))
             at += 3
         else:
             raise BadLine("a write is KEY=VALUE or KEY!")
@@ -91,8 +131,16 @@ def script_line(line):
         return None
     if line.split()[0] == "puts":
         return "puts " + writes_of(words_in(line, PART)[1:])
-    verb, *words = words_in(line, WORD)
-    return " ".join([verb] + [hex_of(word) if verb in ("put", "get", "tget") else word for word in words])
+    verb, *words = spaced_words(line)
+    if verb not in WORDS:
+        raise BadLine("%s is no command" % verb)
+    if len(words) != WORDS[verb]:
+        raise BadLine("%s has %d words behind it, and takes %d; a note has a line of its own" % (verb, len(words), WORDS[verb]))
+    if verb in WITH_KEYS:
+        return " ".join([verb, key_of(words[0])] + [value_of(word) for word in words[1:]])
+    if any(word.startswith('"') for word in words):
+        raise BadLine("the names of files, and ids, stand without quotes, and have no blanks")
+    return " ".join([verb] + words)
 
 
 def quoted(digits):
@@ -121,21 +169,30 @@ def answer_line(line):
     return " ".join(words[:-1] + [quoted(words[-1])]) + arrow + " ".join(answers)
 
 
+def text_in(data):
+    try:
+        return data.decode("utf-8")
+    except UnicodeDecodeError:
+        raise BadLine("it isn't UTF-8")
+
+
 def to_script(lines, out):
+    """All lines, or none where one is faulty: a front of a script would be carried out."""
+    made = []
     for number, line in enumerate(lines, 1):
         try:
-            made = script_line(line)
+            made.append(script_line(text_in(line)))
         except BadLine as why:
-            print("text: line %d: %s" % (number, why), file=sys.stderr)
+            print("text: line %d: %s; no script is made" % (number, why), file=sys.stderr)
             return 1
-        if made is not None:
-            out.write(made + "\n")
+    out.writelines(line.encode("utf-8") + b"\n" for line in made if line is not None)
     return 0
 
 
 def to_answers(lines, out):
     for line in lines:
-        out.write(answer_line(line.rstrip("\n")) + "\n")
+        shown = answer_line(line.decode("utf-8", "surrogateescape").rstrip("\n"))
+        out.write(shown.encode("utf-8", "surrogateescape") + b"\n")
         out.flush()
     return 0
 
@@ -145,9 +202,15 @@ def main(words):
     if len(words) != 1 or words[0] not in ways:
         print(__doc__, file=sys.stderr)
         return 1
-    for stream in (sys.stdin, sys.stdout):
-        stream.reconfigure(encoding="utf-8")
-    return ways[words[0]](sys.stdin, sys.stdout)
+    signal.signal(signal.SIGPIPE, signal.SIG_DFL)
+    try:
+        status = ways[words[0]](sys.stdin.buffer, sys.stdout.buffer)
+        sys.stdout.flush()
+        return status
+    except OSError as why:
+        print("text: %s" % why.strerror, file=sys.stderr)
+        os.dup2(os.open(os.devnull, os.O_WRONLY), sys.stdout.fileno())
+        return OUTPUT
 
 
 if __name__ == "__main__":

@@ -2,7 +2,8 @@
 """A stand-in for `depot node` in the tests of the runner: it puts and reads over a journal, and checks nothing.
 
 STOP in the environment says where it ends as if it were killed: `told 3` behind the third line that it tells of,
-`put 3` once the third put stands in the journal and before it is told of, `limit 3` at the third line by a limit.
+`put 3` once the third put stands in the journal and before it is told of, `limit 3` at the third line by a limit,
+`shelf 3` there by a file, `disk 3` by the journal's; `fault 3` says at once that this line is faulty.
 """
 
 import os
@@ -49,10 +50,16 @@ def main(words):
         with open(roster, "rb") as file:
             append(b"\1" + f.number(2, int(node)) + f.sha256(file.read()))
     puts = 0
-    with open(script) as file:
+    with open(script, errors="replace") as file:
         lines = file.read().splitlines()
+    if mood == "fault":
+        print("input %s line %s Hex" % (script, place), flush=True)
+        return 2
     for told, line in enumerate(lines, 1):
         verb, *rest = line.split(" ")
+        if mood in ("shelf", "disk") and told == int(place):
+            print("shelf %s" % rest[-1] if mood == "shelf" else "disk", flush=True)
+            return 3 if mood == "shelf" else 4
         if mood == "limit" and told == int(place):
             print("%s -> Spent 4" % " ".join([verb] + rest[:1]), flush=True)
             return 8
@@ -69,4 +76,7 @@ def main(words):
 
 
 if __name__ == "__main__":
-    sys.exit(main(sys.argv[1:]))
+    try:
+        sys.exit(main(sys.argv[1:]))
+    except BrokenPipeError:
+        os._exit(5)

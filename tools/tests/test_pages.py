@@ -8,16 +8,17 @@ import unittest
 from cases import ROOT, data_of, path_of
 
 USERS = [
-    "README.md", "CHANGELOG.md", "CONTRIBUTING.md", "tools/README.md", "docs/BENCHMARKS.md", "docs/CLIENT.md", "docs/COOKBOOK.md",
-    "docs/FORMATS.md", "docs/GLOSSARY.md", "docs/OPERATING.md", "docs/PROMISED.md", "docs/SIZING.md", "docs/STYLE.md",
-    "docs/THREATS.md", "docs/TROUBLESHOOTING.md", "docs/TUTORIAL.md",
+    "README.md", "CHANGELOG.md", "CONTRIBUTING.md", "tools/README.md", "examples/README.md", "acceptance/README.md", "uses/README.md",
+    "docs/ARCHITECTURE.md", "docs/BENCHMARKS.md", "docs/CLIENT.md", "docs/COOKBOOK.md", "docs/EMBEDDING.md", "docs/FORMATS.md",
+    "docs/GLOSSARY.md", "docs/OPERATING.md", "docs/PROMISED.md", "docs/SIZING.md", "docs/STYLE.md", "docs/THREATS.md",
+    "docs/TROUBLESHOOTING.md", "docs/TUTORIAL.md",
 ]
 LONGEST = 120
 
 
 def pages():
     """The pages of the repository, as seen from its top."""
-    for pattern in ["*.md", "docs/*.md", "tools/*.md"]:
+    for pattern in ["*.md", "*/*.md"]:
         for path in sorted(glob.glob(path_of(pattern))):
             yield os.path.relpath(path, ROOT)
 

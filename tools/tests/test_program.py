@@ -63,7 +63,8 @@ class Operator(InARoom):
         shutil.copy(self.path("old"), self.path("1/depot.journal"))
         status, _, why = self.run_node(1, 'put "k" "again"')
         self.assertEqual((status, "an old copy" in why), (71, True))
-        os.remove(self.path("1/depot.journal.kept"))
+        for kept in ("1/depot.journal.kept", "seed1.node-1.kept"):
+            os.remove(self.path(kept))
         self.assertEqual(self.run_node(1, 'put "k" "again"')[1], ['put "k" -> 1/2'])
         self.exchange(2, 1)
         told = self.exchange(2, 3)

@@ -63,7 +63,7 @@ class Roster(InARoom):
 
     def test_refusals(self):
         root = "11" * 32
-        bad = [[it + root] for it in ("0:2:", "65536:2:", "1:1:", "1:18:", "x:2:")] + [["1:2:11"], ["1:2:" + "AA" * 32]]
+        bad = [[it + root] for it in ("0:2:", "65536:2:", "1:1:", "1:18:", "x:2:", "\u00b2:8:", "\u0661:8:")] + [["1:2:11"], ["1:2:" + "AA" * 32]]
         bad += [["1:2:" + root, "1:3:" + root], ["1:2"], [], ["%d:2:%s" % (it, root) for it in range(1, 258)]]
         for words in bad:
             self.assertEqual(run_tool("roster.py", self.path("R"), *words)[0], 1)
@@ -105,11 +105,23 @@ class Look(InARoom):
 
     def test_a_hello_beside_a_journal(self):
         hello = path_of("acceptance", "node_convicts_a_fork", "after", "H")
+        roster = f.read_hello(data_of(hello)).roster
         leaf = "leaf of writer 9: 3b01cac0be5ba620"
-        self.assertIn(leaf + ", which the journal has", self.lines(hello, "--journal", BRANCHED)[1])
-        for node, said in [(1, "lacks"), (9, "lacks: it is an old copy, never run it")]:
-            other = self.put("J", journal(b"\1" + f.number(2, node) + bytes(32)))
-            self.assertIn(leaf + ", which the journal " + said, self.lines(hello, "--journal", other)[1])
+        told = self.lines(hello, "--journal", BRANCHED)[1]
+        self.assertIn(leaf + ", which the journal has", told)
+        self.assertEqual(told[-1], "nothing here shows that the journal is an old copy, which proves nothing")
+        one, nine = (journal(b"\1" + f.number(2, node) + roster) for node in (1, 9))
+        cases = [
+            (one, 0, leaf + ", which the journal lacks"), (nine, 0, leaf + ", which the journal lacks: it is an old copy, never run it"),
+            (b"\0" + nine[1:], 0, "the journal has no record up to its first closed gate: where it had any, never run it"),
+            (b"", 0, leaf + ", which the journal lacks"), (journal(b"\1\0\11" + bytes(32)), 0, leaf),
+            (nine[:-1], 2, "not in its form: %s, at 0: an open gate stands here, and no whole record follows" % self.path("J")),
+        ]
+        for data, status, said in cases:
+            told = self.lines(hello, "--journal", self.put("J", data))
+            self.assertEqual((told[0], said in told[1]), (status, True), told)
+        other = self.lines(hello, "--journal", self.put("J", journal(b"\1\0\11" + bytes(32))))[1]
+        self.assertIn("the journal is of another roster, 0000000000000000, so nothing follows from these leaves", other)
 
     def test_a_stream_and_its_proof(self):
         self.assertEqual(self.lines(STREAM)[1][0], "stream: 5 frames, whole")
@@ -130,7 +142,7 @@ class Look(InARoom):
         had = path_of("acceptance", "node_makes_a_reader", "after", "two", "depot.journal")
         shown = self.lines(made, "--journal", had)[1]
         self.assertTrue(shown[0].startswith("checkpoint for the roster "))
-        self.assertTrue(len(shown) == 2 and shown[1].startswith("leaf of writer 1: ") and shown[1].endswith(", which the journal has"))
+        self.assertTrue(len(shown) == 3 and shown[1].startswith("leaf of writer 1: ") and shown[1].endswith(", which the journal has"))
         members = self.lines(path_of("examples", "fork", "roster"))[1][1:]
         self.assertTrue(members[0].startswith("member 1: 4 statements (height 2)"))
 
@@ -142,8 +154,32 @@ class Look(InARoom):
         told = "proof against node 9, NotUpdate: its voucher 9/0, and a text of 1 bytes that is no update"
         self.assertEqual(self.lines(self.put("P", hollow))[1][0], told)
 
+    def test_a_file_that_cannot_be_read(self):
+        for words in ([self.path("absent")], [self.room], [BRANCHED, "--roster", self.path("absent")],
+                      [path_of("acceptance", "node_convicts_a_fork", "after", "H"), "--journal", self.path("absent")]):
+            status, _, why = run_tool("look.py", *words)
+            self.assertEqual((status, why.count("\n")), (3, 1), why)
+
+    def test_an_empty_file(self):
+        told = "journal: 0 records, 0 bytes up to its closed gate, 0 bytes behind it"
+        self.assertEqual(self.lines(self.put("E", b""))[1][0], told)
+
+    def test_what_is_nearly_of_a_kind(self):
+        roster, hello = data_of("examples", "fork", "roster"), data_of("acceptance", "node_convicts_a_fork", "after", "H")
+        two = data_of(BRANCHED)
+        cases = [
+            (roster[:6] + b"\1" + roster[7:], "read as a roster, at 6: the height is 1"), (hello[:-1], "read as a hello, at "),
+            (hello[:20], "read as a hello, at 4: the roster's hash is cut short"), (data_of(STREAM)[:99], "read as a stream, at 0"),
+            (data_of("acceptance", "node_exports_its_trace", "after", "F")[:-1], "read as a trace, at "),
+            (b"\0" + two[1:], "at 0: the first gate is 00, not 01"), (b"\7" + two[1:], "at 0: the first gate is 07, not 01"),
+        ]
+        for data, said in cases:
+            status, lines = self.lines(self.put("N", data))
+            self.assertEqual((status, lines[-1].startswith("not in its form: " + said)), (2, True), lines)
+
     def test_no_kind(self):
-        self.assertEqual(self.lines(path_of("README.md"))[0], 2)
+        status, lines = self.lines(path_of("README.md"))
+        self.assertEqual((status, lines), (2, ["not in its form: it is no roster, hello, journal, proof, stream, trace, checkpoint or log"]))
         told = "not in its form: at 0: the version is 35, and may be 1 to 1"
         self.assertEqual(self.lines("--kind", "hello", path_of("README.md"))[1], [told])
 
@@ -158,9 +194,19 @@ class Text(unittest.TestCase):
             "take ../for-one", "puts 61!,62=32,6c=-", "bundle ../hello ../out"]))
 
     def test_bad_notes(self):
-        for line in ['put "k', 'put "k" "\\q"', 'puts "a"', 'puts "a"="b" "c"!', "puts =61"]:
-            status, _, why = run_tool("text.py", "script", data=line.encode() + b"\n")
-            self.assertEqual((status, "line 1" in why), (1, True), line)
+        """A faulty line is told with its number, and nothing comes out, so that no front of the script is carried out."""
+        cases = [
+            ('put "k', "without its end"), ('put "k" "\\q"', "backslash"), ('puts "a"', "KEY=VALUE"), ('puts "a"="b" "c"!', "commas"),
+            ("puts =61", "neither text"), ('get "k"x', "apart by blanks"), ('get "k""l"', "apart by blanks"), ('put "k" "a" # note', "takes 2;"),
+            ('put "" "a"', "a key has 1 to 255"), ("put - 61", "a key has 1 to 255"), ('put "%s" "a"' % ("k" * 256), "and this one 256"),
+            ('put "k" "%s"' % ("v" * 65537), "at most 65536"), ("put user 61", "neither text"), ("put 6B 61", "neither text"), ("get", "takes 1;"),
+            ('take "../my file"', "without quotes"), ("say hello", "no command"), ('puts "a"="b", ""!', "a key has"),
+            (b'put "k" "\xff"', "UTF-8"),
+        ]
+        for line, said in cases:
+            line = line if isinstance(line, bytes) else line.encode()
+            status, out, why = run_tool("text.py", "script", data=b'put "k" "a"\n' + line + b"\n")
+            self.assertEqual((status, out, "line 2" in why, said in why), (1, "", True, True), (line, why))
 
     def test_answers(self):
         answers = "put 757365723a31 -> 0/1\nget 6b -> 1/0/1=616263 2/0/1! 3/0/1=? 4/0/1= 5/0/1=ff00\n"
@@ -236,6 +282,17 @@ class Picture(InARoom):
     def test_a_damaged_journal(self):
         damaged = path_of("acceptance", "node_over_a_cut_record", "data", "depot.journal")
         self.assertEqual(run_tool("picture.py", damaged)[0], 2)
+
+    def test_files_without_a_story(self):
+        wrong = TRANSCRIPT.replace(b"get 2 6b", b"put 2 6b")
+        cases = [
+            ([path_of("README.md")], 2), ([self.put("E", b"")], 2), ([self.path("absent")], 3), ([self.room], 3),
+            (["--schedule", SCHEDULE, self.put("W", wrong)], 2), (["--schedule", SCHEDULE, self.put("C", TRANSCRIPT[:90])], 2),
+            (["--schedule", path_of("README.md"), self.put("T", TRANSCRIPT)], 2), (["--schedule", SCHEDULE, self.path("absent")], 3),
+        ]
+        for words, status in cases:
+            found, out, why = run_tool("picture.py", *words)
+            self.assertEqual((found, out, why.count("\n")), (status, "", 1), why)
 
 
 if __name__ == "__main__":

@@ -43,6 +43,18 @@ class Walks(InARoom):
         out, why = self.typed(blocks_of("README.md", "A first node")[0])
         self.assertEqual((out[1:3], why), (["put 6b -> 0/1", "get 6b -> 1/0/1=61"], ""))
         self.assertIn("own statements: 1, 255 of 256 left", out)
+        made = self.made()
+        self.assertEqual(os.stat(self.path("seed")).st_mode & 0o77, 0)
+        self.typed(blocks_of("README.md", "A first node")[0])
+        self.assertEqual(self.made(), made)
+
+    def made(self):
+        """What a second walk must not write over."""
+        found = []
+        for name in ("seed", "roster", "one/depot.journal"):
+            with open(self.path(name), "rb") as file:
+                found.append(file.read())
+        return found
 
     def test_the_first_node_of_the_tutorial(self):
         make, run, printed, look, guarded = blocks_of("docs/TUTORIAL.md", "Your first node")
