@@ -79,13 +79,14 @@ fn reader_of<S: Scheme, N: LocalNode<Of = S>>(
     let graph = node.graph();
     let trimmed = trimmed_below(alloc, graph, leaves)?;
     let trimmed = trimmed.as_slice();
+    // The state comes last, so that none is given up where memory runs out.
     Ok(Trimmed {
         alloc,
-        state: state_without(alloc, node, graph, trimmed, roster, scheme)?,
         values: values_left(alloc, node, trimmed)?,
         named: names_left(alloc, graph, trimmed)?,
         counts: node.counts(),
         marks: Marks::new(alloc, marks_of(alloc, graph, trimmed)?)?,
+        state: state_without(alloc, node, graph, trimmed, roster, scheme)?,
     })
 }
 
