@@ -2,6 +2,8 @@
 ghost use Rattle.std.specs.Prelude.{◌≡◌, ◌≢◌, ◌≤◌, [], ℕ, List, length, false, nat_le, Some, None, Ok, IfOk, IfErr, IfSome, IsOk, refl};
 ghost use Rattle.depot_answers.specs.AnswerTexts.{name_of_settled, text_of_number, spaced, text_of_named};
 ghost use Rattle.depot_node_lines.specs.Printing.{shown_text};
+ghost use Rattle.depot_base.specs.Sized.{IsValue};
+ghost use Rattle.depot_model.specs.Checkpoints.{checkpoint_key};
 ghost use Rattle.depot_model.specs.Hello.{hello_of, text_of_hello};
 ghost use Rattle.depot_model.specs.Opening.{made_text, make_of};
 ghost use Rattle.depot_model.specs.Receipts.{receipts};
@@ -278,16 +280,54 @@ impl<S: Scheme + Copy, G: Signer<Of = S> + Copy> MemHost<S, G> {
         requires { make_of (node_setting S.verifies self.node.store) self.node.store.records ≡ made_text text }
         ensures { IfOk result (λ outcome. Acts ⟦<MemHost<S, G> as Actor>⟧.view self (λ here sign correct. checkpoint_by here correct) outcome) }
     {
+        match checkpoint_put(self.start_config.alloc, &text) {
+            Ok(CheckpointPut { key, value }) => self.put_made(key, value, text),
+            Err(Memory) => {
+                drop(self);
+                Err(Memory)
+            }
+        }
+    }
+
+    /// Puts a value under a key, which are the text of the checkpoint that it made and its key.
+    fn put_made(
+        self,
+        key: Key,
+        value: Value,
+        text: Bytes,
+    ) -> Result<EventOutcome<MemHost<S, G>>, Memory>
+        requires made { make_of (node_setting S.verifies self.node.store) self.node.store.records ≡ made_text text }
+        requires key { key ≡ checkpoint_key text }
+        requires value { value ≡ text }
+        ensures { IfOk result (λ outcome. Acts ⟦<MemHost<S, G> as Actor>⟧.view self (λ here sign correct. checkpoint_by here correct) outcome) }
+    {
         let MemHost {
             mut node,
             start_config,
         } = self;
-        let key = checkpoint_key(start_config.alloc, text.as_slice())?;
-        let value = Value::from_bytes(text.copy()?);
         let done = node.put(key, value);
         let printed = checkpoint_printed(start_config.alloc, text, done);
         start_config.hosted(node, printed)
     }
+}
+
+/// What is put to sign a checkpoint.
+struct CheckpointPut {
+    /// The checkpoint's key.
+    key: Key,
+    /// Its text.
+    value: Value,
+}
+
+/// What signs the checkpoint of this text, where it is put.
+fn checkpoint_put(alloc: Global, text: &Bytes) -> Result<CheckpointPut, Memory>
+    requires { IsValue text.now }
+    ensures key { IfOk result (λ made. made.key ≡ checkpoint_key text.now) }
+    ensures value { IfOk result (λ made. made.value ≡ text.now) }
+{
+    let key = checkpoint_key(alloc, text.as_slice())?;
+    let value = Value::from_bytes(text.copy()?);
+    Ok(CheckpointPut { key, value })
 }
 
 impl<S: Scheme + Copy, G: Signer<Of = S> + Copy> Numbered for MemHost<S, G> {
