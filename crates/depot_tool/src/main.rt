@@ -1,8 +1,8 @@
 //! The program `depot`.
 //!
 //! It takes the numbers of standard streams that were closed, collects its words, makes the real shelf, disk and sink, calls
-//! `depot` and ends with its status. All that it does is said by the contract of `depot` in `depot_cli`; what the real adapters
-//! do is trusted (`depot_outside`).
+//! `depot` and ends with its status. What `depot` does is said by its contract in `depot_cli`; what the real adapters do is
+//! trusted (`depot_outside`), and so is what this file does before it, which runs of the program try.
 #![tactic(auto)]
 
 use depot_base::Memory;
