@@ -1,5 +1,5 @@
 -- Trace files that are handed in one after the other, and the first of them that is refused.
-use Rattle.std.specs.Prelude.{◌≡◌, ◌⊎◌, ℕ, ◌+◌, ◌<◌, ◌==◌, List, [], ◌∷◌, map, take, Bool, true, false, IsTrue, Option, Some, None, Err, slice_get}
+use Rattle.std.specs.Prelude.{◌≡◌, ◌⊎◌, ℕ, ◌+◌, ◌<◌, ◌≤◌, ◌==◌, List, [], ◌∷◌, ◌++◌, map, take, Bool, true, false, IsTrue, Option, Some, None, Err, slice_get}
 use Rattle.std.specs.List.{AllByRecursion, list_any}
 use Rattle.depot_base.specs.Reading.{Decodes}
 use Rattle.depot_base.specs.declared.fault.DecodeError.TheVariants as errors
@@ -89,6 +89,16 @@ pub record IsRefusedAt (tells : Bool) (file : List ℕ → Option (List ℕ)) (f
   pub at : slice_get names place ≡ Some name
   pub refused : IsRefusedFile tells file failed listed before name why
 
+-- Behind some files the first of these names were loaded, and all of them but maybe the last are traces for this audit.
+pub record HasLoadedTraces (tells : Bool) (file : List ℕ → Option (List ℕ)) (loads : Loads) (listed : List RosterEntry) (first names : List (List ℕ)) : Type 0 where
+  pub count : ℕ
+  pub good : ℕ
+  pub loaded : HasLoaded loads (first ++ take count names)
+  pub traces : List Trace
+  pub handed : AreHanded tells file (take good names) traces
+  pub audited : AreForAudit listed traces
+  pub last_alone : count ≤ good + 1
+
 -- what came of the files of these names, and which of them were loaded
 abbrev pub IsGathered : Bool → (List ℕ → Option (List ℕ)) → (failed calm : Type 0) → Loads → List RosterEntry → List (List ℕ) → GatheredTraces → Type 0
 IsGathered tells file failed calm loads listed names (gathered.Traces ts) = HasLoaded loads names × (AreHanded tells file names ts × (AreForAudit listed ts × calm))
@@ -97,3 +107,7 @@ IsGathered tells file failed calm loads listed names (gathered.Refused place why
 -- the same of a shelf as it was and as it is
 abbrev pub HasGathered : {F : Type 0} → Ghosts F → (old new : F) → List RosterEntry → List (List ℕ) → GatheredTraces → Type 0
 HasGathered g old new listed names traces = IsGathered (g.tells old) (g.file old) (g.faults old < g.faults new) (g.faults new ≡ g.faults old) (loads g old new) listed names traces
+
+-- whatever came of them: which files were loaded
+abbrev pub GathersTraces : {F : Type 0} → Ghosts F → (old new : F) → List RosterEntry → List (List ℕ) → Type 0
+GathersTraces g old new listed names = HasLoadedTraces (g.tells old) (g.file old) (loads g old new) listed [] names

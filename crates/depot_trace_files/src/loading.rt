@@ -1,7 +1,7 @@
 //! Loads trace files one by one.
 ghost use Rattle.std.specs.Prelude.{◌≡◌, ◌<◌, ◌≤◌, ◌∷◌, ℕ, [], length, take, IfOk};
 ghost use Rattle.depot_outside.specs.Told.{loads, HasLoaded};
-ghost use Rattle.depot_trace_files.specs.Handing.{HasGathered, IsCalm, IsTakenTrace, IsToldTrace, has_trace_of};
+ghost use Rattle.depot_trace_files.specs.Handing.{GathersTraces, HasGathered, IsCalm, IsTakenTrace, IsToldTrace, has_trace_of};
 
 use depot_base::{Memory, NodeId};
 use depot_lines::FileName;
@@ -96,7 +96,8 @@ pub fn take_file<F: Shelf>(
     }
 }
 
-/// The traces of these files, loaded one after the other up to the first that is refused.
+/// The traces of these files, loaded one after the other up to the first that is refused. Also where memory runs out, no file is loaded
+/// behind one that isn't a trace for this audit.
 pub fn gather<F: Shelf>(
     alloc: Global,
     shelf: &mut F,
@@ -106,6 +107,7 @@ pub fn gather<F: Shelf>(
     requires { length names.now ≤ 4294967295 }
     ensures gathered { IfOk result (HasGathered F.Shelf shelf.old shelf.new roster.now names.now) }
     ensures loads { (n : ℕ) × HasLoaded (loads F.Shelf shelf.old shelf.new) (take n names.now) }
+    ensures traces { GathersTraces F.Shelf shelf.old shelf.new roster.now names.now }
     ensures files { F.file shelf.new ≡ F.file shelf.old }
     ensures stores { F.stores shelf.new ≡ F.stores shelf.old }
 {
