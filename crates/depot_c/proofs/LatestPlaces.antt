@@ -9,13 +9,13 @@ use Rattle.depot_base.specs.declared.record.Record.{Record}
 use Rattle.depot_base.specs.declared.update.Update.{Update}
 use Rattle.depot_base.specs.declared.write.Wrote.{Wrote}
 use Rattle.depot_base.specs.declared.write.Wrote.TheVariants.{Put, Gone}
-use Rattle.depot_answers.specs.AnswerTexts.{text_of_write}
 use Rattle.depot_model.specs.Contents.{NamedValue, Sighting, Writes, held_value, not_held}
 use Rattle.depot_model.specs.Items.{updates_at}
 use Rattle.depot_model.specs.Journal.{accepted, held_as, seen_as, seen_under}
 use Rattle.depot_model.specs.Lists.{IsIn}
 use Rattle.depot_model.specs.Order.{AreLatestIn}
 use Rattle.depot_local.specs.ShownValues.{value_seen}
+use Rattle.depot_c.specs.ByteForms.{bytes_of_write}
 use Rattle.depot_c.specs.NodeViews.{HasLatest, IsPlaceOfShown, IsAnswerText, Reading, NodeView, CallAnswer, sighting_of_write, sighting_of_value}
 use Rattle.depot_c.specs.declared.answer.Answer.TheVariants as answer
 use Rattle.depot_c.specs.declared.refused.Refused.TheVariants as refused
@@ -78,24 +78,22 @@ told_text P text (Ok (answer.Text t)) is one other = subst (λ (t : List ℕ). P
 told_text P text (Err refused.Memory) is one other = other
 told_text P text (Ok answer.Nothing) is one other = absurd is
 told_text P text (Ok (answer.Number n)) is one other = absurd is
-told_text P text (Ok (answer.Put done)) is one other = absurd is
-told_text P text (Ok (answer.Bundle b)) is one other = absurd is
+told_text P text (Ok (answer.Reply r)) is one other = absurd is
 told_text P text (Err refused.Input) is one other = absurd is
 told_text P text (Err refused.Order) is one other = absurd is
-told_text P text (Err refused.Stopped) is one other = absurd is
 told_text P text (Err refused.Absent) is one other = absurd is
 told_text P text (Err (refused.Roster e)) is one other = absurd is
 told_text P text (Err (refused.Start e)) is one other = absurd is
-told_text P text (Err (refused.Put e)) is one other = absurd is
-told_text P text (Err (refused.Bundle e)) is one other = absurd is
+told_text P text (Err (refused.Unmet why)) is one other = absurd is
+told_text P text (Err (refused.Halted e)) is one other = absurd is
 told_text P text (Err (refused.Feed e)) is one other = absurd is
 
 pub read_so : (s : NodeView) (key : List ℕ) (place item : ℕ) (u : Update) (seen : Sighting) (told : CallAnswer) → IsPlaceOfShown s key place (Some item) → slice_get (accepted s.records) item ≡ Some u → seen ≡ seen_under s.records key u
-    → IsAnswerText (text_of_write (record { update = u; seen = seen })) told → Reading s key place told
+    → IsAnswerText (bytes_of_write u seen) told → Reading s key place told
 read_so s key place item u seen told is at shown text =
     let same : is.update ≡ u = one_update is.update u (sym is.shows ∙ at) in
-    told_text (Reading s key place) (text_of_write (record { update = u; seen = seen })) told text
-    (record { latest = is.latest; are = is.are; update = u; at = is.at ∙ ap (λ (x : Update). some_update x) same; shows = ap (λ (o : Sighting). text_of_write (record { update = u; seen = o })) shown }) tt
+    told_text (Reading s key place) (bytes_of_write u seen) told text
+    (record { latest = is.latest; are = is.are; update = u; at = is.at ∙ ap (λ (x : Update). some_update x) same; shows = ap (λ (o : Sighting). bytes_of_write u o) shown }) tt
 
 -- of a value it is the one that is held, or that none is
 by_value : (o value : Option (List ℕ)) → value ≡ value_seen (option_map_or held_value o not_held) → sighting_of_value value ≡ option_map_or held_value o not_held

@@ -1,4 +1,5 @@
-mod AskedChanges
+mod AskedRequests
+mod ByteFormLaws
 mod Examples
 mod LatestPlaces
 mod NodeViewCalls

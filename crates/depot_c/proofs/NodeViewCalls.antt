@@ -3,16 +3,14 @@ use Rattle.std.proofs.Common.{◌≡◌, [], None, Result, Ok, Err, refl, arith}
 use Rattle.std.specs.Prelude.{IsErrOf}
 use Rattle.depot_feeds.specs.declared.feed_error.FeedError.{FeedError}
 use Rattle.depot_feeds.specs.declared.feed_error.FeedError.TheVariants as feed_error
-use Rattle.depot_gossip.specs.declared.bundle_error.BundleError.{BundleError}
-use Rattle.depot_gossip.specs.declared.bundle_error.BundleError.TheVariants as bundle_error
-use Rattle.depot_gossip.specs.declared.bundle_stream.Bundled.{Bundled}
 use Rattle.depot_model.specs.JournalCalls.{JournalView, KeepsDisk, StopsBy}
-use Rattle.depot_model.specs.declared.put_answers.PutDone.{PutDone}
-use Rattle.depot_model.specs.declared.put_answers.PutError.{PutError}
-use Rattle.depot_model.specs.declared.put_answers.PutError.TheVariants as put_error
 use Rattle.depot_model.proofs.JournalCallLaws.{never_answered, runs_on}
+use Rattle.depot_requests.specs.declared.reply.Halt.{Halt}
+use Rattle.depot_requests.specs.declared.reply.Halt.TheVariants as halt
+use Rattle.depot_requests.specs.declared.reply.Reply.{Reply}
+use Rattle.depot_requests.specs.declared.reply.Reply.TheVariants as reply
 use Rattle.depot_c.specs.Handles.{fed_as}
-use Rattle.depot_c.specs.NodeViews.{NodeView, Runs, RunsOn, bundled_as, put_as}
+use Rattle.depot_c.specs.NodeViews.{NodeView, Runs, RunsOn, replied_as}
 
 -- Nothing was answered for the disk, and the node runs.
 record IsCalm (t : NodeView) (stopped failed : Type 0) : Type 0 where
@@ -33,25 +31,18 @@ module _ {N : Type 0} {v : JournalView N} {old new : N} (s t : NodeView) where
         runs = record { running = runs_on s.stopped runs.running stops well; none = (after kept.0).0; never = (after kept.0).1 };
       }
 
-  pub put_runs : (r : Result PutDone PutError) → StopsBy s.stopped t.stopped (IsErrOf r put_error.Stopped) (IsErrOf r put_error.Disk) → KeepsDisk v old new (IsErrOf r put_error.Disk) → ((s.fails ≡ []) × (s.stop ≡ None) → v.is_faultless old) → (v.is_faultless new → (t.fails ≡ []) × (t.stop ≡ None)) → RunsOn s (put_as r) t
-  put_runs (Ok done) stops disk before after = λ runs. (calm stops disk before after runs).runs
-  put_runs (Err put_error.Memory) stops disk before after = λ runs. ((calm stops disk before after runs).runs, refl)
-  put_runs (Err put_error.Disk) stops disk before after = λ runs. absurd ((calm stops disk before after runs).well refl)
-  put_runs (Err put_error.Stopped) stops disk before after = λ runs. absurd ((calm stops disk before after runs).ran refl)
-  put_runs (Err (put_error.Spent n)) stops disk before after = λ runs. ((calm stops disk before after runs).runs, refl)
-  put_runs (Err (put_error.Tips n)) stops disk before after = λ runs. ((calm stops disk before after runs).runs, refl)
-  put_runs (Err (put_error.Collides h)) stops disk before after = λ runs. ((calm stops disk before after runs).runs, refl)
-  put_runs (Err (put_error.Full what)) stops disk before after = λ runs. ((calm stops disk before after runs).runs, refl)
-
-  pub bundle_runs : (r : Result Bundled BundleError) → StopsBy s.stopped t.stopped (IsErrOf r bundle_error.Stopped) (IsErrOf r bundle_error.Disk) → KeepsDisk v old new (IsErrOf r bundle_error.Disk) → ((s.fails ≡ []) × (s.stop ≡ None) → v.is_faultless old) → (v.is_faultless new → (t.fails ≡ []) × (t.stop ≡ None)) → RunsOn s (bundled_as r) t
-  bundle_runs (Ok b) stops disk before after = λ runs. (calm stops disk before after runs).runs
-  bundle_runs (Err bundle_error.Memory) stops disk before after = λ runs. ((calm stops disk before after runs).runs, refl)
-  bundle_runs (Err bundle_error.Disk) stops disk before after = λ runs. absurd ((calm stops disk before after runs).well refl)
-  bundle_runs (Err bundle_error.Stopped) stops disk before after = λ runs. absurd ((calm stops disk before after runs).ran refl)
-  bundle_runs (Err (bundle_error.IllFormed at)) stops disk before after = λ runs. ((calm stops disk before after runs).runs, refl)
-  bundle_runs (Err (bundle_error.OtherRoster given mine)) stops disk before after = λ runs. ((calm stops disk before after runs).runs, refl)
-  bundle_runs (Err (bundle_error.Spent n)) stops disk before after = λ runs. ((calm stops disk before after runs).runs, refl)
-  bundle_runs (Err (bundle_error.Full what)) stops disk before after = λ runs. ((calm stops disk before after runs).runs, refl)
+  pub replied_runs : (r : Result Reply Halt) → StopsBy s.stopped t.stopped (IsErrOf r halt.Stopped) (IsErrOf r halt.Disk) → KeepsDisk v old new (IsErrOf r halt.Disk) → ((s.fails ≡ []) × (s.stop ≡ None) → v.is_faultless old) → (v.is_faultless new → (t.fails ≡ []) × (t.stop ≡ None)) → RunsOn s (replied_as r) t
+  replied_runs (Ok (reply.Put done)) stops disk before after = λ runs. (calm stops disk before after runs).runs
+  replied_runs (Ok (reply.Read words)) stops disk before after = λ runs. (calm stops disk before after runs).runs
+  replied_runs (Ok (reply.Hello hello text)) stops disk before after = λ runs. (calm stops disk before after runs).runs
+  replied_runs (Ok (reply.Bundle bytes counts more)) stops disk before after = λ runs. (calm stops disk before after runs).runs
+  replied_runs (Ok (reply.Stream report why)) stops disk before after = λ runs. (calm stops disk before after runs).runs
+  replied_runs (Ok (reply.Settled enough)) stops disk before after = λ runs. (calm stops disk before after runs).runs
+  replied_runs (Ok (reply.Checkpoint done text)) stops disk before after = λ runs. (calm stops disk before after runs).runs
+  replied_runs (Ok (reply.Refused why)) stops disk before after = λ runs. ((calm stops disk before after runs).runs, refl)
+  replied_runs (Err halt.Memory) stops disk before after = λ runs. ((calm stops disk before after runs).runs, refl)
+  replied_runs (Err halt.Disk) stops disk before after = λ runs. absurd ((calm stops disk before after runs).well refl)
+  replied_runs (Err halt.Stopped) stops disk before after = λ runs. absurd ((calm stops disk before after runs).ran refl)
 
   pub fed_runs : (r : Result (Unit {0}) FeedError) → StopsBy s.stopped t.stopped (IsErrOf r feed_error.Stopped) (IsErrOf r feed_error.Disk) → KeepsDisk v old new (IsErrOf r feed_error.Disk) → ((s.fails ≡ []) × (s.stop ≡ None) → v.is_faultless old) → (v.is_faultless new → (t.fails ≡ []) × (t.stop ≡ None)) → RunsOn s (fed_as r) t
   fed_runs (Ok done) stops disk before after = λ runs. (calm stops disk before after runs).runs

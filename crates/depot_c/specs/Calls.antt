@@ -58,5 +58,5 @@ ServesAsk (Some ask.Tally) n input v kept room w then result output = (result �
 ServesAsk (Some ask.Clear) n input v kept room w then result output = IsNewHandle w then × ((result ≡ number_of outcome.Done) × (output ≡ room))
 ServesAsk (Some a) n input v kept room w then result output = Performs a n input v result then w × (output ≡ room)
 
-abbrev pub Serves : ℕ → ℕ → List ℕ → HandleView → Answer → List ℕ → HandleView → Answer → ℕ → List ℕ → Type 0
-Serves op n input v kept room w then result output = ServesAsk (asked_by op) n input v kept room w then result output
+abbrev pub ServesCall : ℕ → ℕ → List ℕ → HandleView → Answer → List ℕ → HandleView → Answer → ℕ → List ℕ → Type 0
+ServesCall op n input v kept room w then result output = ServesAsk (asked_by op) n input v kept room w then result output

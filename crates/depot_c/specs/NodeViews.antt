@@ -1,30 +1,27 @@
 -- A node of a handle, and what its calls make of it.
-use Rattle.std.specs.Prelude.{◌≡◌, ◌≤◌, ◌⊎◌, ℕ, List, [], Bool, true, false, Option, Some, None, Result, Ok, Err, length, map, slice_get}
+use Rattle.std.specs.Prelude.{◌≡◌, ◌≤◌, ◌⊎◌, ℕ, List, [], Bool, true, false, Option, Some, None, Result, Ok, Err, length, map, slice_get, IsErrOf}
 use Rattle.depot_base.specs.declared.key.PublicKey.{PublicKey}
 use Rattle.depot_base.specs.declared.record.Record.{Record}
 use Rattle.depot_base.specs.declared.update.Update.{Update}
-use Rattle.depot_base.specs.declared.write.Change.{Change}
 use Rattle.depot_base.specs.declared.write.Wrote.{Wrote}
 use Rattle.depot_base.specs.declared.write.Wrote.TheVariants.{Put, Gone}
-use Rattle.depot_answers.specs.AnswerTexts.{text_of_write}
-use Rattle.depot_model.specs.Putting.{Puts}
-use Rattle.depot_model.specs.declared.put_answers.PutDone.{PutDone}
-use Rattle.depot_model.specs.declared.put_answers.PutError.{PutError}
-use Rattle.depot_model.specs.declared.put_answers.PutError.TheVariants as put_error
 use Rattle.depot_feeds.specs.declared.feed_error.FeedError.TheVariants as feed_error
-use Rattle.depot_gossip.specs.Bundling.{Bundles}
 use Rattle.depot_model.specs.Bundle.{Signs}
 use Rattle.depot_model.specs.Checks.{Setting}
 use Rattle.depot_model.specs.Contents.{Sighting, held_value, not_held, gone}
-use Rattle.depot_model.specs.Hello.{hello_of, text_of_hello}
 use Rattle.depot_model.specs.Journal.{accepted, seen_under}
 use Rattle.depot_model.specs.Order.{AreLatestIn}
 use Rattle.depot_model.specs.Records.{text_of_record}
 use Rattle.depot_node.specs.declared.start_error.StartError.TheVariants as start_error
-use Rattle.depot_gossip.specs.declared.bundle_error.BundleError.{BundleError}
-use Rattle.depot_gossip.specs.declared.bundle_error.BundleError.TheVariants as bundle_error
-use Rattle.depot_gossip.specs.declared.bundle_stream.Bundled.{Bundled}
 use Rattle.depot_outside.specs.declared.stops.Stop.{Stop}
+use Rattle.depot_model.specs.JournalCalls.{StopsBy}
+use Rattle.depot_requests.specs.declared.reply.Halt.{Halt}
+use Rattle.depot_requests.specs.declared.reply.Halt.TheVariants as halt
+use Rattle.depot_requests.specs.declared.reply.Reply.{Reply}
+use Rattle.depot_requests.specs.declared.reply.Reply.TheVariants as reply
+use Rattle.depot_requests.specs.declared.request.Request.{Request}
+use Rattle.depot_service.specs.RequestCalls.{Serves}
+use Rattle.depot_c.specs.ByteForms.{bytes_of_write}
 use Rattle.depot_c.specs.declared.answer.Answer.{Answer}
 use Rattle.depot_c.specs.declared.answer.Answer.TheVariants as answer
 use Rattle.depot_c.specs.declared.refused.Refused.{Refused}
@@ -81,13 +78,10 @@ pub record Runs (s : NodeView) : Type 0 where
 -- whether a call is refused for the disk
 abbrev pub for_disk : Refused → Bool
 for_disk (refused.Start start_error.Disk) = true
-for_disk (refused.Put put_error.Disk) = true
-for_disk (refused.Put put_error.Stopped) = true
-for_disk (refused.Bundle bundle_error.Disk) = true
-for_disk (refused.Bundle bundle_error.Stopped) = true
+for_disk (refused.Halted halt.Disk) = true
+for_disk (refused.Halted halt.Stopped) = true
 for_disk (refused.Feed feed_error.Disk) = true
 for_disk (refused.Feed feed_error.Stopped) = true
-for_disk refused.Stopped = true
 for_disk other = false
 
 -- a node that runs goes on, and refuses nothing for the disk
@@ -95,19 +89,20 @@ abbrev pub RunsOn : {A : Type 0} → NodeView → Result A Refused → NodeView 
 RunsOn s (Ok a) t = Runs s → Runs t
 RunsOn s (Err r) t = Runs s → Runs t × (for_disk r ≡ false)
 
--- ---- putting
+-- ---- requests
 
--- what a call answers for a put
-abbrev pub put_as : Result PutDone PutError → CallAnswer
-put_as (Ok done) = Ok (answer.Put done)
-put_as (Err e) = Err (refused.Put e)
+-- what a call answers for a node's reply, or where the node was kept from one
+abbrev pub replied_as : Result Reply Halt → CallAnswer
+replied_as (Ok (reply.Refused why)) = Err (refused.Unmet why)
+replied_as (Ok other) = Ok (answer.Reply other)
+replied_as (Err e) = Err (refused.Halted e)
 
--- What a node answers to a put of changes, and its journal after it.
-abbrev pub Putting : NodeView → List Change → CallAnswer → NodeView → Type 0
-Putting s changes (Err refused.Memory) t = t ≡ s
-Putting s changes (Ok (answer.Put done)) t = Puts s.here s.records changes (Ok done) t.records
-Putting s changes (Err (refused.Put e)) t = Puts s.here s.records changes (Err e) t.records
-Putting s changes other t = ⊥
+-- What a node answers to a request, and what it is then: it replies what is defined of the request, its journal is so, and it stops where its disk failed.
+pub record Replying (s : NodeView) (r : Request) (told : CallAnswer) (t : NodeView) : Type 0 where
+  pub replied : Result Reply Halt
+  pub is : told ≡ replied_as replied
+  pub serves : Serves s.here s.sign s.records r replied t.records
+  pub stops : StopsBy s.stopped t.stopped (IsErrOf replied halt.Stopped) (IsErrOf replied halt.Disk)
 
 -- ---- reading
 
@@ -130,9 +125,9 @@ abbrev pub IsPlaceOfShown : NodeView → List ℕ → ℕ → Option ℕ → Typ
 IsPlaceOfShown s key place (Some item) = IsLatestAt s key place (λ u. slice_get (accepted s.records) item ≡ Some u)
 IsPlaceOfShown s key place None = HasLatest s key place
 
--- What a read of a key answers for a place of its latest writes: the write in the words of the program's lines.
+-- What a read of a key answers for a place of its latest writes: the write in bytes.
 abbrev pub Reading : NodeView → List ℕ → ℕ → CallAnswer → Type 0
-Reading s key place (Ok (answer.Text text)) = IsLatestAt s key place (λ u. text ≡ text_of_write (record { update = u; seen = seen_under s.records key u }))
+Reading s key place (Ok (answer.Text text)) = IsLatestAt s key place (λ u. text ≡ bytes_of_write u (seen_under s.records key u))
 Reading s key place (Err refused.Absent) = HasLatest s key place
 Reading s key place (Err refused.Memory) = Unit {0}
 Reading s key place other = ⊥
@@ -143,25 +138,6 @@ Valuing s key place (Ok (answer.Text text)) = IsLatestAt s key place (λ u. seen
 Valuing s key place (Err refused.Absent) = HasLatest s key place ⊎ IsLatestAt s key place (λ u. (v : List ℕ) → seen_under s.records key u ≡ held_value v → ⊥)
 Valuing s key place (Err refused.Memory) = Unit {0}
 Valuing s key place other = ⊥
-
--- ---- hellos, bundles, streams
-
--- the node's hello
-abbrev pub Helloing : NodeView → CallAnswer → Type 0
-Helloing s (Ok (answer.Text text)) = text ≡ text_of_hello (hello_of s.here s.records)
-Helloing s (Err refused.Memory) = Unit {0}
-Helloing s other = ⊥
-
--- what a call answers for a hello
-abbrev pub bundled_as : Result Bundled BundleError → CallAnswer
-bundled_as (Ok b) = Ok (answer.Bundle b)
-bundled_as (Err e) = Err (refused.Bundle e)
-
--- what a node answers to a hello, and its journal after it
-abbrev pub Bundling : NodeView → List ℕ → CallAnswer → NodeView → Type 0
-Bundling s hello (Ok (answer.Bundle b)) t = Bundles s.here s.sign s.records s.stopped hello (Ok b) t.records
-Bundling s hello (Err (refused.Bundle e)) t = Bundles s.here s.sign s.records s.stopped hello (Err e) t.records
-Bundling s hello other t = ⊥
 
 -- ---- records
 

@@ -2,21 +2,36 @@
 ghost use Rattle.std.specs.Prelude.{◌≡◌};
 ghost use Rattle.depot_c.specs.Asked.{asked_by};
 
+/// Which request a node is asked to do.
+#[derive(Clone, Copy, Debug, PartialEq, Eq)]
+pub enum RequestKind {
+    /// To give a key a value: the number is the key's length, the input the key and behind it the value.
+    Put,
+    /// To give keys values and to delete keys: the number is how many changes there are, the input their bytes.
+    Puts,
+    /// To say hello.
+    Hello,
+    /// To make a bundle: the input is the hello.
+    Bundle,
+    /// To give receipts: the number is how many ids there are, the input their bytes.
+    Receipt,
+    /// To tell whether at least so many nodes gave a receipt: the number is how many, the input the id.
+    Settled,
+    /// To make a checkpoint and to sign it.
+    Checkpoint,
+    /// To sign a checkpoint: the input is its text.
+    Sign,
+}
+
 /// What a node is asked.
 #[derive(Clone, Copy, Debug, PartialEq, Eq)]
 pub enum NodeAsk {
-    /// To give a key a value: the number is the key's length, the input the key and behind it the value.
-    Put,
-    /// To give keys values and to delete keys: the input is the word of the changes, as in a script.
-    Puts,
+    /// To do a request.
+    Request(RequestKind),
     /// For a latest write of a key: the number is its place, the input the key.
     Latest,
     /// For the value of a latest write of a key: the number is its place, the input the key.
     Value,
-    /// For its hello.
-    Hello,
-    /// For a bundle: the input is the hello.
-    Bundle,
     /// How many records its journal has.
     Count,
     /// For the text of a record: the number is its place.
@@ -36,8 +51,6 @@ pub enum Ask {
     Seq,
     /// For a count of the bundle: the number is its place.
     Tally,
-    /// To let go of all that it keeps.
-    Clear,
     /// To keep a roster: the input is its text.
     Roster,
     /// To make a key and keep it: the number is the height, the input the seed.
@@ -46,6 +59,8 @@ pub enum Ask {
     Start,
     /// To end the node.
     End,
+    /// To let go of all that it keeps.
+    Clear,
     /// To feed a piece of a stream, which is the input.
     Feed,
     /// What became of the stream, which ends.
@@ -57,28 +72,32 @@ pub enum Ask {
 }
 
 /// What each number asks, as include/depot.h has them.
-const OPERATIONS: [Option<Ask>; 21] = [
+const OPERATIONS: [Option<Ask>; 25] = [
     Some(Ask::Length),
+    Some(Ask::Copy),
+    Some(Ask::Number),
+    Some(Ask::Seq),
+    Some(Ask::Tally),
     Some(Ask::Roster),
     Some(Ask::Key),
     Some(Ask::Start),
-    Some(Ask::Tally),
     Some(Ask::End),
-    Some(Ask::Copy),
     Some(Ask::Clear),
-    Some(Ask::Number),
-    Some(Ask::Seq),
-    Some(Ask::Node(NodeAsk::Put)),
-    Some(Ask::Node(NodeAsk::Latest)),
-    Some(Ask::Node(NodeAsk::Value)),
-    Some(Ask::Node(NodeAsk::Hello)),
-    Some(Ask::Node(NodeAsk::Bundle)),
+    Some(Ask::Node(NodeAsk::Request(RequestKind::Put))),
+    Some(Ask::Node(NodeAsk::Request(RequestKind::Puts))),
+    Some(Ask::Node(NodeAsk::Request(RequestKind::Hello))),
+    Some(Ask::Node(NodeAsk::Request(RequestKind::Bundle))),
+    Some(Ask::Node(NodeAsk::Request(RequestKind::Receipt))),
+    Some(Ask::Node(NodeAsk::Request(RequestKind::Settled))),
+    Some(Ask::Node(NodeAsk::Request(RequestKind::Checkpoint))),
+    Some(Ask::Node(NodeAsk::Request(RequestKind::Sign))),
     Some(Ask::Feed),
     Some(Ask::FeedEnd),
+    Some(Ask::Refusal),
+    Some(Ask::Node(NodeAsk::Latest)),
+    Some(Ask::Node(NodeAsk::Value)),
     Some(Ask::Node(NodeAsk::Count)),
     Some(Ask::Node(NodeAsk::Record)),
-    Some(Ask::Node(NodeAsk::Puts)),
-    Some(Ask::Refusal),
 ];
 
 impl Ask {

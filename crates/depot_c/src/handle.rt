@@ -13,7 +13,7 @@ use crate::starting::{node_of, start};
 use depot_answers::{Closing, refusal, report};
 use depot_base::limits::{GREATEST_HEIGHT, LEAST_HEIGHT};
 use depot_base::{Bytes, Hash32};
-use depot_gossip::{Feed, FeedError, Report};
+use depot_feeds::{Feed, FeedError, Report};
 use depot_model::Signer;
 use depot_sign::Roster;
 use depot_winter::WinterSigner;

@@ -7,14 +7,16 @@
 //! - `judging` judges the text of a proof; it keeps nothing.
 //! - `exports` has the handle's exports, `serving` a call, `handle` what a handle keeps and does, `starting` its starts and
 //!   `node_calls` what it asks of a node. Contracts see a handle as a `HandleView` and a node as a `NodeView` (specs/).
-//! - `ask` has the operations, `answer` what they answer, `refused` and `outcome` why they don't, in words and as a status.
+//! - `ask` has the operations, `requests` the request that a number and bytes are, `answer` what is answered, `refused` and `outcome`
+//!   why something isn't, in words and as a status.
 //! - `shared_signer` is a key that serves more than one start.
 //!
 //! A node of a handle is in memory, and its caller keeps its records: after each call the new ones, in their order, before it uses the
 //! answer. The kit's gate lets no crate call the system but by a runtime, and no runtime crosses to C.
 //!
-//! What a node answers and what its journal is then are the definitions that `depot_node` and `depot_gossip` are proved by. What
-//! the caller has to uphold stands in include/depot.h and in docs/THREATS.md: no proof reaches it.
+//! What a node replies to a request and what its journal is then is defined in `depot_requests`, for scripts, schedules and callers
+//! alike; of a stream it is what `depot_feeds` has. What the caller has to uphold stands in include/depot.h and in docs/THREATS.md: no
+//! proof reaches it.
 #![tactic(auto)]
 
 mod answer;
@@ -26,6 +28,7 @@ mod node_calls;
 mod node_view;
 mod outcome;
 mod refused;
+mod requests;
 mod serving;
 mod shared_signer;
 mod starting;

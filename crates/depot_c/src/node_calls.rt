@@ -1,110 +1,61 @@
 //! What a node does for a caller.
-ghost use Rattle.std.specs.Prelude.{◌≡◌, false, option_copied};
-ghost use Rattle.depot_base.specs.Sized.{IsKey};
-ghost use Rattle.depot_base.specs.Writes.{one_change, wrote_under};
-ghost use Rattle.depot_answers.specs.AnswerTexts.{text_of_write};
+ghost use Rattle.std.specs.Prelude.{◌≡◌, ◌++◌, false, IfOk, OnOk, option_copied};
+ghost use Rattle.depot_base.specs.Writes.{wrote_under};
 ghost use Rattle.depot_answers.specs.Sightings.{sighting_of_seen};
-ghost use Rattle.depot_c.specs.NodeViews.{Bundling, Helloing, IsPlaceOfShown, IsAnswerText, Putting, Reading, Recording, RunsOn, Stays, Valuing, sighting_of_write, sighting_of_value};
-ghost use Rattle.depot_c.specs.Serving.{AsksNode, ChangesGiven, IsPutKey, KeyGiven, OfKey, PuttingAll, PuttingAt};
+ghost use Rattle.depot_requests.specs.Requests.{IsRequest};
+ghost use Rattle.depot_c.specs.ByteForms.{bytes_of_sighting, bytes_of_write};
+ghost use Rattle.depot_c.specs.NodeViews.{IsPlaceOfShown, IsAnswerText, Reading, Recording, Replying, RunsOn, Stays, Valuing, replied_as, sighting_of_write, sighting_of_value};
+ghost use Rattle.depot_c.specs.Serving.{AsksNode, OfKey, Requesting};
 
 use crate::answer::Answer;
-use crate::ask::NodeAsk;
+use crate::ask::{NodeAsk, RequestKind};
 use crate::node_view::{HasNodeView, Over};
 use crate::refused::Refused;
-use depot_answers::{Seen, write};
-use depot_base::limits::MOST_VALUE;
-use depot_base::{Bytes, Changes, Key, LengthError, Update, Value, Wrote};
-use depot_gossip::{bundle, hello};
-use depot_lines::spelling::{is_checkpoint_key, is_receipt_key};
-use depot_lines::word_readers::changes;
-use depot_lines::{Keys, LineError, Parts};
+use crate::requests::{key_of, request_of};
+use depot_answers::Seen;
+use depot_base::{Bytes, Key, Memory, Update, Wrote};
 use depot_local::LocalNode;
 use depot_model::Replica;
+use depot_requests::{Halt, Reply, Request};
+use depot_service::serve;
 use std::alloc::Global;
 
-/// The key that the input is.
-fn key_of(alloc: Global, input: &[u8]) -> Result<Key, Refused>
-    ensures { KeyGiven IsKey input.now result }
+/// The answer to a request: the reply, or why there is none.
+fn answer_of(replied: Result<Reply, Halt>) -> Result<Answer, Refused>
+    ensures { result ≡ replied_as replied }
 {
-    match Key::new(alloc, input) {
-        Ok(key) => Ok(key),
-        Err(LengthError::Memory) => Err(Refused::Memory),
-        Err(LengthError::Length(_)) => Err(Refused::Input),
+    match replied {
+        Ok(Reply::Refused(reason)) => Err(Refused::Unmet(reason)),
+        Ok(reply) => Ok(Answer::Reply(reply)),
+        Err(halt) => Err(Refused::Halted(halt)),
     }
 }
 
-/// The key that the input is, of those that a node may be asked to write. One that a receipt or a checkpoint has is refused: under it a caller
-/// would sign what nothing looked into.
-fn put_key_of(alloc: Global, input: &[u8]) -> Result<Key, Refused>
-    ensures { KeyGiven IsPutKey input.now result }
-{
-    if is_receipt_key(input) || is_checkpoint_key(input) {
-        return Err(Refused::Input);
-    }
-    key_of(alloc, input)
-}
-
-/// The changes that the input is the word of.
-fn changes_of(alloc: Global, input: &[u8]) -> Result<Changes, Refused>
-    ensures { ChangesGiven input.now result }
-{
-    let mut words = Parts::new(input, b' ');
-    match changes(alloc, &mut words, Keys::Put) {
-        Ok(changes) => {
-            if words.is_done() {
-                Ok(changes)
-            } else {
-                Err(Refused::Input)
-            }
-        }
-        Err(LineError::Memory) => Err(Refused::Memory),
-        Err(LineError::In(_)) => Err(Refused::Input),
-    }
-}
-
-/// Gives a key a value.
-fn put_one(node: &mut Over, key: Key, value: Value) -> Result<Answer, Refused>
+/// Does a request.
+fn reply_to(alloc: Global, node: &mut Over, request: Request) -> Result<Answer, Refused>
+    requires { IsRequest request }
     ensures stays { Stays (⟦<Over as HasNodeView>⟧.node_view node.old) (⟦<Over as HasNodeView>⟧.node_view node.new) }
     ensures runs { RunsOn (⟦<Over as HasNodeView>⟧.node_view node.old) result (⟦<Over as HasNodeView>⟧.node_view node.new) }
-    ensures puts { Putting (⟦<Over as HasNodeView>⟧.node_view node.old) (one_change key value) result (⟦<Over as HasNodeView>⟧.node_view node.new) }
+    ensures replies { Replying (⟦<Over as HasNodeView>⟧.node_view node.old) request result (⟦<Over as HasNodeView>⟧.node_view node.new) }
 {
-    match node.put(key, value) {
-        Ok(done) => Ok(Answer::Put(done)),
-        Err(error) => Err(Refused::Put(error)),
-    }
+    answer_of(serve(alloc, node, request))
 }
 
-/// Gives the key in front of the input the value behind it. Input where the front is no key that a node may be asked to write, or the rest no value.
-fn put(alloc: Global, node: &mut Over, length: u64, input: &[u8]) -> Result<Answer, Refused>
+/// Does the request that a number and the input ask for.
+fn do_request(
+    alloc: Global,
+    node: &mut Over,
+    kind: RequestKind,
+    number: u64,
+    input: &[u8],
+) -> Result<Answer, Refused>
     ensures stays { Stays (⟦<Over as HasNodeView>⟧.node_view node.old) (⟦<Over as HasNodeView>⟧.node_view node.new) }
     ensures runs { RunsOn (⟦<Over as HasNodeView>⟧.node_view node.old) result (⟦<Over as HasNodeView>⟧.node_view node.new) }
-    ensures puts { PuttingAt length input.now (⟦<Over as HasNodeView>⟧.node_view node.old) result (⟦<Over as HasNodeView>⟧.node_view node.new) }
+    ensures requests { Requesting kind number input.now (⟦<Over as HasNodeView>⟧.node_view node.old) result (⟦<Over as HasNodeView>⟧.node_view node.new) }
 {
-    if length > input.len() as u64 {
-        return Err(Refused::Input);
-    }
-    let (key, value) = input.split_at(length as usize);
-    if value.len() > MOST_VALUE {
-        return Err(Refused::Input);
-    }
-    let key = put_key_of(alloc, key)?;
-    match Value::new(alloc, value) {
-        Ok(value) => put_one(node, key, value),
-        Err(LengthError::Memory) => Err(Refused::Memory),
-        Err(LengthError::Length(_)) => unreachable!(),
-    }
-}
-
-/// Does the changes that the input is the word of.
-fn puts(alloc: Global, node: &mut Over, input: &[u8]) -> Result<Answer, Refused>
-    ensures stays { Stays (⟦<Over as HasNodeView>⟧.node_view node.old) (⟦<Over as HasNodeView>⟧.node_view node.new) }
-    ensures runs { RunsOn (⟦<Over as HasNodeView>⟧.node_view node.old) result (⟦<Over as HasNodeView>⟧.node_view node.new) }
-    ensures puts { PuttingAll input.now (⟦<Over as HasNodeView>⟧.node_view node.old) result (⟦<Over as HasNodeView>⟧.node_view node.new) }
-{
-    let changes = changes_of(alloc, input)?;
-    match node.put_all(changes) {
-        Ok(done) => Ok(Answer::Put(done)),
-        Err(error) => Err(Refused::Put(error)),
+    match request_of(alloc, kind, number, input) {
+        Ok(request) => reply_to(alloc, node, request),
+        Err(refused) => Err(refused),
     }
 }
 
@@ -139,13 +90,40 @@ fn held(value: Option<&[u8]>) -> Seen<'_>
     }
 }
 
-/// A write that a read shows, in words.
-fn shown(alloc: Global, update: &Update, seen: Seen<'_>) -> Result<Answer, Refused>
-    ensures { IsAnswerText (text_of_write (record { update = update.now; seen = sighting_of_seen seen.entry })) result }
+/// Adds the bytes of what a read shows of a write.
+#[tactic(auto, using(depot_base::proofs::Writing::texts))]
+fn add_seen(out: &mut Bytes, seen: Seen<'_>) -> Result<(), Memory>
+    ensures { OnOk result (out.new ≡ out.old ++ bytes_of_sighting (sighting_of_seen seen.entry)) }
 {
-    let mut line = Bytes::new(alloc);
-    match write(alloc, &mut line, update, seen) {
-        Ok(()) => Ok(Answer::Text(line)),
+    match seen {
+        Seen::Gone => out.push_u8(0),
+        Seen::Held(value) => {
+            out.push_u8(1)?;
+            out.push_all(value)
+        }
+        Seen::NotHeld => out.push_u8(2),
+    }
+}
+
+/// A write that a read shows, in bytes.
+#[tactic(auto, using(depot_base::proofs::Writing::texts))]
+fn write_bytes(alloc: Global, update: &Update, seen: Seen<'_>) -> Result<Bytes, Memory>
+    ensures { IfOk result (λ bytes. bytes ≡ bytes_of_write update.now (sighting_of_seen seen.entry)) }
+{
+    let mut out = Bytes::new(alloc);
+    out.push_u16(update.writer.number())?;
+    out.push_u32(update.seq)?;
+    out.push_u64(update.clock)?;
+    add_seen(&mut out, seen)?;
+    Ok(out)
+}
+
+/// The same as an answer.
+fn shown(alloc: Global, update: &Update, seen: Seen<'_>) -> Result<Answer, Refused>
+    ensures { IsAnswerText (bytes_of_write update.now (sighting_of_seen seen.entry)) result }
+{
+    match write_bytes(alloc, update, seen) {
+        Ok(bytes) => Ok(Answer::Text(bytes)),
         Err(_) => Err(Refused::Memory),
     }
 }
@@ -207,29 +185,6 @@ fn value(alloc: Global, node: &Over, place: u64, input: &[u8]) -> Result<Answer,
     value_at(alloc, node, &key, place)
 }
 
-/// The node's hello.
-fn tell(alloc: Global, node: &Over) -> Result<Answer, Refused>
-    requires { (⟦<Over as HasNodeView>⟧.node_view node.now).stopped ≡ false }
-    ensures { Helloing (⟦<Over as HasNodeView>⟧.node_view node.now) result }
-{
-    match hello(alloc, node) {
-        Ok(text) => Ok(Answer::Text(text)),
-        Err(_) => Err(Refused::Memory),
-    }
-}
-
-/// The node's bundle for a hello.
-fn answer_hello(alloc: Global, node: &mut Over, hello: &[u8]) -> Result<Answer, Refused>
-    ensures stays { Stays (⟦<Over as HasNodeView>⟧.node_view node.old) (⟦<Over as HasNodeView>⟧.node_view node.new) }
-    ensures runs { RunsOn (⟦<Over as HasNodeView>⟧.node_view node.old) result (⟦<Over as HasNodeView>⟧.node_view node.new) }
-    ensures bundles { Bundling (⟦<Over as HasNodeView>⟧.node_view node.old) hello.now result (⟦<Over as HasNodeView>⟧.node_view node.new) }
-{
-    match bundle(alloc, node, hello) {
-        Ok(bundled) => Ok(Answer::Bundle(bundled)),
-        Err(error) => Err(Refused::Bundle(error)),
-    }
-}
-
 /// The text of the record of a place.
 fn record(alloc: Global, node: &Over, place: u64) -> Result<Answer, Refused>
     ensures { Recording (⟦<Over as HasNodeView>⟧.node_view node.now) place result }
@@ -253,15 +208,12 @@ pub fn ask(
     ensures does { AsksNode ask number input.now (⟦<Over as HasNodeView>⟧.node_view node.old) result (⟦<Over as HasNodeView>⟧.node_view node.new) }
 {
     match ask {
-        NodeAsk::Put => put(alloc, node, number, input),
-        NodeAsk::Puts => puts(alloc, node, input),
-        NodeAsk::Bundle => answer_hello(alloc, node, input),
+        NodeAsk::Request(kind) => do_request(alloc, node, kind, number, input),
         NodeAsk::Count => Ok(Answer::Number(u64::from(node.record_count()))),
         NodeAsk::Record => record(alloc, node, number),
-        NodeAsk::Latest | NodeAsk::Value | NodeAsk::Hello if node.is_stopped() => {
-            Err(Refused::Stopped)
-        }
-        NodeAsk::Hello => tell(alloc, node),
+        NodeAsk::Latest | NodeAsk::Value if node.is_stopped() => Err(Refused::Halted(
+            Halt::Stopped,
+        )),
         NodeAsk::Latest => latest(alloc, node, number, input),
         NodeAsk::Value => value(alloc, node, number, input),
     }

@@ -1,14 +1,16 @@
 //! Why a call is refused.
 ghost use Rattle.std.specs.Prelude.{◌≡◌, ◌++◌, OnOk, codes};
-ghost use Rattle.depot_answers.specs.AnswerTexts.{text_of_number, spaced, text_of_limit, text_of_record_fault};
-ghost use Rattle.depot_c.specs.Refusals.{IsTold, refusal_outcome, outcome_of_bundle, outcome_of_feed, outcome_of_put, outcome_of_roster, outcome_of_start, words_of, words_of_bundle, words_of_feed, words_of_put, words_of_start};
+ghost use Rattle.depot_answers.specs.AnswerTexts.{text_of_number, spaced, text_of_record_fault};
+ghost use Rattle.depot_requests.specs.Replies.{text_of_reason};
+ghost use Rattle.depot_c.specs.Refusals.{IsTold, outcome_of_feed, outcome_of_halt, outcome_of_reason, outcome_of_roster, outcome_of_start, refusal_outcome, words_of, words_of_feed, words_of_start};
 
 use crate::outcome::CallOutcome;
-use depot_answers::{collides, full, numbered, record_fault, roster_error, spent, tips};
+use depot_answers::{full, numbered, record_fault, roster_error};
 use depot_base::{Bytes, Memory};
-use depot_gossip::{BundleError, FeedError};
+use depot_feeds::FeedError;
 use depot_model::{RecordFault, RosterError};
-use depot_node::{PutError, StartError};
+use depot_node::StartError;
+use depot_requests::{Halt, Reason, Reply, print};
 use std::alloc::Global;
 
 /// Why a call is refused.
@@ -20,18 +22,16 @@ pub enum Refused {
     Memory,
     /// The handle isn't where this can be asked.
     Order,
-    /// The disk failed in an earlier call.
-    Stopped,
     /// Nothing stands at that place.
     Absent,
     /// The text is no roster's.
     Roster(RosterError),
     /// No node is started.
     Start(StartError),
-    /// Nothing is put.
-    Put(PutError),
-    /// No bundle is made.
-    Bundle(BundleError),
+    /// The node doesn't do the request, for this.
+    Unmet(Reason),
+    /// The node was kept from replying.
+    Halted(Halt),
     /// The feed takes no more.
     Feed(FeedError),
 }
@@ -61,31 +61,26 @@ fn of_start(error: StartError) -> CallOutcome
     }
 }
 
-/// How a call ends that puts nothing.
-fn of_put(error: PutError) -> CallOutcome
-    ensures { result ≡ outcome_of_put error }
+/// How a call ends whose request isn't done.
+fn of_reason(reason: Reason) -> CallOutcome
+    ensures { result ≡ outcome_of_reason reason }
 {
-    match error {
-        PutError::Memory => CallOutcome::Memory,
-        PutError::Disk => CallOutcome::Disk,
-        PutError::Stopped => CallOutcome::Stopped,
-        PutError::Spent(_) | PutError::Tips(_) | PutError::Collides(_) | PutError::Full(_) => {
-            CallOutcome::Limit
-        }
+    match reason {
+        Reason::Limit(_) | Reason::Many(_) => CallOutcome::Limit,
+        Reason::IllFormed(_) => CallOutcome::Input,
+        Reason::OtherRoster(_) => CallOutcome::Identity,
+        Reason::Unknown(_) | Reason::NoValue(_) | Reason::Empty => CallOutcome::Absent,
     }
 }
 
-/// How a call ends that makes no bundle.
-fn of_bundle(error: BundleError) -> CallOutcome
-    ensures { result ≡ outcome_of_bundle error }
+/// How a call ends to which the node doesn't reply.
+fn of_halt(halt: Halt) -> CallOutcome
+    ensures { result ≡ outcome_of_halt halt }
 {
-    match error {
-        BundleError::Memory => CallOutcome::Memory,
-        BundleError::Disk => CallOutcome::Disk,
-        BundleError::Stopped => CallOutcome::Stopped,
-        BundleError::IllFormed(_) => CallOutcome::Input,
-        BundleError::OtherRoster { .. } => CallOutcome::Identity,
-        BundleError::Spent(_) | BundleError::Full(_) => CallOutcome::Limit,
+    match halt {
+        Halt::Memory => CallOutcome::Memory,
+        Halt::Disk => CallOutcome::Disk,
+        Halt::Stopped => CallOutcome::Stopped,
     }
 }
 
@@ -102,32 +97,13 @@ fn of_feed(error: FeedError) -> CallOutcome
     }
 }
 
-/// Adds the limit that a put met.
-#[tactic(auto, unfolding(depot_answers::specs::AnswerTexts::text_of_limit))]
-fn say_put(alloc: Global, out: &mut Bytes, error: PutError) -> Result<(), Memory>
-    ensures { OnOk result (out.new ≡ out.old ++ words_of_put error) }
+/// Adds why a request isn't done: what is printed of it, without the space in front and the LF.
+fn say_reason(alloc: Global, out: &mut Bytes, reason: Reason) -> Result<(), Memory>
+    ensures { OnOk result (out.new ≡ out.old ++ text_of_reason reason) }
 {
-    match error {
-        PutError::Spent(count) => spent(alloc, out, count),
-        PutError::Tips(count) => tips(alloc, out, count),
-        PutError::Collides(_) => collides(out),
-        PutError::Full(what) => full(alloc, out, &what),
-        PutError::Memory | PutError::Disk | PutError::Stopped => Ok(()),
-    }
-}
-
-/// Adds why no bundle is made.
-#[tactic(auto, unfolding(depot_answers::specs::AnswerTexts::text_of_limit))]
-fn say_bundle(alloc: Global, out: &mut Bytes, error: BundleError) -> Result<(), Memory>
-    ensures { OnOk result (out.new ≡ out.old ++ words_of_bundle error) }
-{
-    match error {
-        BundleError::IllFormed(at) => numbered(alloc, out, "IllFormed", at as u64),
-        BundleError::OtherRoster { .. } => out.push_all(b"OtherRoster"),
-        BundleError::Spent(count) => spent(alloc, out, count),
-        BundleError::Full(what) => full(alloc, out, &what),
-        BundleError::Memory | BundleError::Disk | BundleError::Stopped => Ok(()),
-    }
+    let printed = print(alloc, Reply::Refused(reason))?;
+    let line = printed.lines.as_slice();
+    out.push_all(&line[1..line.len() - 1])
 }
 
 /// Adds why a feed was closed.
@@ -180,12 +156,11 @@ impl Refused {
             Refused::Input => CallOutcome::Input,
             Refused::Memory => CallOutcome::Memory,
             Refused::Order => CallOutcome::Order,
-            Refused::Stopped => CallOutcome::Stopped,
             Refused::Absent => CallOutcome::Absent,
             Refused::Roster(error) => of_roster(error),
             Refused::Start(error) => of_start(error),
-            Refused::Put(error) => of_put(error),
-            Refused::Bundle(error) => of_bundle(error),
+            Refused::Unmet(reason) => of_reason(reason),
+            Refused::Halted(halt) => of_halt(halt),
             Refused::Feed(error) => of_feed(error),
         }
     }
@@ -197,14 +172,13 @@ impl Refused {
         match *self {
             Refused::Roster(error) => roster_error(alloc, out, &error),
             Refused::Start(error) => say_start(alloc, out, &error),
-            Refused::Put(error) => say_put(alloc, out, error),
-            Refused::Bundle(error) => say_bundle(alloc, out, error),
+            Refused::Unmet(reason) => say_reason(alloc, out, reason),
             Refused::Feed(error) => say_feed(alloc, out, error),
             Refused::Input
             | Refused::Memory
             | Refused::Order
-            | Refused::Stopped
-            | Refused::Absent => Ok(()),
+            | Refused::Absent
+            | Refused::Halted(_) => Ok(()),
         }
     }
 

@@ -1,6 +1,6 @@
 //! One call on a handle.
 ghost use Rattle.std.specs.Prelude.{◌≡◌};
-ghost use Rattle.depot_c.specs.Calls.{Performs, IsCopied, Serves, KeepsAnswer, kept_answer};
+ghost use Rattle.depot_c.specs.Calls.{Performs, IsCopied, ServesCall, KeepsAnswer, kept_answer};
 
 use crate::answer::Answer;
 use crate::ask::Ask;
@@ -50,7 +50,7 @@ fn act(h: &mut Handle, ask: Ask, number: u64, input: &[u8]) -> u64
 /// One call: what the number of the operation asks. Those that read the answer give what they read, and each other one gives
 /// the number of its outcome, with an answer that is kept until the next of them.
 pub fn serve(h: &mut Handle, op: u32, number: u64, input: &[u8], output: &mut [u8]) -> u64
-    ensures { Serves op number input.now (⟦<Handle as Viewed>⟧.view_of h.old) (kept_answer h.old) output.old (⟦<Handle as Viewed>⟧.view_of h.new) (kept_answer h.new) result output.new }
+    ensures { ServesCall op number input.now (⟦<Handle as Viewed>⟧.view_of h.old) (kept_answer h.old) output.old (⟦<Handle as Viewed>⟧.view_of h.new) (kept_answer h.new) result output.new }
 {
     match Ask::of(op) {
         None => settle(h, Err(Refused::Input)),

@@ -22,7 +22,7 @@ use Rattle.depot_traces.specs.SeenTraces.{finding_of, trace_of}
 use Rattle.depot_traces.specs.TraceTexts.{IsTrace, trace_text}
 use Rattle.depot_traces.specs.declared.finding.Finding as told
 use Rattle.depot_traces.specs.declared.trace.Trace.{Trace}
-use Rattle.depot_trace_files.specs.Handing.{AreForAudit, nodes_of}
+use Rattle.depot_trace_files.specs.Handing.{AreForAudit, HasLoadedTraces, nodes_of}
 use Rattle.depot_trace_files.specs.declared.loading.GatheredTraces.TheVariants as gathered
 use Rattle.depot_cli.specs.declared.outcome.CommandOutcome.{CommandOutcome}
 use Rattle.depot_cli.specs.declared.status.Status.{Status}
@@ -48,6 +48,7 @@ audits_behind shelf behind all listed roster names status text first same found 
       traces = ts;
       loaded = same ∙ loaded_behind all.before behind.before behind.after roster names first is.0;
       handed = is.1.0;
+      for_audit = is.1.1.0;
       audited = answer;
     }),
   ),
@@ -73,6 +74,20 @@ pub audits_later : (mid shelf : Shelves) (behind all : Loads) (listed : List Ros
     → AnswersFiles mid behind listed given status text → Audits shelf all roster names status text
 audits_later mid shelf behind all listed roster given names status text same are first last found answers =
     audits_behind shelf behind all listed roster names status text first last found (subst (λ (ns : List (List ℕ)). AnswersFiles shelf behind listed ns status text) are (subst (λ (s : Shelves). AnswersFiles s behind listed given status text) same answers))
+
+-- which trace files were loaded behind the roster, where the shelf and the names are seen behind its load
+pub loaded_later : (mid shelf : Shelves) (behind all : Loads) (listed : List RosterEntry) (roster : List ℕ) (given names : List (List ℕ))
+    → mid ≡ shelf → given ≡ names → behind.before ≡ all.before ++ roster ∷ [] → all.after ≡ behind.after → HasLoadedTraces mid.tells mid.file behind listed [] given → HasLoadedTraces shelf.tells shelf.file all listed (roster ∷ []) names
+loaded_later mid shelf behind all listed roster given names same are first last is =
+    subst (λ (s : Shelves). HasLoadedTraces s.tells s.file all listed (roster ∷ []) names) same (subst (λ (ns : List (List ℕ)). HasLoadedTraces mid.tells mid.file all listed (roster ∷ []) ns) are (record {
+      count = is.count;
+      good = is.good;
+      loaded = last ∙ loaded_behind all.before behind.before behind.after roster (take is.count given) first is.loaded;
+      traces = is.traces;
+      handed = is.handed;
+      audited = is.audited;
+      last_alone = is.last_alone;
+    }))
 
 -- ---- what is found
 

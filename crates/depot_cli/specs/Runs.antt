@@ -37,7 +37,7 @@ use Rattle.depot_outside.specs.Told.{Shelves, Loads, HasLoaded, HasFile, WhereTo
 use Rattle.depot_traces.specs.SeenTraces.{trace_of}
 use Rattle.depot_traces.specs.TraceTexts.{IsTrace}
 use Rattle.depot_traces.specs.declared.trace.Trace.{Trace}
-use Rattle.depot_trace_files.specs.Handing.{AreHanded, IsGathered, IsRefusedAt, nodes_of}
+use Rattle.depot_trace_files.specs.Handing.{AreForAudit, AreHanded, HasLoadedTraces, IsGathered, IsRefusedAt, nodes_of}
 use Rattle.depot_trace_files.specs.declared.loading.GatheredTraces.{GatheredTraces}
 use Rattle.depot_trace_files.specs.declared.loading.GatheredTraces.TheVariants as gathered
 use Rattle.depot_trace_files.specs.declared.loading.TraceRefusal.{TraceRefusal}
@@ -252,6 +252,7 @@ pub record AuditsTraces (shelf : Shelves) (loads : Loads) (listed : List RosterE
   pub traces : List Trace
   pub loaded : HasLoaded loads (roster ∷ names)
   pub handed : AreHanded shelf.tells shelf.file names traces
+  pub for_audit : AreForAudit listed traces
   pub audited : IsAudited listed traces status text
 
 -- What `audit` answers: the roster is loaded and parsed first, then the trace files one by one, and then they are audited.
@@ -286,9 +287,11 @@ LoadsAtMost loads name = HasLoaded loads [] ⊎ HasLoaded loads (name ∷ [])
 abbrev pub LoadsBehindRoster : Shelves → Loads → List ℕ → List ℕ → Type 0
 LoadsBehindRoster shelf loads roster other = LoadsAtMost loads roster ⊎ (HasLoaded loads (roster ∷ other ∷ []) × WhereTold shelf (HasRoster shelf roster))
 
--- no more than the roster was loaded; or it is one, and some first ones of the files of these names were loaded, too
-abbrev pub LoadsSomeBehindRoster : Shelves → Loads → List ℕ → List (List ℕ) → Type 0
-LoadsSomeBehindRoster shelf loads roster names = LoadsAtMost loads roster ⊎ ((n : ℕ) × (HasLoaded loads (roster ∷ take n names) × WhereTold shelf (HasRoster shelf roster)))
+-- no more than the roster was loaded; or it is one, and some first ones of the files of these names were loaded, too, of which all but
+-- maybe the last are traces of distinct nodes of the roster
+abbrev pub LoadsTracesBehindRoster : Shelves → Loads → List ℕ → List (List ℕ) → Type 0
+LoadsTracesBehindRoster shelf loads roster names =
+    LoadsAtMost loads roster ⊎ ((listed : List RosterEntry) × (WhereTold shelf (HasFile shelf roster (λ bytes. IsRosterText bytes listed)) × HasLoadedTraces shelf.tells shelf.file loads listed (roster ∷ []) names))
 
 -- what had been loaded when memory ran out: the first of the files that the words name
 abbrev pub LoadsFirst : Shelves → Loads → Option Invocation → Type 0
@@ -296,7 +299,7 @@ LoadsFirst shelf loads (Some (asked.Scan log key)) = LoadsAtMost loads log
 LoadsFirst shelf loads (Some (asked.Judge roster proof)) = LoadsBehindRoster shelf loads roster proof
 LoadsFirst shelf loads (Some (asked.Replay schedule)) = LoadsAtMost loads schedule
 LoadsFirst shelf loads (Some (asked.Node n)) = LoadsBehindRoster shelf loads n.roster n.script
-LoadsFirst shelf loads (Some (asked.Audit roster traces)) = LoadsSomeBehindRoster shelf loads roster traces
+LoadsFirst shelf loads (Some (asked.Audit roster traces)) = LoadsTracesBehindRoster shelf loads roster traces
 LoadsFirst shelf loads command = HasLoaded loads []
 
 -- what had been loaded and written when memory ran out: no text, or a front of the transcript that `replay` writes line by line

@@ -1,12 +1,12 @@
 //! `audit ROSTER TRACE..`: whether what nodes did keeps the headline.
-ghost use Rattle.std.specs.Prelude.{◌≡◌, ◌≤◌, ◌++◌, ℕ, length, take, IfOk, IsOk, codes};
+ghost use Rattle.std.specs.Prelude.{◌≡◌, ◌≤◌, ◌++◌, length, IfOk, IsOk, codes};
 ghost use Rattle.std.specs.Fmt.{decimal};
 ghost use Rattle.depot_answers.specs.AnswerTexts.{text_of_finding};
-ghost use Rattle.depot_outside.specs.Told.{HasLoaded, shelves, loads};
+ghost use Rattle.depot_outside.specs.Told.{shelves, loads};
 ghost use Rattle.depot_traces.specs.SeenTraces.{finding_of};
 ghost use Rattle.depot_traces.specs.declared.trace.TheConstants.{MOST_TRACES};
-ghost use Rattle.depot_trace_files.specs.Handing.{AreForAudit};
-ghost use Rattle.depot_cli.specs.Runs.{AnswersFiles, Audits, EndsAtFault, IsAudited, LoadsSomeBehindRoster, status_of_finding, status_of_refusal, text_of_refusal};
+ghost use Rattle.depot_trace_files.specs.Handing.{AreForAudit, GathersTraces};
+ghost use Rattle.depot_cli.specs.Runs.{AnswersFiles, Audits, EndsAtFault, IsAudited, LoadsTracesBehindRoster, status_of_finding, status_of_refusal, text_of_refusal};
 
 use crate::files::load;
 use crate::judge_command::{line, refused_roster};
@@ -104,7 +104,7 @@ fn audit_files<F: Shelf>(
     requires few { length names.now ≤ MOST_TRACES }
     ensures answers { IfOk result (λ o. AnswersFiles (shelves F.Shelf shelf.old shelf.new) (loads F.Shelf shelf.old shelf.new) roster.now names.now o.status o.text) }
     ensures first_fault { IfOk result (λ o. EndsAtFault (shelves F.Shelf shelf.old shelf.new) o.status) }
-    ensures loads { (n : ℕ) × HasLoaded (loads F.Shelf shelf.old shelf.new) (take n names.now) }
+    ensures loads { GathersTraces F.Shelf shelf.old shelf.new roster.now names.now }
     ensures files { F.file shelf.new ≡ F.file shelf.old }
     ensures stores { F.stores shelf.new ≡ F.stores shelf.old }
 {
@@ -123,7 +123,7 @@ pub fn audit<F: Shelf>(
 ) -> Result<CommandOutcome, Memory>
     ensures audits { IfOk result (λ o. Audits (shelves F.Shelf shelf.old shelf.new) (loads F.Shelf shelf.old shelf.new) roster.now traces.now o.status o.text) }
     ensures first_fault { IfOk result (λ o. EndsAtFault (shelves F.Shelf shelf.old shelf.new) o.status) }
-    ensures loads { LoadsSomeBehindRoster (shelves F.Shelf shelf.old shelf.new) (loads F.Shelf shelf.old shelf.new) roster.now traces.now }
+    ensures loads { LoadsTracesBehindRoster (shelves F.Shelf shelf.old shelf.new) (loads F.Shelf shelf.old shelf.new) roster.now traces.now }
     ensures files { F.file shelf.new ≡ F.file shelf.old }
     ensures stores { F.stores shelf.new ≡ F.stores shelf.old }
 {

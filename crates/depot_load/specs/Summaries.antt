@@ -4,7 +4,7 @@ use Rattle.std.specs.List.{list_all, filter_map}
 use Rattle.std.specs.Str.{bytes_eq}
 use Rattle.depot_model.specs.Lists.{when}
 use Rattle.depot_answers.specs.AnswerTexts.{text_of_number, spaced}
-use Rattle.depot_world.specs.Transcript.{ended}
+use Rattle.depot_requests.specs.Effects.{ended}
 use Rattle.depot_load.specs.declared.transcript_lines.TranscriptLine.{TranscriptLine}
 use Rattle.depot_load.specs.declared.transcript_lines.TranscriptLine.TheVariants.{Put, Read, Report, Hello}
 use Rattle.depot_load.specs.declared.transcript_lines.Count.{Count}

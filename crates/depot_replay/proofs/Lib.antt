@@ -7,12 +7,9 @@ pub mod DiskLaws
 pub mod OwnUpdates
 pub mod ReaderTurns
 pub mod MemHostCalls
-pub mod MemHostCheckpoints
 pub mod MemHostEvents
 pub mod MemHostLaws
-pub mod MemHostPuts
-pub mod MemHostReads
-pub mod MemHostReceipts
+pub mod MemHostRestarts
 pub mod MemHostStarts
 pub mod MemHostTraces
-pub mod MemHostTurns
+pub mod MemHostRequests

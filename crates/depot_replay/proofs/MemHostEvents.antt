@@ -1,30 +1,27 @@
 -- What an event of a hosted node came to: it went as it goes, or a stop fell into it.
-use Rattle.std.proofs.Common.{◌≡◌, ℕ, ◌*◌, List, [], ◌++◌, append_assoc, length, length-append, take, drop, Bool, false, true≢false, Option, None, Result, Ok, Err, IfOk, IsOk, refl, sym, ap, subst, ◌∙◌, arith}
+use Rattle.std.proofs.Common.{◌≡◌, ℕ, ◌*◌, List, [], ◌++◌, append_assoc, length, length-append, take, drop, false, true≢false, Option, None, Result, Ok, Err, IfOk, IsOk, refl, sym, ap, subst, ◌∙◌, arith}
 use Rattle.std.proofs.Math.Seq.{drop-append_seam}
-use Rattle.std.specs.Prelude.{◌↔◌, IsErrOf}
 use Rattle.std.proofs.lemmas.List.{append-nil, take-append-drop}
 use Rattle.depot_base.specs.Calls.{Call, made}
 use Rattle.depot_base.specs.declared.record.Record.{Record}
-use Rattle.depot_feeds.specs.declared.feed_error.FeedError.{FeedError}
-use Rattle.depot_feeds.specs.declared.feed_error.FeedError.TheVariants as error
 use Rattle.depot_laws.proofs.Splits.{lawful_front}
 use Rattle.depot_laws.proofs.Growing.{still_some}
 use Rattle.depot_model.specs.Bundle.{Signs}
+use Rattle.depot_model.specs.Checks.{Setting}
 use Rattle.depot_model.specs.Lawful.{IsLawful, is_empty}
 use Rattle.depot_model.specs.Roster.{Verifies}
 use Rattle.depot_model.specs.Stops.{calls_to_record}
 use Rattle.depot_base.specs.declared.key.RosterEntry.{RosterEntry}
 use Rattle.depot_outside.specs.Stopping.{State, CallsLead}
 use Rattle.depot_world.specs.Run.{PendingStop, Host}
-use Rattle.depot_world.specs.ScheduleStops.{Effect, EventResult, journal_left, standing_after, event_result}
+use Rattle.depot_requests.specs.Effects.{Effect, lines_after_arrow}
+use Rattle.depot_world.specs.ScheduleStops.{EventResult, journal_left, standing_after, event_result}
 use Rattle.depot_world.specs.Setups.{Setup}
 use Rattle.depot_simulation.specs.Acting.{CameTo, IsHosted, ActorView}
 use Rattle.depot_replay.specs.Disks.{Stopped, pending_of}
 use Rattle.depot_replay.specs.PrintedRuns.{EndsAs}
 use Rattle.depot_replay.specs.MemHostFacts.{lawful_there}
-use Rattle.depot_node_lines.specs.declared.feeds.FeedResult.{FeedResult}
-use Rattle.depot_node_lines.specs.declared.printed.Printed.{Printed}
-use Rattle.depot_node_lines.specs.Printing.{SettlesFeed, lines_of_effect}
+use Rattle.depot_requests.specs.declared.printing.Printed.{Printed}
 use Rattle.depot_replay.specs.MemHosts.{Appends, IsBegunOn, IsCalled, IsKeptOn, stopped_line}
 use Rattle.depot_replay.proofs.MemHostLaws.{IsCut, IsToCome, calls_counted, cut_short, kept_after, went_cut, went_well}
 
@@ -41,15 +38,6 @@ pub of_printed : {X E : Type 0} (printed : Result X E) (P : X → Type 0) → ((
 of_printed (Ok x) P so = so x refl
 of_printed (Err e) P so = tt
 
--- where something was printed of a stream the node runs
-pub fed_runs : (fed : Result FeedResult FeedError) (printed : Option Printed) (stopped : Bool) → IfOk fed (λ _. stopped ≡ false) → ((printed ≡ None) ↔ IsErrOf fed error.Disk) → SettlesFeed fed → (printed ≡ None → ⊥) → stopped ≡ false
-fed_runs (Ok told) printed stopped runs none settled some = runs
-fed_runs (Err error.Disk) printed stopped runs none settled some = absurd (some (none.1 refl))
-fed_runs (Err error.Memory) printed stopped runs none settled some = absurd settled
-fed_runs (Err error.Stopped) printed stopped runs none settled some = absurd settled
-fed_runs (Err (error.Full what)) printed stopped runs none settled some = absurd settled
-fed_runs (Err (error.IllFormed at)) printed stopped runs none settled some = absurd settled
-
 -- ---- the node after it
 
 -- the node afterwards is the one before it, with this journal and this stop
@@ -61,7 +49,7 @@ pub record IsThen (v w : ActorView) (J : List Record) (pending : Option PendingS
 
 -- an event that went as it goes, by calls of which none failed
 pub came_well : (setup : Setup) (x : Host) (d : Effect) (v w : ActorView) (s t : State) (calls : List Call) (lines bytes : List ℕ) → IsHosted setup x v → v.pending ≡ pending_of s.next → IsToCome s → CallsLead s (made calls) t → d.calls ≡ length calls
-    → IsThen v w d.journal (pending_of t.next) → lines ≡ lines_of_effect d → bytes ≡ d.bytes → CameTo setup (event_result x d) w lines bytes
+    → IsThen v w d.journal (pending_of t.next) → lines ≡ lines_after_arrow d.answer d.behind → bytes ≡ d.bytes → CameTo setup (event_result x d) w lines bytes
 came_well setup x d v w s t calls lines bytes mem_host pending to_come led count then is gives =
     subst (λ (g : EventResult). CameTo setup g w lines bytes) (sym (went_well x d s t calls (sym mem_host.pending ∙ pending) to_come led count))
     (record { hosted = record { here = then.here ∙ mem_host.here; sign = then.sign ∙ mem_host.sign; journal = then.journal; pending = then.pending_is }; lines_are = is; bytes_are = gives })
@@ -91,7 +79,7 @@ module _ {v : ActorView} {s t : State} {K longer : List Record} {failed : Type 0
   counted d a = a.calls ∙ omega (arith, ap length c.grows, length-append v.journal c.new)
 
   -- it went as it goes
-  pub called_well : (setup : Setup) (x : Host) (d : Effect) (w : ActorView) (lines bytes : List ℕ) → (failed → ⊥) → IsHosted setup x v → Appends d v.journal longer → IsThen v w K (pending_of t.next) → lines ≡ lines_of_effect d → bytes ≡ d.bytes → CameTo setup (event_result x d) w lines bytes
+  pub called_well : (setup : Setup) (x : Host) (d : Effect) (w : ActorView) (lines bytes : List ℕ) → (failed → ⊥) → IsHosted setup x v → Appends d v.journal longer → IsThen v w K (pending_of t.next) → lines ≡ lines_after_arrow d.answer d.behind → bytes ≡ d.bytes → CameTo setup (event_result x d) w lines bytes
   called_well setup x d w lines bytes well mem_host a then is gives =
       let whole = c.whole well in
       came_well setup x d v w s t (calls_to_record v.journal c.new) lines bytes mem_host c.pending c.begun.kept.to_come whole.1 (counted d a ∙ sym (calls_counted v.journal c.new))
@@ -136,6 +124,14 @@ pub cut_ends : {v : ActorView} {s t : State} {K longer : List Record} (p : Optio
 cut_ends p none c w lines bytes then is gives setup x d mem_host a print = subst (λ (b : List ℕ). CameTo setup (event_result x d) w lines b) (sym gives) (called_cut c setup x d w lines none mem_host a then is)
 
 -- ---- a hosted node
+
+-- a node stands where it was started
+pub same_setting : (verifies : Verifies) (me own : ℕ) (listed given : List RosterEntry) → me ≡ own → listed ≡ given → ◌≡◌ {A = Setting} (record { verifies = verifies; me = me; listed = listed }) (record { verifies = verifies; me = own; listed = given })
+same_setting verifies me own listed given is_me is_listed = λ i. record { verifies = verifies; me = is_me i; listed = is_listed i }
+
+-- how it is seen
+abbrev pub seen_so : Setting → Signs → State → List Record → ActorView
+seen_so here sign s J = record { here = here; sign = sign; journal = J; pending = pending_of s.next }
 
 -- its journal has begun on its disk
 pub begun_there : (verifies : Verifies) (me own : ℕ) (listed given : List RosterEntry) (s : State) (J : List Record) → me ≡ own → listed ≡ given → IsLawful (record { verifies = verifies; me = me; listed = listed }) J → is_empty J ≡ false → IsKeptOn s J

@@ -16,7 +16,8 @@ use Rattle.depot_model.specs.Stops.{HasRecords, calls_to_record}
 use Rattle.depot_laws.proofs.OwnTexts.{lawful_is_light, lawful_is_short}
 use Rattle.depot_outside.specs.Stopping.{State, CallsLead}
 use Rattle.depot_world.specs.Run.{PendingStop, Host}
-use Rattle.depot_world.specs.ScheduleStops.{Effect, journal_left, standing_after, stopped_with, event_result, result_by}
+use Rattle.depot_requests.specs.Effects.{Effect}
+use Rattle.depot_world.specs.ScheduleStops.{journal_left, standing_after, stopped_with, event_result, result_by}
 use Rattle.depot_replay.specs.Disks.{Stopped, pending_of}
 use Rattle.depot_replay.specs.MemHosts.{IsKeptOn, StandIn}
 use Rattle.depot_replay.proofs.DiskAppends.{appends_rest, appends_stand, stopped_appending}

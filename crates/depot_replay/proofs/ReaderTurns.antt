@@ -11,7 +11,7 @@ use Rattle.depot_trim.specs.declared.trim_error.TrimError.{TrimError}
 use Rattle.depot_trim.specs.declared.trim_error.TrimError.TheVariants as untrimmed
 use Rattle.depot_trim.specs.declared.trimmed.Trimmed.{Trimmed}
 use Rattle.depot_world.specs.Transcript.{reader_made}
-use Rattle.depot_node_lines.specs.CheckpointPrinting.{SettlesTrim}
+use Rattle.depot_service.specs.CheckpointPrinting.{SettlesTrim}
 use Rattle.depot_simulation.specs.Readers.{IsMade}
 
 -- a reader was made

@@ -13,8 +13,7 @@ use Rattle.depot_node.specs.declared.start_error.StartError.{StartError}
 use Rattle.depot_outside.specs.Stopping.{State, CallsLead}
 use Rattle.depot_answers.specs.AnswerTexts.{text_of_number}
 use Rattle.depot_world.specs.Run.{PendingStop}
-use Rattle.depot_world.specs.ScheduleStops.{Effect, calls_for_records}
-use Rattle.depot_world.specs.Transcript.{ended}
+use Rattle.depot_requests.specs.Effects.{Effect, calls_for_records, ended}
 use Rattle.depot_simulation.specs.Acting.{ActorView}
 use Rattle.depot_replay.specs.Disks.{IsAtRest, pending_of}
 

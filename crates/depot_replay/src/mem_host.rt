@@ -1,45 +1,31 @@
 //! A correct node over a disk in memory.
-ghost use Rattle.std.specs.Prelude.{◌≡◌, ◌≢◌, ◌≤◌, [], ℕ, List, length, false, nat_le, Some, None, Ok, IfOk, IfErr, IfSome, IsOk, refl};
-ghost use Rattle.depot_answers.specs.AnswerTexts.{name_of_settled, text_of_number, spaced, text_of_named};
-ghost use Rattle.depot_node_lines.specs.Printing.{shown_text};
-ghost use Rattle.depot_base.specs.Sized.{IsValue};
-ghost use Rattle.depot_model.specs.Checkpoints.{checkpoint_key};
-ghost use Rattle.depot_model.specs.Hello.{hello_of, text_of_hello};
-ghost use Rattle.depot_model.specs.Opening.{made_text, make_of};
-ghost use Rattle.depot_model.specs.Receipts.{receipts};
+ghost use Rattle.std.specs.Prelude.{◌≡◌, ◌≢◌, ◌↔◌, IsErrOf, [], ℕ, List, false, Some, None, Ok, IfOk, IfErr, IsOk, refl};
+ghost use Rattle.depot_answers.specs.AnswerTexts.{text_of_number, spaced};
 ghost use Rattle.depot_model.specs.Roster.{key_of};
 ghost use Rattle.depot_node.specs.Keyed.{HasKey-prop};
 ghost use Rattle.depot_node.specs.Starting.{IsNodeAt, LeavesFile, placed};
 ghost use Rattle.depot_node.specs.declared.start_error.StartError.TheVariants as start_error;
 ghost use Rattle.depot_outside.specs.Stopping.{state_of};
-ghost use Rattle.depot_node.specs.Holdings.{node_setting};
-ghost use Rattle.depot_model.specs.ShownWrites.{shown_of};
-ghost use Rattle.depot_world.specs.Effects.{checkpoint_by};
-ghost use Rattle.depot_world.specs.Transcript.{ended};
-ghost use Rattle.depot_simulation.specs.Acting.{Acts, fresh_view};
+ghost use Rattle.depot_requests.specs.Effects.{ended};
+ghost use Rattle.depot_simulation.specs.Acting.{fresh_view};
 ghost use Rattle.depot_replay.specs.Disks.{pending_of};
-ghost use Rattle.depot_replay.specs.PrintedRuns.{EndsCall};
+ghost use Rattle.depot_replay.specs.PrintedRuns.{EndsCall, PrintsReply};
 ghost use Rattle.depot_replay.specs.MemHostFacts.{IsKeptOn-prop, is_node-prop, is_roster-prop, same_signs-prop, lawful_there};
 ghost use Rattle.depot_replay.specs.MemHosts.{FailsToStart, IsHostedAgain, IsKeptOn, IsStartedIn, SparesLawful, WasCalled, WasStopped};
 
 use crate::mem_host_reader::{MemHostReader, trimming};
-use depot_base::{Bytes, Changes, Hash32, Ids, Items, Key, Memory, NodeId, Update, Value};
-use depot_gossip::{bundle, encode_hello, node_hello};
+use depot_base::{Bytes, Hash32, Items, Key, Memory, NodeId, Update};
 use depot_local::LocalNode;
 use depot_model::{NodeState, Past, Replica, Scheme, Signer};
 use depot_node::{Node, StartError};
-use depot_node_lines::{
-    Printed, bundle_printed, checkpoint_printed, counted_line, fed_printed, feed_all, has_receipts,
-    hello_line, node_trace, put_printed, read_traced, receipt_printed, settled_line, shown_line,
-    sign_printed, unmade_printed,
-};
 use depot_outside::{Back, MemDisk};
-use depot_receipts::give;
+use depot_requests::{Halt, Printed, Reply, Request, print};
 use depot_scenario::{Numbered, is_by};
+use depot_service::{counted_line, node_trace, read_traced, serve};
 use depot_sign::Roster;
 use depot_simulation::{Actor, EventOutcome, StartsFresh, Trimming};
 use depot_traces::{ReadTrace, Trace};
-use depot_trim::{checkpoint_key, make_checkpoint, sign_checkpoint, trim};
+use depot_trim::trim;
 use std::alloc::Global;
 
 /// How many calls on a disk start a node from a journal that has begun.
@@ -162,17 +148,6 @@ fn wanting(back: Back<StartError, MemDisk>) -> Memory
     }
 }
 
-/// How many bytes each piece of a stream has, at least one: so many as are asked for, or all of it.
-fn piece_of(stream: &[u8], size: Option<u32>) -> usize
-    ensures some { 1 ≤ result }
-    ensures asked { IfSome size (λ n. 1 ≤ n → result ≡ n) }
-{
-    match size {
-        Some(size) => (size as usize).max(1),
-        None => stream.len().max(1),
-    }
-}
-
 /// What an event came to for a node, with what is printed of it. Where memory is wanting for that, the node is gone.
 fn event_outcome<A: Drop>(
     actor: A,
@@ -200,55 +175,6 @@ fn counted_printed(alloc: Global, name: &str, count: u32) -> Result<Printed, Mem
     })
 }
 
-/// What is printed of a read. It gives a label nothing.
-fn shown_printed<S: Scheme, G: Signer<Of = S>>(
-    alloc: Global,
-    node: &Node<MemDisk, S, G>,
-    key: &Key,
-) -> Result<Printed, Memory>
-    requires { node.now.store.stopped ≡ false }
-    ensures lines { IfOk result (λ p. p.lines ≡ ended (shown_text (shown_of node.now.store.records key.now))) }
-    ensures bytes { IfOk result (λ p. p.bytes ≡ []) }
-{
-    Ok(Printed {
-        lines: shown_line(alloc, node, key)?,
-        bytes: Bytes::new(alloc),
-    })
-}
-
-/// What is printed of whether enough nodes gave receipts. It gives a label nothing.
-fn settled_printed<S: Scheme, G: Signer<Of = S>>(
-    alloc: Global,
-    node: &Node<MemDisk, S, G>,
-    id: &Hash32,
-    k: u32,
-) -> Result<Printed, Memory>
-    requires { node.now.store.stopped ≡ false }
-    ensures lines { IfOk result (λ p. p.lines ≡ ended (spaced (name_of_settled (nat_le k (length (receipts node.now.store.records id.now)))))) }
-    ensures bytes { IfOk result (λ p. p.bytes ≡ []) }
-{
-    let enough = has_receipts(alloc, node, id, k)?;
-    Ok(Printed {
-        lines: settled_line(alloc, enough)?,
-        bytes: Bytes::new(alloc),
-    })
-}
-
-/// What is printed of a hello. It gives a label its text.
-fn hello_printed<S: Scheme, G: Signer<Of = S>>(
-    alloc: Global,
-    node: &Node<MemDisk, S, G>,
-) -> Result<Printed, Memory>
-    requires { node.now.store.stopped ≡ false }
-    ensures lines { IfOk result (λ p. p.lines ≡ ended (spaced (text_of_named (hello_of (node_setting S.verifies node.now.store) node.now.store.records)))) }
-    ensures bytes { IfOk result (λ p. p.bytes ≡ text_of_hello (hello_of (node_setting S.verifies node.now.store) node.now.store.records)) }
-{
-    let hello = node_hello(node)?;
-    let bytes = encode_hello(alloc, &hello)?;
-    let lines = hello_line(alloc, &hello)?;
-    Ok(Printed { lines, bytes })
-}
-
 impl<S: Scheme + Copy, G: Signer<Of = S> + Copy> MemHost<S, G> {
     /// A node that is started on an empty disk.
     pub fn fresh_host(
@@ -274,60 +200,21 @@ impl<S: Scheme + Copy, G: Signer<Of = S> + Copy> MemHost<S, G> {
             Err(back) => Err(wanting(back)),
         }
     }
-
-    /// Puts the text of the checkpoint that it made under its key.
-    fn put_checkpoint(self, text: Bytes) -> Result<EventOutcome<MemHost<S, G>>, Memory>
-        requires { make_of (node_setting S.verifies self.node.store) self.node.store.records ≡ made_text text }
-        ensures { IfOk result (λ outcome. Acts ⟦<MemHost<S, G> as Actor>⟧.view self (λ here sign correct. checkpoint_by here correct) outcome) }
-    {
-        match checkpoint_put(self.start_config.alloc, &text) {
-            Ok(CheckpointPut { key, value }) => self.put_made(key, value, text),
-            Err(Memory) => {
-                drop(self);
-                Err(Memory)
-            }
-        }
-    }
-
-    /// Puts a value under a key, which are the text of the checkpoint that it made and its key.
-    fn put_made(
-        self,
-        key: Key,
-        value: Value,
-        text: Bytes,
-    ) -> Result<EventOutcome<MemHost<S, G>>, Memory>
-        requires made { make_of (node_setting S.verifies self.node.store) self.node.store.records ≡ made_text text }
-        requires key { key ≡ checkpoint_key text }
-        requires value { value ≡ text }
-        ensures { IfOk result (λ outcome. Acts ⟦<MemHost<S, G> as Actor>⟧.view self (λ here sign correct. checkpoint_by here correct) outcome) }
-    {
-        let MemHost {
-            mut node,
-            start_config,
-        } = self;
-        let done = node.put(key, value);
-        let printed = checkpoint_printed(start_config.alloc, text, done);
-        start_config.hosted(node, printed)
-    }
 }
 
-/// What is put to sign a checkpoint.
-struct CheckpointPut {
-    /// The checkpoint's key.
-    key: Key,
-    /// Its text.
-    value: Value,
-}
-
-/// What signs the checkpoint of this text, where it is put.
-fn checkpoint_put(alloc: Global, text: &Bytes) -> Result<CheckpointPut, Memory>
-    requires { IsValue text.now }
-    ensures key { IfOk result (λ made. made.key ≡ checkpoint_key text.now) }
-    ensures value { IfOk result (λ made. made.value ≡ text.now) }
+/// What is printed of a node's reply, and nothing where its disk failed.
+fn reply_printed(alloc: Global, replied: Result<Reply, Halt>) -> Result<Option<Printed>, Memory>
+    requires { IsErrOf replied Halt.Stopped → ⊥ }
+    ensures stopped { IfOk result (λ printed. (printed ≡ None) ↔ IsErrOf replied Halt.Disk) }
+    ensures settled { IfOk result (λ _. IsErrOf replied Halt.Memory → ⊥) }
+    ensures printed { IfOk result (λ printed. PrintsReply replied printed) }
 {
-    let key = checkpoint_key(alloc, text.as_slice())?;
-    let value = Value::from_bytes(text.copy()?);
-    Ok(CheckpointPut { key, value })
+    match replied {
+        Ok(reply) => Ok(Some(print(alloc, reply)?)),
+        Err(Halt::Memory) => Err(Memory),
+        Err(Halt::Disk) => Ok(None),
+        Err(Halt::Stopped) => unreachable!(),
+    }
 }
 
 impl<S: Scheme + Copy, G: Signer<Of = S> + Copy> Numbered for MemHost<S, G> {
@@ -365,13 +252,14 @@ impl<S: Scheme + Copy, G: Signer<Of = S> + Copy> Actor for MemHost<S, G> {
         None
     }
 
-    fn put(self, changes: Changes) -> Result<EventOutcome<Self>, Memory> {
+    fn serve(self, request: Request) -> Result<EventOutcome<Self>, Memory> {
         let MemHost {
             mut node,
             start_config,
         } = self;
-        let done = node.put_all(changes);
-        let printed = put_printed(start_config.alloc, done);
+        request.carries_bytes();
+        let replied = serve(start_config.alloc, &mut node, request);
+        let printed = reply_printed(start_config.alloc, replied);
         start_config.hosted(node, printed)
     }
 
@@ -381,46 +269,6 @@ impl<S: Scheme + Copy, G: Signer<Of = S> + Copy> Actor for MemHost<S, G> {
 
     fn trace(&self, reads: &[ReadTrace]) -> Result<Trace, Memory> {
         node_trace(self.start_config.alloc, &self.node, reads)
-    }
-
-    fn get(self, key: &Key) -> Result<EventOutcome<Self>, Memory> {
-        let printed = shown_printed(self.start_config.alloc, &self.node, key);
-        event_outcome(self, printed)
-    }
-
-    fn receipt(self, ids: &Ids) -> Result<EventOutcome<Self>, Memory> {
-        let MemHost {
-            mut node,
-            start_config,
-        } = self;
-        let done = give(start_config.alloc, &mut node, ids);
-        let printed = receipt_printed(start_config.alloc, done);
-        start_config.hosted(node, printed)
-    }
-
-    fn settled(self, id: &Hash32, k: u32) -> Result<EventOutcome<Self>, Memory> {
-        let printed = settled_printed(self.start_config.alloc, &self.node, id, k);
-        event_outcome(self, printed)
-    }
-
-    fn checkpoint(self) -> Result<EventOutcome<Self>, Memory> {
-        match make_checkpoint(self.start_config.alloc, &self.node) {
-            Ok(text) => self.put_checkpoint(text),
-            Err(refused) => {
-                let printed = unmade_printed(self.start_config.alloc, refused);
-                event_outcome(self, printed)
-            }
-        }
-    }
-
-    fn sign(self, text: &[u8]) -> Result<EventOutcome<Self>, Memory> {
-        let MemHost {
-            mut node,
-            start_config,
-        } = self;
-        let done = sign_checkpoint(start_config.alloc, &mut node, text);
-        let printed = sign_printed(start_config.alloc, done);
-        start_config.hosted(node, printed)
     }
 
     fn trim(&self, text: &[u8]) -> Result<Trimming<MemHostReader<S>>, Memory> {
@@ -433,36 +281,6 @@ impl<S: Scheme + Copy, G: Signer<Of = S> + Copy> Actor for MemHost<S, G> {
             text,
         );
         trimming(self.start_config.alloc, made)
-    }
-
-    fn hello(self) -> Result<EventOutcome<Self>, Memory> {
-        let printed = hello_printed(self.start_config.alloc, &self.node);
-        event_outcome(self, printed)
-    }
-
-    fn bundle(self, hello: &[u8]) -> Result<EventOutcome<Self>, Memory> {
-        let MemHost {
-            mut node,
-            start_config,
-        } = self;
-        let made = bundle(start_config.alloc, &mut node, hello);
-        let printed = bundle_printed(start_config.alloc, made);
-        start_config.hosted(node, printed)
-    }
-
-    fn give(self, stream: &[u8], size: Option<u32>) -> Result<EventOutcome<Self>, Memory> {
-        let MemHost {
-            mut node,
-            start_config,
-        } = self;
-        let fed = feed_all(
-            start_config.alloc,
-            &mut node,
-            stream,
-            piece_of(stream, size),
-        );
-        let printed = fed_printed(start_config.alloc, fed);
-        start_config.hosted(node, printed)
     }
 
     fn restart(self) -> Result<EventOutcome<Self>, Memory> {

@@ -6,12 +6,12 @@ ghost use Rattle.depot_model.specs.Readers.{trim_of};
 ghost use Rattle.depot_trim.specs.ReaderAnswers.{Trims};
 ghost use Rattle.depot_trim.specs.ReaderView.{IsReaderOf};
 ghost use Rattle.depot_world.specs.Transcript.{reader_made};
-ghost use Rattle.depot_node_lines.specs.CheckpointPrinting.{SettlesTrim};
+ghost use Rattle.depot_service.specs.CheckpointPrinting.{SettlesTrim};
 ghost use Rattle.depot_simulation.specs.Readers.{HasTrimmed, IsMade};
 
 use depot_base::{Bytes, Key, Memory};
 use depot_model::Scheme;
-use depot_node_lines::{feed_reader, reader_feed_line, reader_shown_line, trim_line};
+use depot_service::{feed_reader, reader_feed_line, reader_shown_line, trim_line};
 use depot_simulation::{Reading, Trimming};
 use depot_trim::{TrimError, Trimmed};
 use std::alloc::Global;

@@ -42,14 +42,7 @@ plain_in labels label = option_and_then (λ m. when m.plain m.bytes) (made_in la
 
 -- ---- labels of nodes' events
 
--- the label that a node's bytes are given
-abbrev pub label_by : Event → Option (List ℕ)
-label_by (event.Hello node label) = Some label
-label_by (event.Bundle node hello label) = Some label
-label_by (event.Checkpoint node label) = Some label
-label_by e = None
-
--- labels, and that one with these bytes
+-- labels, and the one that a node's bytes are given, if there is one
 abbrev pub labels_with : List Labelled → Option (List ℕ) → List ℕ → List Labelled
 labels_with labels None bytes = labels
 labels_with labels (Some label) bytes = labels ++ record { label = label; bytes = bytes; signed = None; plain = false } ∷ []

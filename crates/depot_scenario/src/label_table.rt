@@ -4,7 +4,8 @@ ghost use Rattle.depot_answers.specs.AnswerTexts.{spaced};
 ghost use Rattle.depot_model.specs.Journal.{update_in};
 ghost use Rattle.depot_world.specs.Forgetting.{labels_without};
 ghost use Rattle.depot_world.specs.Run.{Labelled, first_update};
-ghost use Rattle.depot_scenario.specs.Labels.{AreLabels, TakesIn, bytes_in, label_by, labels_with, named_in, plain_in, signed_of_label};
+ghost use Rattle.depot_scenario.specs.Labels.{AreLabels, TakesIn, bytes_in, labels_with, named_in, plain_in, signed_of_label};
+ghost use Rattle.depot_world.specs.EventRequests.{label_by};
 
 use crate::drafts::update_of;
 use crate::signed_apart::{Apart, put_apart};

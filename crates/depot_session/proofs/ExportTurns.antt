@@ -1,6 +1,6 @@
 -- How the command of a trace turns out.
 use Rattle.std.proofs.Common.{◌≡◌, ℕ, IsTrue, List, Option, None, Result, length, map, refl, sym, ap, subst, ◌∙◌}
-use Rattle.std.proofs.lemmas.List.{append-nil, length-map}
+use Rattle.std.proofs.lemmas.List.{length-map}
 use Rattle.depot_base.specs.declared.record.Record.{Record}
 use Rattle.depot_model.specs.Bundle.{Signs}
 use Rattle.depot_model.specs.Checks.{Setting}
@@ -14,9 +14,9 @@ use Rattle.depot_traces.specs.SeenTraces.{read_of}
 use Rattle.depot_traces.specs.ToldTraces.{file_of_trace}
 use Rattle.depot_traces.specs.declared.trace.ReadTrace.{ReadTrace}
 use Rattle.depot_world.specs.Audits.{traced_read}
-use Rattle.depot_world.specs.Transcript.{ended}
+use Rattle.depot_requests.specs.Effects.{ended}
 use Rattle.depot_session.specs.declared.ending.ScriptEnding.{ScriptEnding}
-use Rattle.depot_session.specs.Sessions.{Session, command_text, export_by, reads_of_run, step_of, stored, trace_of_run}
+use Rattle.depot_session.specs.Sessions.{Session, command_text, reads_of_run, step_of, stored, trace_of_run}
 use Rattle.depot_session.specs.ScriptTelling.{Stores}
 use Rattle.depot_session.specs.Turns.{IsAt, IsRunning, Turns}
 use Rattle.depot_session.proofs.StoredFiles.{stored_alike}
@@ -33,16 +33,15 @@ trace_is s node J reads own journal are = λ i. record { node = own i; texts = m
 -- the text of the step is that of the command and the line of the trace
 export_text : (here : Setting) (sign : Signs) (s : Session) (J : List Record) (reads : List ReadTrace) (file line : List ℕ) → s.correct.journal ≡ J → map read_of reads ≡ map traced_read (reads_of_run s) → line ≡ ended (spaced (text_of_traced (length J) (length reads)))
     → command_text (command.Export file) line ≡ (step_of here sign s (command.Export file)).text
-unfolding step_of export_by
+unfolding step_of
 export_text here sign s J reads file line journal are is =
     let count : length reads ≡ length (reads_of_run s) = sym (length-map reads read_of) ∙ ap length are ∙ length-map (reads_of_run s) traced_read in
-    ap (command_text (command.Export file))
-    (is ∙ (λ i. ended (spaced (text_of_traced (length (sym journal i)) (count i)))) ∙ sym (append-nil (ended (spaced (text_of_traced (length s.correct.journal) (length (reads_of_run s)))))))
+    ap (command_text (command.Export file)) (is ∙ (λ i. ended (spaced (text_of_traced (length (sym journal i)) (count i)))))
 
 -- the files after the step
 export_files : (here : Setting) (sign : Signs) (s : Session) (J : List Record) (reads : List ReadTrace) (file text : List ℕ) (files : List ℕ → Option (List ℕ)) → s.correct.node ≡ here.me → s.correct.journal ≡ J → map read_of reads ≡ map traced_read (reads_of_run s)
     → text ≡ file_of_trace (trace_at here.me J reads) → ((name : List ℕ) → files name ≡ s.files name) → (other : List ℕ) → (step_of here sign s (command.Export file)).session.files other ≡ stored files file text other
-unfolding step_of export_by
+unfolding step_of
 export_files here sign s J reads file text files own journal are is same other =
     stored_alike s.files files file (file_of_trace (trace_of_run s)) text (λ name. sym (same name)) (ap file_of_trace (trace_is s here.me J reads own journal are) ∙ sym is) other
 
@@ -52,7 +51,7 @@ unfolding step_of
 export_goes_on here sign s file = refl
 
 export_stays : (here : Setting) (sign : Signs) (s : Session) (file : List ℕ) → (step_of here sign s (command.Export file)).session.correct.journal ≡ s.correct.journal
-unfolding step_of export_by
+unfolding step_of
 export_stays here sign s file = refl
 
 -- the trace was stored and its line told, or not

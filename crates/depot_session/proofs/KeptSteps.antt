@@ -16,7 +16,7 @@ use Rattle.depot_traces.specs.SeenTraces as seen
 use Rattle.depot_traces.specs.TraceTexts.{read_text}
 use Rattle.depot_traces.specs.declared.trace.ReadTrace.{ReadTrace}
 use Rattle.depot_world.specs.Audits.{traced_read}
-use Rattle.depot_world.specs.Effects.{get_by, read_at_end}
+use Rattle.depot_requests.specs.Effects.{read_at_end}
 use Rattle.depot_session.specs.KeptReads.{AreOfRun, FitWithin, IsOneMore, KeepsReads, is_export}
 use Rattle.depot_session.specs.Sessions.{Session, answers_of, reads_of_run, step_of}
 use Rattle.depot_session.proofs.CorrectSteps.{IsNoGet, step_reads}
@@ -60,6 +60,14 @@ keeps_same here sign J c reads other = record {
 pub keeps_unread : (here : Setting) (sign : Signs) (J : List Record) (reads : Option (List ReadTrace)) (c d : Command) → c ≡ d → IsNoGet d → KeepsReads here sign J c reads reads
 keeps_unread here sign J reads c d is other = subst (λ (x : Command). KeepsReads here sign J x reads reads) (sym is) (keeps_same here sign J d reads other)
 
+-- a command that is none reads nothing
+no_get : (c : Command) → ((key : List ℕ) → c ≡ command.Get key → ⊥) → IsNoGet c
+no_get (command.Get key) not = not key refl
+no_get other not = tt
+
+pub keeps_silent : (here : Setting) (sign : Signs) (J : List Record) (reads : Option (List ReadTrace)) (c : Command) → ((key : List ℕ) → c ≡ command.Get key → ⊥) → KeepsReads here sign J c reads reads
+keeps_silent here sign J reads c not = keeps_same here sign J c reads (no_get c not)
+
 -- one more stands behind those of the run
 more_of_run : (s : Session) (J : List Record) (key : List ℕ) (rs : List ReadTrace) (r : ReadTrace) (all : List Read) → all ≡ s.correct.reads ++ read_at_end s.correct.journal key ∷ [] → s.correct.journal ≡ J → seen.read_of r ≡ traced_read (read_at_end J key) → AreOfRun s (Some rs)
     → (s.earlier ≤ length all) × (map seen.read_of (rs ++ r ∷ []) ≡ map traced_read (drop s.earlier all))
@@ -74,7 +82,7 @@ more_of_run s J key rs r all all_is at is are =
 
 -- a read keeps one more
 pub keeps_more : (here : Setting) (sign : Signs) (J : List Record) (key : List ℕ) (old new : Option (List ReadTrace)) → IsOneMore J key old new → KeepsReads here sign J (command.Get key) old new
-unfolding step_of get_by
+unfolding step_of
 keeps_more here sign J key None new more = record {
   kept = ap is_some more;
   fit = λ n fit. subst (FitWithin (n + 1)) (sym more) tt;

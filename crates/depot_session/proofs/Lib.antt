@@ -1,5 +1,5 @@
+pub mod AskedCommands
 pub mod LeftJournals
-pub mod StepSessions
 pub mod StepGrowth
 pub mod UnwrittenTexts
 pub mod Turning
@@ -7,16 +7,8 @@ pub mod StoredFiles
 pub mod ToldFaults
 pub mod Called
 pub mod Uncalled
-pub mod PrintedAnswers
 pub mod FittingScripts
-pub mod PutTurns
-pub mod ReceiptTurns
-pub mod GetTurns
-pub mod SettledTurns
-pub mod HelloTurns
 pub mod ExportTurns
-pub mod BundleTurns
-pub mod TakeTurns
 pub mod GoingOn
 pub mod CorrectSteps
 pub mod KeptSteps
@@ -26,8 +18,7 @@ pub mod LastReaders
 pub mod PlayedScripts
 pub mod RunImages
 pub mod RunEnds
-pub mod CheckpointTurns
-pub mod SignTurns
 pub mod ReaderTurns
 pub mod UnhinderedStreams
 pub mod UnhinderedSteps
+pub mod AskedTurns

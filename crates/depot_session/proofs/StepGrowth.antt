@@ -1,108 +1,44 @@
 -- Whatever a script makes a node do, its journal keeps its records, and the node stays who it is.
-use Rattle.std.proofs.Common.{◌≡◌, ℕ, List, [], ◌∷◌, Option, Some, None, refl, sym, ap, subst}
-use Rattle.depot_base.specs.Writes.{one_change}
-use Rattle.depot_model.specs.Bundle.{Signs, BundleAnswer, bundled, bundle_answer}
+use Rattle.std.proofs.Common.{◌≡◌, List, [], ◌∷◌, Option, Some, None, refl}
+use Rattle.depot_model.specs.Bundle.{Signs}
 use Rattle.depot_model.specs.Checks.{Setting}
-use Rattle.depot_model.specs.Opening.{make_of}
 use Rattle.depot_model.specs.Readers.{Reader}
 use Rattle.depot_model.proofs.FeedGrowth.{IsGrown, grown_none, grown_twice}
+use Rattle.depot_requests.proofs.ServedRequests.{served_grows}
 use Rattle.depot_script.specs.declared.command.Command.{Command}
 use Rattle.depot_script.specs.declared.command.Command.TheVariants as command
-use Rattle.depot_world.specs.Effects.{bundle_by, checkpoint_by}
-use Rattle.depot_world.specs.ScheduleStops.{Effect}
-use Rattle.depot_world.proofs.EffectGrowth.{put_grows, get_grows, hello_grows, bundle_grows, give_grows, receipt_grows, settled_grows, checkpoint_grows, sign_grows}
 use Rattle.depot_session.specs.declared.ending.ScriptEnding.{ScriptEnding}
-use Rattle.depot_session.specs.Sessions.{Answers, Session, Step, answers_of, bundle_step, bundle_to, export_by, followed_by, shown_by_last, step_of, take_from}
-use Rattle.depot_session.proofs.StepSessions.{checkpoint_session, sign_session, tgive_session, trim_session}
+use Rattle.depot_session.specs.Sessions.{Answers, Asking, Session, Step, answers_of, asked_in, asks_for, feeds, followed_by, shown_by_last, step_by, step_of, trims}
+use Rattle.depot_session.proofs.AskedCommands.{of_file}
 
 -- ---- a step
 
-bundle_step_grows : (s : Session) (hello file : List ℕ) (d : Effect) (a : BundleAnswer) → IsGrown s.correct.journal d.journal → IsGrown s.correct.journal (bundle_step s hello file d a).session.correct.journal
-bundle_step_grows s hello file d (bundled b) g = g
-bundle_step_grows s hello file d other g = g
+grows_by : (here : Setting) (sign : Signs) (s : Session) (c : Command) (a : Asking) → IsGrown s.correct.journal (step_by here sign s c a).session.correct.journal
+grows_by here sign s c (asks_for r) = served_grows here sign s.correct.journal r
+grows_by here sign s c other = grown_none s.correct.journal
 
 pub step_grows : (here : Setting) (sign : Signs) (s : Session) (c : Command) → IsGrown s.correct.journal (step_of here sign s c).session.correct.journal
-unfolding step_of export_by
-step_grows here sign s (command.Put key value) = put_grows here s.correct (one_change key value)
-step_grows here sign s (command.Puts changes) = put_grows here s.correct changes
-step_grows here sign s (command.Get key) = get_grows s.correct key
-step_grows here sign s (command.Hello file) = hello_grows here s.correct
-step_grows here sign s (command.Bundle hello file) = by_file (s.files hello) where
-  by_file : (o : Option (List ℕ)) → IsGrown s.correct.journal (bundle_to here sign s hello file o).session.correct.journal
-  by_file None = grown_none s.correct.journal
-  by_file (Some bytes) = bundle_step_grows s hello file (bundle_by here sign s.correct bytes) (bundle_answer here sign s.correct.journal bytes) (bundle_grows here sign s.correct bytes)
-step_grows here sign s (command.Take file) = by_file (s.files file) where
-  by_file : (o : Option (List ℕ)) → IsGrown s.correct.journal (take_from here s file o).session.correct.journal
-  by_file None = grown_none s.correct.journal
-  by_file (Some bytes) = give_grows here s.correct bytes
-step_grows here sign s (command.Receipt id) = receipt_grows here s.correct (id ∷ [])
-step_grows here sign s (command.Settled id k) = settled_grows s.correct id k
-step_grows here sign s (command.Export file) = grown_none s.correct.journal
-step_grows here sign s (command.Checkpoint file) =
-    let m = checkpoint_session here s file (checkpoint_by here s.correct) (make_of here s.correct.journal) in
-    subst (λ (t : Session). IsGrown s.correct.journal t.correct.journal) (sym m.1) (checkpoint_grows here s.correct)
-step_grows here sign s (command.Sign file) = sign_session (λ t. IsGrown s.correct.journal t.correct.journal) here s file (s.files file) (grown_none s.correct.journal) (λ text. sign_grows here s.correct text)
-step_grows here sign s (command.Trim file) = subst (λ (t : Session). IsGrown s.correct.journal t.correct.journal) (sym (trim_session here s file (s.files file)).1) (grown_none s.correct.journal)
-step_grows here sign s (command.Tgive file) = subst (λ (t : Session). IsGrown s.correct.journal t.correct.journal) (sym (tgive_session s file s.reader).1) (grown_none s.correct.journal)
-step_grows here sign s (command.Tget key) = by_reader s.reader where
-  by_reader : (o : Option Reader) → IsGrown s.correct.journal (shown_by_last s.correct key o).journal
-  by_reader None = grown_none s.correct.journal
-  by_reader (Some R) = grown_none s.correct.journal
+unfolding step_of
+step_grows here sign s c = grows_by here sign s c (asked_in s c)
 
-bundle_step_stays : (s : Session) (hello file : List ℕ) (d : Effect) (a : BundleAnswer) → (bundle_step s hello file d a).session.correct.node ≡ s.correct.node
-bundle_step_stays s hello file d (bundled b) = refl
-bundle_step_stays s hello file d other = refl
+stays_by : (here : Setting) (sign : Signs) (s : Session) (c : Command) (a : Asking) → (step_by here sign s c a).session.correct.node ≡ s.correct.node
+stays_by here sign s c (asks_for r) = refl
+stays_by here sign s c other = refl
 
 pub step_stays : (here : Setting) (sign : Signs) (s : Session) (c : Command) → (step_of here sign s c).session.correct.node ≡ s.correct.node
 unfolding step_of
-step_stays here sign s (command.Put key value) = refl
-step_stays here sign s (command.Puts changes) = refl
-step_stays here sign s (command.Get key) = refl
-step_stays here sign s (command.Hello file) = refl
-step_stays here sign s (command.Bundle hello file) = by_file (s.files hello) where
-  by_file : (o : Option (List ℕ)) → (bundle_to here sign s hello file o).session.correct.node ≡ s.correct.node
-  by_file None = refl
-  by_file (Some bytes) = bundle_step_stays s hello file (bundle_by here sign s.correct bytes) (bundle_answer here sign s.correct.journal bytes)
-step_stays here sign s (command.Take file) = by_file (s.files file) where
-  by_file : (o : Option (List ℕ)) → (take_from here s file o).session.correct.node ≡ s.correct.node
-  by_file None = refl
-  by_file (Some bytes) = refl
-step_stays here sign s (command.Receipt id) = refl
-step_stays here sign s (command.Settled id k) = refl
-step_stays here sign s (command.Export file) = refl
-step_stays here sign s (command.Checkpoint file) = ap (λ (t : Session). t.correct.node) (checkpoint_session here s file (checkpoint_by here s.correct) (make_of here s.correct.journal)).1
-step_stays here sign s (command.Sign file) = sign_session (λ t. t.correct.node ≡ s.correct.node) here s file (s.files file) refl (λ text. refl)
-step_stays here sign s (command.Trim file) = ap (λ (t : Session). t.correct.node) (trim_session here s file (s.files file)).1
-step_stays here sign s (command.Tgive file) = ap (λ (t : Session). t.correct.node) (tgive_session s file s.reader).1
-step_stays here sign s (command.Tget key) = refl
+step_stays here sign s c = stays_by here sign s c (asked_in s c)
 
-bundle_step_begun : (s : Session) (hello file : List ℕ) (d : Effect) (a : BundleAnswer) → (bundle_step s hello file d a).session.earlier ≡ s.earlier
-bundle_step_begun s hello file d (bundled b) = refl
-bundle_step_begun s hello file d other = refl
+begun_by : (here : Setting) (sign : Signs) (s : Session) (c : Command) (a : Asking) → (step_by here sign s c a).session.earlier ≡ s.earlier
+begun_by here sign s c (asks_for r) = refl
+begun_by here sign s c other = refl
 
 -- the reads of earlier runs are as many as before
 pub step_begun : (here : Setting) (sign : Signs) (s : Session) (c : Command) → (step_of here sign s c).session.earlier ≡ s.earlier
 unfolding step_of
-step_begun here sign s (command.Put key value) = refl
-step_begun here sign s (command.Puts changes) = refl
-step_begun here sign s (command.Get key) = refl
-step_begun here sign s (command.Hello file) = refl
-step_begun here sign s (command.Bundle hello file) = by_file (s.files hello) where
-  by_file : (o : Option (List ℕ)) → (bundle_to here sign s hello file o).session.earlier ≡ s.earlier
-  by_file None = refl
-  by_file (Some bytes) = bundle_step_begun s hello file (bundle_by here sign s.correct bytes) (bundle_answer here sign s.correct.journal bytes)
-step_begun here sign s (command.Take file) = by_file (s.files file) where
-  by_file : (o : Option (List ℕ)) → (take_from here s file o).session.earlier ≡ s.earlier
-  by_file None = refl
-  by_file (Some bytes) = refl
-step_begun here sign s (command.Receipt id) = refl
-step_begun here sign s (command.Settled id k) = refl
-step_begun here sign s (command.Export file) = refl
-step_begun here sign s (command.Checkpoint file) = ap (λ (t : Session). t.earlier) (checkpoint_session here s file (checkpoint_by here s.correct) (make_of here s.correct.journal)).1
-step_begun here sign s (command.Sign file) = sign_session (λ t. t.earlier ≡ s.earlier) here s file (s.files file) refl (λ text. refl)
-step_begun here sign s (command.Trim file) = ap (λ (t : Session). t.earlier) (trim_session here s file (s.files file)).1
-step_begun here sign s (command.Tgive file) = ap (λ (t : Session). t.earlier) (tgive_session s file s.reader).1
-step_begun here sign s (command.Tget key) = refl
+step_begun here sign s c = begun_by here sign s c (asked_in s c)
+
+-- ---- readers
 
 -- the command makes no reader and gives none a stream
 abbrev pub MakesNoReader : Command → Type 0
@@ -110,33 +46,33 @@ MakesNoReader (command.Trim file) = ⊥
 MakesNoReader (command.Tgive file) = ⊥
 MakesNoReader other = Unit {0}
 
-bundle_step_reader : (s : Session) (hello file : List ℕ) (d : Effect) (a : BundleAnswer) → (bundle_step s hello file d a).session.reader ≡ s.reader
-bundle_step_reader s hello file d (bundled b) = refl
-bundle_step_reader s hello file d other = refl
+-- nor is it asked for
+abbrev AsksNone : Asking → Type 0
+AsksNone (trims text) = ⊥
+AsksNone (feeds R stream) = ⊥
+AsksNone other = Unit {0}
+
+asks_none : (s : Session) (c : Command) → MakesNoReader c → AsksNone (asked_in s c)
+asks_none s (command.Bundle hello file) other = of_file AsksNone _ hello (s.files hello) tt (λ bytes. tt)
+asks_none s (command.Take file) other = of_file AsksNone _ file (s.files file) tt (λ bytes. tt)
+asks_none s (command.Sign file) other = of_file AsksNone _ file (s.files file) tt (λ bytes. tt)
+asks_none s (command.Trim file) other = absurd other
+asks_none s (command.Tgive file) other = absurd other
+asks_none s (command.Tget key) other = by_reader s.reader where
+  by_reader : (o : Option Reader) → AsksNone (shown_by_last key o)
+  by_reader None = tt
+  by_reader (Some R) = tt
+asks_none s c other = tt
+
+reader_by : (here : Setting) (sign : Signs) (s : Session) (c : Command) (a : Asking) → AsksNone a → (step_by here sign s c a).session.reader ≡ s.reader
+reader_by here sign s c (trims text) none = absurd none
+reader_by here sign s c (feeds R stream) none = absurd none
+reader_by here sign s c other none = refl
 
 -- so the last one is that from before
 pub step_reader : (here : Setting) (sign : Signs) (s : Session) (c : Command) → MakesNoReader c → (step_of here sign s c).session.reader ≡ s.reader
 unfolding step_of
-step_reader here sign s (command.Put key value) other = refl
-step_reader here sign s (command.Puts changes) other = refl
-step_reader here sign s (command.Get key) other = refl
-step_reader here sign s (command.Hello file) other = refl
-step_reader here sign s (command.Bundle hello file) other = by_file (s.files hello) where
-  by_file : (o : Option (List ℕ)) → (bundle_to here sign s hello file o).session.reader ≡ s.reader
-  by_file None = refl
-  by_file (Some bytes) = bundle_step_reader s hello file (bundle_by here sign s.correct bytes) (bundle_answer here sign s.correct.journal bytes)
-step_reader here sign s (command.Take file) other = by_file (s.files file) where
-  by_file : (o : Option (List ℕ)) → (take_from here s file o).session.reader ≡ s.reader
-  by_file None = refl
-  by_file (Some bytes) = refl
-step_reader here sign s (command.Receipt id) other = refl
-step_reader here sign s (command.Settled id k) other = refl
-step_reader here sign s (command.Export file) other = refl
-step_reader here sign s (command.Checkpoint file) other = ap (λ (t : Session). t.reader) (checkpoint_session here s file (checkpoint_by here s.correct) (make_of here s.correct.journal)).1
-step_reader here sign s (command.Sign file) other = sign_session (λ t. t.reader ≡ s.reader) here s file (s.files file) refl (λ text. refl)
-step_reader here sign s (command.Trim file) other = absurd other
-step_reader here sign s (command.Tgive file) other = absurd other
-step_reader here sign s (command.Tget key) other = refl
+step_reader here sign s c other = reader_by here sign s c (asked_in s c) (asks_none s c other)
 
 -- ---- a script
 

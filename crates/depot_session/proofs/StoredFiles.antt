@@ -58,17 +58,14 @@ stored_alike files others name bytes more same is other = by_name (bytes_eq othe
   by_name true = ap (λ (x : List ℕ). Some x) is
   by_name false = same other
 
--- what was stored after a load was stored on the shelf from before
-pub stored_from : {F : Type 0} (g : shelf_of.Ghosts F) (old mid new : F) (sink : Sinks) (text name bytes : List ℕ) (r : Result (Unit {0}) ScriptEnding) → g.tells mid ≡ g.tells old → g.file mid ≡ g.file old → g.failed mid ≡ g.failed old → g.faults mid ≡ g.faults old
-    → Stores (shelves g mid new) sink text name bytes r → Stores (shelves g old new) sink text name bytes r
-stored_from g old mid new sink text name bytes r told same calm quiet st =
-    let alike : shelves g mid new ≡ shelves g old new = λ i. record {
-      tells = told i;
-      file = same i;
-      file_after = g.file new;
-      failed_before = calm i;
-      failed_after = g.failed new;
-      faults_before = quiet i;
-      faults_after = g.faults new;
-    } in
-    subst (λ (x : Shelves). Stores x sink text name bytes r) alike st
+-- a shelf of which a file was loaded is seen as from before the load
+pub shelves_from : {F : Type 0} (g : shelf_of.Ghosts F) (old mid new : F) → g.tells mid ≡ g.tells old → g.file mid ≡ g.file old → g.failed mid ≡ g.failed old → g.faults mid ≡ g.faults old → shelves g mid new ≡ shelves g old new
+shelves_from g old mid new told same calm quiet = λ i. record {
+  tells = told i;
+  file = same i;
+  file_after = g.file new;
+  failed_before = calm i;
+  failed_after = g.failed new;
+  faults_before = quiet i;
+  faults_after = g.faults new;
+}

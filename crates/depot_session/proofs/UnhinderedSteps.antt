@@ -5,29 +5,35 @@ use Rattle.std.proofs.lemmas.Slice.Eq.{bytes_eq-Decides}
 use Rattle.std.specs.Str.{bytes_eq}
 use Rattle.depot_base.proofs.Combined.{whole_again}
 use Rattle.depot_base.specs.Format.{whole}
+use Rattle.depot_base.specs.Writes.{one_change}
 use Rattle.depot_base.specs.declared.record.Record.{Record}
+use Rattle.depot_base.specs.declared.write.Change.{Change}
 use Rattle.depot_model.proofs.CheckpointLaws.{checkpoint_lawful}
 use Rattle.depot_model.proofs.HelloLaws.{hello_lawful}
 use Rattle.depot_model.specs.Bundle.{Signs, answer_to_hello, bundle_answer, bundle_of, bundled, bundled_within, BundleAnswer}
 use Rattle.depot_model.specs.Checkpoints.{checkpoint}
 use Rattle.depot_model.specs.Checks.{Setting}
+use Rattle.depot_model.specs.Feeding.{Closing}
 use Rattle.depot_model.specs.Hello.{hello}
 use Rattle.depot_model.specs.Journal.{accepted}
 use Rattle.depot_model.specs.Limits.{Limit, limit_of_put}
-use Rattle.depot_model.specs.Opening.{MadeCheckpoint, Opened, ids_of, made_text, make_of, opened_as, opened_text, opened_unless, unknown_leaf}
+use Rattle.depot_model.specs.Opening.{MadeCheckpoint, Opened, ids_of, made_text, make_of, many_leaves, no_leaves, opened_as, opened_text, opened_unless, unknown_leaf}
 use Rattle.depot_model.specs.ReaderFeeds.{reader_feed_of}
 use Rattle.depot_model.specs.Readers.{Reader, trim_of, trimmed_as, trimmed_unless, unsigned_node}
-use Rattle.depot_model.specs.Receipts.{NoReceipt, no_receipt, receipt_changes}
+use Rattle.depot_model.specs.Receipts.{NoReceipt, lacks_value, no_receipt, receipt_changes, unknown}
 use Rattle.depot_model.specs.Roster.{has_node}
 use Rattle.depot_model.specs.Taking.{at_start}
 use Rattle.depot_model.specs.Texts.{hash_of_roster}
 use Rattle.depot_script.specs.declared.command.Command.{Command}
 use Rattle.depot_script.specs.declared.command.Command.TheVariants as command
-use Rattle.depot_world.specs.Effects.{bundle_by, checkpoint_by, checkpoint_changes}
-use Rattle.depot_world.specs.ScheduleStops.{Effect}
+use Rattle.depot_requests.specs.Effects.{checkpoint_changes}
+use Rattle.depot_requests.specs.Replies.{closing_told}
+use Rattle.depot_requests.specs.Requests.{bundle_served, checkpoint_served, handing, put_served, receipts_served, served, sign_served}
+use Rattle.depot_requests.specs.declared.request.Request.TheVariants as request
 use Rattle.depot_session.specs.declared.ending.ScriptEnding.{ScriptEnding}
 use Rattle.depot_session.specs.declared.ending.ScriptEnding.TheVariants as ending
-use Rattle.depot_session.specs.Sessions.{Session, answers_of, bundle_step, bundle_to, checkpoint_put, checkpoint_step, ending_of_put, ending_of_receipt, ending_of_sign, ending_of_take, ending_of_tgive, ending_of_trim, followed_by, sign_from, step_of, take_from, tgive_from, tgive_to, trim_from}
+use Rattle.depot_session.specs.Sessions.{Asking, Session, answers_of, asks_for, ending_of_closing, ending_of_reply, ending_of_tgive, ending_of_trim, feeds, followed_by, given_by_name, shown_by_last, step_by, step_of, trims, with_file}
+use Rattle.depot_session.specs.declared.requesting.TheConstants.{TAKEN_PIECE}
 use Rattle.depot_session.specs.Unhindered.{AreUnhindered, IsCheckpointOf, IsHelloFor, IsThere, IsUnhindered}
 use Rattle.depot_session.proofs.UnhinderedStreams.{taken_whole}
 
@@ -55,13 +61,27 @@ is_opened here J text c =
     ∙ ap (opened_as here J) (whole_again checkpoint _ checkpoint_lawful 0 c.made c.fits)
     ∙ cond-true (bytes_eq c.made.roster (hash_of_roster here.listed)) _ _ same
 
-checkpoint_goes : (here : Setting) (s : Session) (file : List ℕ) (d : Effect) (m : MadeCheckpoint) → ((text : List ℕ) → m ≡ made_text text → limit_of_put here s.correct.journal (checkpoint_changes text) ≡ None) → (checkpoint_step here s file d m).ending ≡ None
-checkpoint_goes here s file d (made_text text) within = ap (λ (o : Option Limit). (checkpoint_put s file d o).ending) (within text refl)
-checkpoint_goes here s file d other within = refl
+-- ---- what a node replies
 
-sign_goes : (limit : Option Limit) (ids : List (List ℕ)) (o : Option (List ℕ)) → limit ≡ None → ending_of_sign limit (opened_unless ids o) ≡ None
-sign_goes limit ids (Some id) within = refl
-sign_goes limit ids None within = ap ending_of_put within
+-- a put that meets no limit
+put_goes : (here : Setting) (J : List Record) (changes : List Change) (o : Option Limit) → o ≡ None → ending_of_reply (put_served here J changes o).reply ≡ None
+put_goes here J changes o within = ap (λ (x : Option Limit). ending_of_reply (put_served here J changes x).reply) within
+
+receipt_goes : (here : Setting) (J : List Record) (ids : List (List ℕ)) (o : Option NoReceipt) → (o ≡ None → limit_of_put here J (receipt_changes ids) ≡ None) → ending_of_reply (receipts_served here J ids o).reply ≡ None
+receipt_goes here J ids (Some (unknown id)) within = refl
+receipt_goes here J ids (Some (lacks_value id)) within = refl
+receipt_goes here J ids None within = put_goes here J (receipt_changes ids) (limit_of_put here J (receipt_changes ids)) (within refl)
+
+checkpoint_goes : (here : Setting) (J : List Record) (m : MadeCheckpoint) → ((text : List ℕ) → m ≡ made_text text → limit_of_put here J (checkpoint_changes text) ≡ None) → ending_of_reply (checkpoint_served here J m).reply ≡ None
+checkpoint_goes here J no_leaves within = refl
+checkpoint_goes here J (many_leaves n) within = refl
+checkpoint_goes here J (made_text text) within = ap (λ (o : Option Limit). ending_of_reply (handing text (put_served here J (checkpoint_changes text) o)).reply) (within text refl)
+
+sign_goes : (here : Setting) (J : List Record) (text : List ℕ) (ids : List (List ℕ)) (o : Option (List ℕ)) → limit_of_put here J (checkpoint_changes text) ≡ None → ending_of_reply (sign_served here J text (opened_unless ids o)).reply ≡ None
+sign_goes here J text ids (Some id) within = refl
+sign_goes here J text ids None within = put_goes here J (checkpoint_changes text) (limit_of_put here J (checkpoint_changes text)) within
+
+-- ---- readers
 
 trim_goes : (here : Setting) (J : List Record) (text : List ℕ) (ids : List (List ℕ)) (o : Option (List ℕ)) → ending_of_trim (trimmed_as here J text (opened_unless ids o)) ≡ None
 trim_goes here J text ids (Some id) = refl
@@ -75,40 +95,45 @@ trim_text_goes : (here : Setting) (J : List Record) (text : List ℕ) → IsChec
 unfolding trim_of
 trim_text_goes here J text c = ap (λ (o : Opened). ending_of_trim (trimmed_as here J text o)) (is_opened here J text c) ∙ trim_goes here J text (ids_of c.made) (unknown_leaf (accepted J) c.made.leaves)
 
--- ---- receipts, and what a reader takes
+module _ (here : Setting) (sign : Signs) (s : Session) (c : Command) where
+  -- with a file that is there
+  with_there : (asks : List ℕ → Asking) (name bytes : List ℕ) → s.files name ≡ Some bytes → (step_by here sign s c (with_file asks name (s.files name))).ending ≡ (step_by here sign s c (asks bytes)).ending
+  with_there asks name bytes there = ap (λ (o : Option (List ℕ)). (step_by here sign s c (with_file asks name o)).ending) there
 
-receipt_goes : (o : Option NoReceipt) (limit : Option Limit) → (o ≡ None → limit ≡ None) → ending_of_receipt o limit ≡ None
-receipt_goes (Some why) limit within = refl
-receipt_goes None limit within = ap ending_of_put (within refl)
+  given_goes : (file : List ℕ) (o : Option Reader) → ((R : Reader) → o ≡ Some R → IsThere s file (λ stream. (reader_feed_of R stream).full ≡ None)) → (step_by here sign s c (given_by_name s file o)).ending ≡ None
+  given_goes file None each = refl
+  given_goes file (Some R) each = let one = each R refl in with_there (feeds R) file one.bytes one.there ∙ ap ending_of_tgive one.holds
 
-tgive_goes : (s : Session) (file : List ℕ) (o : Option Reader) → ((R : Reader) → o ≡ Some R → IsThere s file (λ stream. (reader_feed_of R stream).full ≡ None)) → (tgive_to s file o).ending ≡ None
-tgive_goes s file None each = refl
-tgive_goes s file (Some R) each = let one = each R refl in ap (λ (x : Option (List ℕ)). (tgive_from s file R x).ending) one.there ∙ ap ending_of_tgive one.holds
+  shown_goes : (key : List ℕ) (o : Option Reader) → (step_by here sign s c (shown_by_last key o)).ending ≡ None
+  shown_goes key None = refl
+  shown_goes key (Some R) = refl
 
 -- ---- each command
 
 goes_on : (here : Setting) (sign : Signs) (s : Session) (c : Command) → IsUnhindered here sign s c → (step_of here sign s c).ending ≡ None
-unfolding step_of
-goes_on here sign s (command.Put key value) within = ap ending_of_put within
-goes_on here sign s (command.Puts changes) within = ap ending_of_put within
+unfolding step_of served
+goes_on here sign s (command.Put key value) within = put_goes here s.correct.journal (one_change key value) (limit_of_put here s.correct.journal (one_change key value)) within
+goes_on here sign s (command.Puts changes) within = put_goes here s.correct.journal changes (limit_of_put here s.correct.journal changes) within
 goes_on here sign s (command.Get key) u = refl
 goes_on here sign s (command.Hello file) u = refl
 goes_on here sign s (command.Bundle hello file) u =
-    ap (λ (o : Option (List ℕ)). (bundle_to here sign s hello file o).ending) u.there ∙ ap (λ (a : BundleAnswer). (bundle_step s hello file (bundle_by here sign s.correct u.bytes) a).ending) (is_bundled here sign s.correct.journal u.bytes u.holds)
-goes_on here sign s (command.Take file) u = ap (λ (o : Option (List ℕ)). (take_from here s file o).ending) u.there ∙ ap ending_of_take (taken_whole here s.correct.journal u.bytes u.holds)
-goes_on here sign s (command.Receipt id) within = receipt_goes (no_receipt s.correct.journal (id ∷ [])) (limit_of_put here s.correct.journal (receipt_changes (id ∷ []))) within
+    let J = s.correct.journal in
+    with_there here sign s (command.Bundle hello file) (λ bytes. asks_for (request.Bundle bytes)) hello u.bytes u.there ∙ ap (λ (a : BundleAnswer). ending_of_reply (bundle_served J a).reply) (is_bundled here sign J u.bytes u.holds)
+goes_on here sign s (command.Take file) u =
+    with_there here sign s (command.Take file) (λ bytes. asks_for (request.Take bytes TAKEN_PIECE)) file u.bytes u.there ∙ ap (λ (o : Option Closing). ending_of_closing (closing_told o)) (taken_whole here s.correct.journal u.bytes u.holds)
+goes_on here sign s (command.Receipt id) within = receipt_goes here s.correct.journal (id ∷ []) (no_receipt s.correct.journal (id ∷ [])) within
 goes_on here sign s (command.Settled id k) u = refl
 goes_on here sign s (command.Export file) u = refl
-goes_on here sign s (command.Checkpoint file) within = checkpoint_goes here s file (checkpoint_by here s.correct) (make_of here s.correct.journal) within
+goes_on here sign s (command.Checkpoint file) within = checkpoint_goes here s.correct.journal (make_of here s.correct.journal) within
 goes_on here sign s (command.Sign file) u =
     let J = s.correct.journal in
     let c = u.holds.0 in
-    ap (λ (o : Option (List ℕ)). (sign_from here s file o).ending) u.there
-    ∙ ap (ending_of_sign (limit_of_put here J (checkpoint_changes u.bytes))) (is_opened here J u.bytes c)
-    ∙ sign_goes (limit_of_put here J (checkpoint_changes u.bytes)) (ids_of c.made) (unknown_leaf (accepted J) c.made.leaves) u.holds.1
-goes_on here sign s (command.Trim file) u = ap (λ (o : Option (List ℕ)). (trim_from here s file o).ending) u.there ∙ trim_text_goes here s.correct.journal u.bytes u.holds
-goes_on here sign s (command.Tgive file) u = tgive_goes s file s.reader u
-goes_on here sign s (command.Tget key) u = refl
+    with_there here sign s (command.Sign file) (λ bytes. asks_for (request.Sign bytes)) file u.bytes u.there
+    ∙ ap (λ (o : Opened). ending_of_reply (sign_served here J u.bytes o).reply) (is_opened here J u.bytes c)
+    ∙ sign_goes here J u.bytes (ids_of c.made) (unknown_leaf (accepted J) c.made.leaves) u.holds.1
+goes_on here sign s (command.Trim file) u = with_there here sign s (command.Trim file) trims file u.bytes u.there ∙ trim_text_goes here s.correct.journal u.bytes u.holds
+goes_on here sign s (command.Tgive file) u = given_goes here sign s (command.Tgive file) file s.reader u
+goes_on here sign s (command.Tget key) u = shown_goes here sign s (command.Tget key) key s.reader
 
 -- ---- a script
 

@@ -3,4 +3,5 @@ pub mod KeptReads
 pub mod SessionRuns
 pub mod ScriptTelling
 pub mod Turns
+pub mod ReplyTelling
 pub mod Unhindered

@@ -2,33 +2,37 @@
 use Rattle.std.specs.Prelude.{◌≡◌, ◌⊎◌, ℕ, List, [], ◌∷◌, ◌++◌, length, take, drop, Bool, true, is_some, Option, Some, None, codes, if◌then◌else◌}
 use Rattle.std.specs.Str.{bytes_eq}
 use Rattle.depot_answers.specs.AnswerTexts.{spaced, text_of_reader_feed, text_of_traced, text_of_trim}
+use Rattle.depot_answers.specs.declared.exchange_answers.Closing.{Closing}
+use Rattle.depot_answers.specs.declared.exchange_answers.Closing.TheVariants as closing
 use Rattle.depot_base.specs.Writes.{one_change}
+use Rattle.depot_base.specs.declared.check.Full.{Full}
 use Rattle.depot_base.specs.declared.record.Record.{Record}
-use Rattle.depot_base.specs.declared.write.Change.{Change}
-use Rattle.depot_model.specs.Bundle.{Signs, BundleAnswer, bundled, bad_hello, other_roster, limited, bundle_answer}
+use Rattle.depot_model.specs.Bundle.{Signs}
 use Rattle.depot_model.specs.Checks.{Setting}
-use Rattle.depot_model.specs.Feeding.{Closing, ill_formed, out_of_room, feed_of}
-use Rattle.depot_model.specs.Limits.{Limit, limit_of_put}
-use Rattle.depot_model.specs.Opening.{MadeCheckpoint, made_text, make_of, Opened, ill_at, of_roster, with_unknown, opened, opened_text}
+use Rattle.depot_model.specs.Opening.{ill_at, of_roster, with_unknown, opened}
 use Rattle.depot_model.specs.ReaderFeeds.{ReaderFeed, reader_feed_of}
 use Rattle.depot_model.specs.Readers.{Reader, TrimAnswer, unopened, unsigned, reading, trim_of}
-use Rattle.depot_model.specs.Receipts.{NoReceipt, no_receipt, receipt_changes}
-use Rattle.depot_base.specs.declared.check.Full.{Full}
 use Rattle.depot_model.specs.Traces.{Trace}
 use Rattle.depot_model.specs.World.{Correct, Read}
 use Rattle.depot_lines.specs.Language.{join}
+use Rattle.depot_requests.specs.Effects.{ended}
+use Rattle.depot_requests.specs.Replies.{lines_of_reply}
+use Rattle.depot_requests.specs.Requests.{Served, reads_after, served}
+use Rattle.depot_requests.specs.declared.reply.Reason.TheVariants as reason
+use Rattle.depot_requests.specs.declared.reply.Reply.{Reply}
+use Rattle.depot_requests.specs.declared.reply.Reply.TheVariants as reply
+use Rattle.depot_requests.specs.declared.request.Request.{Request}
+use Rattle.depot_requests.specs.declared.request.Request.TheVariants as request
 use Rattle.depot_script.specs.Scripts.{command_words}
 use Rattle.depot_script.specs.declared.command.Command.{Command}
 use Rattle.depot_script.specs.declared.command.Command.TheVariants as command
 use Rattle.depot_traces.specs.ToldTraces.{file_of_trace}
 use Rattle.depot_world.specs.Audits.{trace_with}
-use Rattle.depot_world.specs.Effects.{idle, put_by, get_by, hello_by, bundle_by, give_by, receipt_by, settled_by, checkpoint_by, checkpoint_changes, sign_by}
-use Rattle.depot_world.specs.ScheduleStops.{Effect}
 use Rattle.depot_world.specs.Transcript.{answer_of_reader}
-use Rattle.depot_node_lines.specs.Printing.{lines_of_effect}
 use Rattle.depot_node.specs.Starting.{started}
 use Rattle.depot_session.specs.declared.ending.ScriptEnding.{ScriptEnding}
 use Rattle.depot_session.specs.declared.ending.ScriptEnding.TheVariants as ending
+use Rattle.depot_session.specs.declared.requesting.TheConstants.{TAKEN_PIECE}
 
 -- ---- the session
 
@@ -84,28 +88,6 @@ printed_count other = 2
 abbrev pub command_text : Command → List ℕ → List ℕ
 command_text c lines = join 32 (take (printed_count c) (command_words c)) ++ codes " ->" ++ lines
 
--- the lines of a command that a node carries out
-abbrev pub lines_of_command : Command → Effect → List ℕ
-lines_of_command c d = command_text c (lines_of_effect d)
-
--- a command that a node carries out
-abbrev pub carried_out : Session → Command → Effect → Option ScriptEnding → Step
-carried_out s c d ends = record {
-  text = lines_of_command c d;
-  stores = [];
-  session = record s { correct = record { node = s.correct.node; journal = d.journal; reads = d.reads } };
-  ending = ends;
-}
-
--- the same, and what it hands out becomes a file
-abbrev pub carried_out_storing : Session → Command → Effect → List ℕ → Step
-carried_out_storing s c d file = record {
-  text = lines_of_command c d;
-  stores = file ∷ [];
-  session = record s { correct = record { node = s.correct.node; journal = d.journal; reads = d.reads }; files = stored s.files file d.bytes };
-  ending = None;
-}
-
 -- the command stores under this name
 abbrev pub StoresAs : Command → List ℕ → Type 0
 StoresAs (command.Hello file) name = file ≡ name
@@ -148,34 +130,86 @@ shelf_line name = codes "shelf " ++ name ++ codes "\n"
 abbrev pub absent : Session → List ℕ → Step
 absent s name = record { text = shelf_line name; stores = []; session = s; ending = Some ending.Shelf }
 
+-- ---- what a command asks for
+
+-- What a command asks for in a session.
+pub data Asking : Type 0 where
+  -- the node is asked for this
+  asks_for : Request → Asking
+  -- nothing is asked for, since a file of this name isn't there
+  lacks : List ℕ → Asking
+  -- the run is asked for its trace
+  hands_in : Asking
+  -- a reader is to be made of the node, below the checkpoint of this text
+  trims : List ℕ → Asking
+  -- this reader is given a stream
+  feeds : Reader → List ℕ → Asking
+  -- this reader is asked for a key
+  shows : Reader → List ℕ → Asking
+  -- a reader is asked for something, and none was made
+  no_reader : Asking
+
+-- with a file of this name, which may be absent
+abbrev pub with_file : (List ℕ → Asking) → List ℕ → Option (List ℕ) → Asking
+with_file asks name None = lacks name
+with_file asks name (Some bytes) = asks bytes
+
+-- The last reader is given a stream. Where none was made, no file is asked for.
+abbrev pub given_by_name : Session → List ℕ → Option Reader → Asking
+given_by_name s name None = no_reader
+given_by_name s name (Some R) = with_file (feeds R) name (s.files name)
+
+-- it is asked for a key
+abbrev pub shown_by_last : List ℕ → Option Reader → Asking
+shown_by_last key None = no_reader
+shown_by_last key (Some R) = shows R key
+
+abbrev pub asked_in : Session → Command → Asking
+asked_in s (command.Put key value) = asks_for (request.Put (one_change key value))
+asked_in s (command.Puts changes) = asks_for (request.Put changes)
+asked_in s (command.Get key) = asks_for (request.Get key)
+asked_in s (command.Hello file) = asks_for request.Hello
+asked_in s (command.Bundle hello file) = with_file (λ bytes. asks_for (request.Bundle bytes)) hello (s.files hello)
+asked_in s (command.Take file) = with_file (λ bytes. asks_for (request.Take bytes TAKEN_PIECE)) file (s.files file)
+asked_in s (command.Receipt id) = asks_for (request.Receipt (id ∷ []))
+asked_in s (command.Settled id k) = asks_for (request.Settled id k)
+asked_in s (command.Export file) = hands_in
+asked_in s (command.Checkpoint file) = asks_for request.Checkpoint
+asked_in s (command.Sign file) = with_file (λ bytes. asks_for (request.Sign bytes)) file (s.files file)
+asked_in s (command.Trim file) = with_file trims file (s.files file)
+asked_in s (command.Tgive file) = given_by_name s file s.reader
+asked_in s (command.Tget key) = shown_by_last key s.reader
+
+-- it asks a node
+abbrev pub AsksTheNode : Command → Type 0
+AsksTheNode (command.Export file) = ⊥
+AsksTheNode (command.Trim file) = ⊥
+AsksTheNode (command.Tgive file) = ⊥
+AsksTheNode (command.Tget key) = ⊥
+AsksTheNode other = Unit {0}
+
+-- the file with whose bytes it asks one, if there is one
+abbrev pub file_asked : Command → Option (List ℕ)
+file_asked (command.Bundle hello file) = Some hello
+file_asked (command.Take file) = Some file
+file_asked (command.Sign file) = Some file
+file_asked other = None
+
 -- ---- how a command ends the run
 
-abbrev pub ending_of_put : Option Limit → Option ScriptEnding
-ending_of_put None = None
-ending_of_put (Some limit) = Some ending.Limit
+-- by why the feed of a stream was closed, if it was
+abbrev pub ending_of_closing : Option Closing → Option ScriptEnding
+ending_of_closing None = None
+ending_of_closing (Some (closing.IllFormed at)) = Some ending.Input
+ending_of_closing (Some (closing.Full what)) = Some ending.Limit
 
--- a receipt that isn't given ends nothing
-abbrev pub ending_of_receipt : Option NoReceipt → Option Limit → Option ScriptEnding
-ending_of_receipt (Some why) limit = None
-ending_of_receipt None limit = ending_of_put limit
-
-abbrev pub ending_of_bundle : BundleAnswer → Option ScriptEnding
-ending_of_bundle (bundled b) = None
-ending_of_bundle (bad_hello at) = Some ending.Input
-ending_of_bundle (other_roster given) = Some ending.Identity
-ending_of_bundle (limited limit) = Some ending.Limit
-
-abbrev pub ending_of_take : Option Closing → Option ScriptEnding
-ending_of_take None = None
-ending_of_take (Some (ill_formed at)) = Some ending.Input
-ending_of_take (Some (out_of_room what)) = Some ending.Limit
-
--- a checkpoint that isn't made ends nothing; the put of one that is made ends the run where it meets a limit
-abbrev pub ending_of_sign : Option Limit → Opened → Option ScriptEnding
-ending_of_sign limit (ill_at at) = Some ending.Input
-ending_of_sign limit (of_roster given) = Some ending.Identity
-ending_of_sign limit (with_unknown id) = None
-ending_of_sign limit (opened ids) = ending_of_put limit
+-- by the node's reply
+abbrev pub ending_of_reply : Reply → Option ScriptEnding
+ending_of_reply (reply.Stream report why) = ending_of_closing why
+ending_of_reply (reply.Refused (reason.Limit met)) = Some ending.Limit
+ending_of_reply (reply.Refused (reason.IllFormed at)) = Some ending.Input
+ending_of_reply (reply.Refused (reason.OtherRoster given)) = Some ending.Identity
+ending_of_reply other = None
 
 abbrev pub ending_of_trim : TrimAnswer → Option ScriptEnding
 ending_of_trim (unopened (ill_at at)) = Some ending.Input
@@ -190,55 +224,55 @@ abbrev pub ending_of_tgive : Option Full → Option ScriptEnding
 ending_of_tgive None = None
 ending_of_tgive (Some what) = Some ending.Limit
 
+-- ---- what a command hands out, and where it is stored
+
+-- what a reply hands out
+abbrev pub handed_over : Reply → Option (List ℕ)
+handed_over (reply.Hello hello text) = Some text
+handed_over (reply.Bundle bytes counts more) = Some bytes
+handed_over (reply.Checkpoint done text) = Some text
+handed_over other = None
+
+-- the name under which a command stores what is handed out to it
+abbrev pub name_stored : Command → Option (List ℕ)
+name_stored (command.Hello file) = Some file
+name_stored (command.Bundle hello file) = Some file
+name_stored (command.Export file) = Some file
+name_stored (command.Checkpoint file) = Some file
+name_stored other = None
+
+-- what is handed out, if anything is, becomes a file, if there is a name for it
+abbrev pub files_after : Files → Option (List ℕ) → Option (List ℕ) → Files
+files_after files (Some bytes) (Some name) = stored files name bytes
+files_after files bytes name = files
+
+abbrev pub names_after : Option (List ℕ) → Option (List ℕ) → List (List ℕ)
+names_after (Some bytes) (Some name) = name ∷ []
+names_after bytes name = []
+
 -- ---- what each command does
 
--- a bundle that is made becomes a file; where none is, nothing is stored
-abbrev pub bundle_step : Session → List ℕ → List ℕ → Effect → BundleAnswer → Step
-bundle_step s hello file d (bundled b) = carried_out_storing s (command.Bundle hello file) d file
-bundle_step s hello file d other = carried_out s (command.Bundle hello file) d (ending_of_bundle other)
+-- A command of which these lines stand behind the arrow, and by which this is handed out.
+abbrev pub told_step : Session → Command → List ℕ → Option (List ℕ) → Option ScriptEnding → Step
+told_step s c lines out ends = record {
+  text = command_text c lines;
+  stores = names_after out (name_stored c);
+  session = record s { files = files_after s.files out (name_stored c) };
+  ending = ends;
+}
 
--- a bundle for the hello in a file, which may be absent
-abbrev pub bundle_to : Setting → Signs → Session → List ℕ → List ℕ → Option (List ℕ) → Step
-bundle_to here sign s hello file None = absent s hello
-bundle_to here sign s hello file (Some bytes) = bundle_step s hello file (bundle_by here sign s.correct bytes) (bundle_answer here sign s.correct.journal bytes)
+-- a command to which a node replied, and its reads then
+abbrev pub answered_step : Session → Command → List Read → Served → Step
+answered_step s c reads d =
+    told_step (record s { correct = record { node = s.correct.node; journal = d.journal; reads = reads } }) c (lines_of_reply d.reply) (handed_over d.reply) (ending_of_reply d.reply)
 
--- the stream in a file, which may be absent, is taken
-abbrev pub take_from : Setting → Session → List ℕ → Option (List ℕ) → Step
-take_from here s file None = absent s file
-take_from here s file (Some bytes) =
-    carried_out s (command.Take file) (give_by here s.correct bytes) (ending_of_take (feed_of here s.correct.journal bytes).closed)
+-- one that asks a node for this
+abbrev pub asked_step : Setting → Signs → Session → Command → Request → Step
+asked_step here sign s c r = answered_step s c (reads_after s.correct r) (served here sign s.correct.journal r)
 
--- the command asks for these changes
-abbrev pub IsPut : Command → List Change → Type 0
-IsPut (command.Put key value) changes = changes ≡ one_change key value
-IsPut (command.Puts asked) changes = changes ≡ asked
-IsPut c changes = ⊥
-
--- a put of these changes, which the command asks for
-abbrev pub put_step : Setting → Session → Command → List Change → Step
-put_step here s c changes = carried_out s c (put_by here s.correct changes) (ending_of_put (limit_of_put here s.correct.journal changes))
-
--- receipts for these ids, for which the command asks
-abbrev pub receipt_step : Setting → Session → Command → List (List ℕ) → Step
-receipt_step here s c ids =
-    carried_out s c (receipt_by here s.correct ids)
-    (ending_of_receipt (no_receipt s.correct.journal ids) (limit_of_put here s.correct.journal (receipt_changes ids)))
-
--- a checkpoint whose text is put becomes a file; where it is refused nothing is stored
-abbrev pub checkpoint_put : Session → List ℕ → Effect → Option Limit → Step
-checkpoint_put s file d (Some limit) = carried_out s (command.Checkpoint file) d (Some ending.Limit)
-checkpoint_put s file d None = carried_out_storing s (command.Checkpoint file) d file
-
-abbrev pub checkpoint_step : Setting → Session → List ℕ → Effect → MadeCheckpoint → Step
-checkpoint_step here s file d (made_text text) = checkpoint_put s file d (limit_of_put here s.correct.journal (checkpoint_changes text))
-checkpoint_step here s file d other = carried_out s (command.Checkpoint file) d None
-
--- the text in a file, which may be absent, is signed
-abbrev pub sign_from : Setting → Session → List ℕ → Option (List ℕ) → Step
-sign_from here s file None = absent s file
-sign_from here s file (Some text) =
-    carried_out s (command.Sign file) (sign_by here s.correct text)
-    (ending_of_sign (limit_of_put here s.correct.journal (checkpoint_changes text)) (opened_text here s.correct.journal text))
+-- the line of the trace of a run
+abbrev pub traced_text : Session → List ℕ
+traced_text s = ended (spaced (text_of_traced (length s.correct.journal) (length (reads_of_run s))))
 
 -- the last reader made, after a trim that was answered so
 abbrev pub reader_after : Option Reader → TrimAnswer → Option Reader
@@ -249,63 +283,29 @@ reader_after before other = before
 abbrev pub step_with_reader : Option Reader → Step → Step
 step_with_reader reader step = record step { session = record step.session { reader = reader } }
 
-abbrev pub trim_step : Session → List ℕ → TrimAnswer → Step
-trim_step s file answer =
-    step_with_reader (reader_after s.reader answer) (carried_out s (command.Trim file) (idle s.correct (text_of_trim answer)) (ending_of_trim answer))
+abbrev pub trim_step : Session → Command → TrimAnswer → Step
+trim_step s c answer = step_with_reader (reader_after s.reader answer) (told_step s c (ended (spaced (text_of_trim answer))) None (ending_of_trim answer))
 
--- a reader is made by the text in a file, which may be absent
-abbrev pub trim_from : Setting → Session → List ℕ → Option (List ℕ) → Step
-trim_from here s file None = absent s file
-trim_from here s file (Some text) = trim_step s file (trim_of here s.correct.journal text)
+abbrev pub tgive_step : Session → Command → ReaderFeed → Step
+tgive_step s c fed = step_with_reader (Some fed.reader) (told_step s c (ended (spaced (text_of_reader_feed fed))) None (ending_of_tgive fed.full))
 
--- nothing is answered, and nothing behind the arrow
-abbrev pub silent : Correct → Effect
-silent c = record { journal = c.journal; reads = c.reads; calls = 0; answer = []; behind = []; bytes = [] }
+-- the line of what the last reader shows of a key: nothing, where none was made
+abbrev pub tget_lines : List ℕ → Option Reader → List ℕ
+tget_lines key None = ended []
+tget_lines key (Some R) = ended (answer_of_reader R key)
 
-abbrev pub tgive_step : Session → List ℕ → ReaderFeed → Step
-tgive_step s file fed = step_with_reader (Some fed.reader) (carried_out s (command.Tgive file) (idle s.correct (text_of_reader_feed fed)) (ending_of_tgive fed.full))
-
--- a reader takes the stream in a file, which may be absent
-abbrev pub tgive_from : Session → List ℕ → Reader → Option (List ℕ) → Step
-tgive_from s file R None = absent s file
-tgive_from s file R (Some stream) = tgive_step s file (reader_feed_of R stream)
-
--- the last reader made takes it; where none was made no file is asked for
-abbrev pub tgive_to : Session → List ℕ → Option Reader → Step
-tgive_to s file None = carried_out s (command.Tgive file) (silent s.correct) None
-tgive_to s file (Some R) = tgive_from s file R (s.files file)
-
--- what the last reader made shows of a key
-abbrev pub shown_by_last : Correct → List ℕ → Option Reader → Effect
-shown_by_last c key None = silent c
-shown_by_last c key (Some R) = record { journal = c.journal; reads = c.reads; calls = 0; answer = answer_of_reader R key; behind = []; bytes = [] }
-
--- the node hands in its trace, and stays as it is
-unfoldable pub export_by : Session → Effect
-export_by s = record {
-  journal = s.correct.journal;
-  reads = s.correct.reads;
-  calls = 0;
-  answer = spaced (text_of_traced (length s.correct.journal) (length (reads_of_run s)));
-  behind = [];
-  bytes = file_of_trace (trace_of_run s);
-}
+-- the step of a command that asks for this
+abbrev pub step_by : Setting → Signs → Session → Command → Asking → Step
+step_by here sign s c (asks_for r) = asked_step here sign s c r
+step_by here sign s c (lacks name) = absent s name
+step_by here sign s c hands_in = told_step s c (traced_text s) (Some (file_of_trace (trace_of_run s))) None
+step_by here sign s c (trims text) = trim_step s c (trim_of here s.correct.journal text)
+step_by here sign s c (feeds R stream) = tgive_step s c (reader_feed_of R stream)
+step_by here sign s c (shows R key) = told_step s c (tget_lines key (Some R)) None None
+step_by here sign s c no_reader = told_step s c (ended []) None None
 
 unfoldable pub step_of : Setting → Signs → Session → Command → Step
-step_of here sign s (command.Put key value) = put_step here s (command.Put key value) (one_change key value)
-step_of here sign s (command.Puts changes) = put_step here s (command.Puts changes) changes
-step_of here sign s (command.Get key) = carried_out s (command.Get key) (get_by s.correct key) None
-step_of here sign s (command.Hello file) = carried_out_storing s (command.Hello file) (hello_by here s.correct) file
-step_of here sign s (command.Bundle hello file) = bundle_to here sign s hello file (s.files hello)
-step_of here sign s (command.Take file) = take_from here s file (s.files file)
-step_of here sign s (command.Receipt id) = receipt_step here s (command.Receipt id) (id ∷ [])
-step_of here sign s (command.Settled id k) = carried_out s (command.Settled id k) (settled_by s.correct id k) None
-step_of here sign s (command.Export file) = carried_out_storing s (command.Export file) (export_by s) file
-step_of here sign s (command.Checkpoint file) = checkpoint_step here s file (checkpoint_by here s.correct) (make_of here s.correct.journal)
-step_of here sign s (command.Sign file) = sign_from here s file (s.files file)
-step_of here sign s (command.Trim file) = trim_from here s file (s.files file)
-step_of here sign s (command.Tgive file) = tgive_to s file s.reader
-step_of here sign s (command.Tget key) = carried_out s (command.Tget key) (shown_by_last s.correct key s.reader) None
+step_of here sign s c = step_by here sign s c (asked_in s c)
 
 -- ---- a script
 

@@ -11,17 +11,21 @@
 //!
 //! The last reader that a script made is kept in memory, beside the node (`last_reader`).
 //!
-//! The node is known as a `LocalNode`; `running` alone starts one from its disk. `commands` has the commands, each of which changes the
-//! node, then the shelf, and tells of it last, and `checkpoint_commands` those of checkpoints and readers; `telling` writes lines,
-//! `command_heads` the words of a command, and `whole_script` a whole script.
+//! The node is known as a `LocalNode`; `running` alone starts one from its disk. `whole_script` has a whole script, and `carrying` a command. Most
+//! commands ask the node: `requesting` makes their requests, and `asking` loads the file of one, asks, stores what the node hands out, and tells of
+//! it last. The others are those of readers (`reader_commands`) and of the trace (`exporting`). `telling` writes lines, and `command_heads` the
+//! words of a command.
 #![tactic(auto)]
 
-mod checkpoint_commands;
+mod asking;
+mod carrying;
 mod command_heads;
-mod commands;
 mod ending;
+mod exporting;
 mod kept_reads;
 mod last_reader;
+mod reader_commands;
+mod requesting;
 mod running;
 mod session_laws;
 mod telling;

@@ -1,4 +1,4 @@
--- What a schedule says of what faulty nodes sign, and of stops: of each field of an event, by the field's name.
+-- What a schedule says of what faulty nodes sign, of stops, and of what nodes are asked for: of each field of an event, by the field's name.
 use Rattle.std.proofs.Common.{◌≡◌, ℕ, ◌<◌, ◌≤◌, ◌^◌, true, List, [], ◌∷◌, length, Option, arith}
 use Rattle.std.proofs.lemmas.Bool.Decides.{nat_tests}
 use Rattle.depot_base.specs.Shown.{IsPairKind}
@@ -16,7 +16,8 @@ use Rattle.depot_schedule.specs.declared.event.HistoryWord.{HistoryWord}
 use Rattle.depot_schedule.specs.declared.event.Ref.{Ref}
 use Rattle.depot_schedule.specs.declared.schedule.Schedule.{Schedule}
 use Rattle.depot_world.proofs.EventFacts.{BringsBytes, events_bring_bytes}
-use Rattle.depot_simulation.specs.Doing.{PutsChanges}
+use Rattle.depot_world.proofs.EventAsks.{events_ask}
+use Rattle.depot_simulation.specs.Doing.{MayAskNode}
 use Rattle.depot_simulation.specs.Drafts.{MaySign}
 
 -- ---- who signs
@@ -72,11 +73,9 @@ updates_signed s label writer seq clock prev changes refs history fits = by_fiel
     may = record { writer_is = writer_is; seq_most = seq_most; clock_least = clock_least; clock_most = clock_most; changes_are = changes_bytes.are; few = few_entries s refs of_refs; history_fits = of_history };
   }
 
--- what a node is asked to put
-pub put_changes : (s : Schedule) (e : Event) → FitsEvent s e → PutsChanges e
-put_changes s (event.Put node key value) fits = (events_bring_bytes s (event.Put node key value) fits).0.are
-put_changes s (event.Puts node changes) fits = (events_bring_bytes s (event.Puts node changes) fits).0.are
-put_changes s e fits = tt
+-- what a node is asked for
+pub may_ask : (s : Schedule) (e : Event) → FitsEvent s e → MayAskNode e
+may_ask s e fits = λ run. events_ask run e (events_bring_bytes s e fits)
 
 -- the kind of a proof is one of two statements
 pub proof_kind : (s : Schedule) (label : List ℕ) (kind : Kind) (first second : List ℕ) → FitsEvent s (event.Proof label kind first second) → IsPairKind kind
@@ -103,7 +102,3 @@ pub record IsSizedStop (call image : ℕ) : Type 0 where
 pub stop_sizes : (s : Schedule) (node call image : ℕ) → FitsEvent s (event.Stop node call image) → IsSizedStop call image
 unfolding stop_line
 stop_sizes s node call image (of_node, ((call_least, call_most), ((image_least, image_most), same))) = record { call_least = call_least; call_most = call_most; image_most = image_most }
-
--- receipts are for 1 to 16 references
-pub receipt_sizes : (s : Schedule) (node : ℕ) (refs : List Ref) → FitsEvent s (event.Receipt node refs) → (1 ≤ length refs) × (length refs ≤ 16)
-receipt_sizes s node refs fits = events_bring_bytes s (event.Receipt node refs) fits

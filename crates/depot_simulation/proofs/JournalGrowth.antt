@@ -1,13 +1,16 @@
 -- Whatever a correct node does, and wherever a stop falls into it, its journal keeps its records.
-use Rattle.std.proofs.Common.{◌-◌, ℕ, Bool, true, false, leb, cond, List, take, drop, length, Option, Some, None, refl}
-use Rattle.depot_base.specs.declared.write.Change.{Change}
+use Rattle.std.proofs.Common.{◌-◌, Bool, true, false, leb, cond, take, drop, length, Option, Some, None, refl}
 use Rattle.depot_model.specs.Bundle.{Signs}
 use Rattle.depot_model.specs.Checks.{Setting}
-use Rattle.depot_world.specs.Effects.{put_by, get_by, receipt_by, settled_by, checkpoint_by, sign_by, hello_by, bundle_by, give_by, restart_by}
+use Rattle.depot_requests.specs.Effects.{Effect}
+use Rattle.depot_requests.specs.Requests.{effect_of}
+use Rattle.depot_requests.specs.declared.request.Request.{Request}
+use Rattle.depot_world.specs.ScheduleStops.{restart_by}
 use Rattle.depot_world.specs.Run.{PendingStop, Host}
-use Rattle.depot_world.specs.ScheduleStops.{Effect, EventResult, standing_after, journal_left, stopped_with, result_pending, result_by, event_result}
-use Rattle.depot_model.proofs.FeedGrowth.{IsGrown}
-use Rattle.depot_world.proofs.EffectGrowth as effects
+use Rattle.depot_world.specs.ScheduleStops.{EventResult, standing_after, journal_left, stopped_with, result_pending, result_by, event_result}
+use Rattle.depot_model.specs.World.{Correct}
+use Rattle.depot_model.proofs.FeedGrowth.{IsGrown, grown_none}
+use Rattle.depot_requests.proofs.ServedRequests.{served_grows}
 
 -- ---- stops
 
@@ -25,32 +28,16 @@ result_grows s d e = by_stop s.pending where
 
 -- ---- the events of nodes
 
-pub put_grows : (here : Setting) (s : Host) (changes : List Change) → IsGrown s.correct.journal (event_result s (put_by here s.correct changes)).host.correct.journal
-put_grows here s changes = result_grows s (put_by here s.correct changes) (effects.put_grows here s.correct changes)
+asked_grows : (here : Setting) (sign : Signs) (c : Correct) (r : Request) → IsGrown c.journal (effect_of here sign c r).journal
+unfolding effect_of
+asked_grows here sign c r = served_grows here sign c.journal r
 
-pub get_grows : (s : Host) (key : List ℕ) → IsGrown s.correct.journal (event_result s (get_by s.correct key)).host.correct.journal
-get_grows s key = result_grows s (get_by s.correct key) (effects.get_grows s.correct key)
+pub request_grows : (here : Setting) (sign : Signs) (s : Host) (r : Request) → IsGrown s.correct.journal (event_result s (effect_of here sign s.correct r)).host.correct.journal
+request_grows here sign s r = result_grows s (effect_of here sign s.correct r) (asked_grows here sign s.correct r)
 
-pub receipt_grows : (here : Setting) (s : Host) (ids : List (List ℕ)) → IsGrown s.correct.journal (event_result s (receipt_by here s.correct ids)).host.correct.journal
-receipt_grows here s ids = result_grows s (receipt_by here s.correct ids) (effects.receipt_grows here s.correct ids)
-
-pub settled_grows : (s : Host) (id : List ℕ) (k : ℕ) → IsGrown s.correct.journal (event_result s (settled_by s.correct id k)).host.correct.journal
-settled_grows s id k = result_grows s (settled_by s.correct id k) (effects.settled_grows s.correct id k)
-
-pub checkpoint_grows : (here : Setting) (s : Host) → IsGrown s.correct.journal (event_result s (checkpoint_by here s.correct)).host.correct.journal
-checkpoint_grows here s = result_grows s (checkpoint_by here s.correct) (effects.checkpoint_grows here s.correct)
-
-pub sign_grows : (here : Setting) (s : Host) (text : List ℕ) → IsGrown s.correct.journal (event_result s (sign_by here s.correct text)).host.correct.journal
-sign_grows here s text = result_grows s (sign_by here s.correct text) (effects.sign_grows here s.correct text)
-
-pub hello_grows : (here : Setting) (s : Host) → IsGrown s.correct.journal (event_result s (hello_by here s.correct)).host.correct.journal
-hello_grows here s = result_grows s (hello_by here s.correct) (effects.hello_grows here s.correct)
-
-pub bundle_grows : (here : Setting) (sign : Signs) (s : Host) (hello : List ℕ) → IsGrown s.correct.journal (event_result s (bundle_by here sign s.correct hello)).host.correct.journal
-bundle_grows here sign s hello = result_grows s (bundle_by here sign s.correct hello) (effects.bundle_grows here sign s.correct hello)
-
-pub give_grows : (here : Setting) (s : Host) (stream : List ℕ) → IsGrown s.correct.journal (event_result s (give_by here s.correct stream)).host.correct.journal
-give_grows here s stream = result_grows s (give_by here s.correct stream) (effects.give_grows here s.correct stream)
+restart_stays : (c : Correct) → IsGrown c.journal (restart_by c).journal
+unfolding restart_by
+restart_stays c = grown_none c.journal
 
 pub restart_grows : (s : Host) → IsGrown s.correct.journal (event_result s (restart_by s.correct)).host.correct.journal
-restart_grows s = result_grows s (restart_by s.correct) (effects.restart_grows s.correct)
+restart_grows s = result_grows s (restart_by s.correct) (restart_stays s.correct)

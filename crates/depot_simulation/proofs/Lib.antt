@@ -1,3 +1,4 @@
+pub mod AskedEvents
 pub mod BegunRuns
 pub mod DraftTexts
 pub mod EventFields
@@ -6,13 +7,13 @@ pub mod JournalGrowth
 pub mod KeptReads
 pub mod LabelledUpdates
 pub mod MadeTexts
+pub mod NamedIds
 pub mod NewUpdates
 pub mod NodeEvents
 pub mod PlayedAudits
 pub mod PlayedEvents
 pub mod ReaderEvents
 pub mod ReaderTables
-pub mod ReceiptEvents
 pub mod Remembered
 pub mod RememberedRuns
 pub mod SeenCounts

@@ -1,29 +1,25 @@
 -- What an event of a node leaves of a simulation.
-use Rattle.std.proofs.Common.{◌≡◌, ◌≤◌, ℕ, true, false, eqb, List, [], ◌∷◌, ◌++◌, codes, take, length, map, Option, Some, None, refl, sym, ap, subst, ◌∙◌, arith}
+use Rattle.std.proofs.Common.{◌≡◌, ◌≤◌, ℕ, false, eqb, List, [], ◌∷◌, ◌++◌, codes, take, length, map, Option, Some, None, refl, sym, ap, subst, ◌∙◌, arith}
 use Rattle.std.specs.Prelude.{insert, position}
 use Rattle.std.proofs.lemmas.List.Edits.{length-remove}
 use Rattle.std.proofs.lemmas.Option.{slice_get_within}
-use Rattle.depot_base.specs.Writes.{one_change}
 use Rattle.depot_base.specs.declared.record.Record.{Record}
 use Rattle.depot_base.specs.declared.update.Update.{Update}
 use Rattle.depot_laws.proofs.Causes.{lawful_is_causal}
 use Rattle.depot_model.specs.Journal.{accepted}
 use Rattle.depot_model.specs.Lawful.{IsLawful}
 use Rattle.depot_model.specs.Order.{IsCausal}
-use Rattle.depot_schedule.specs.declared.event.Event.{Event}
-use Rattle.depot_schedule.specs.declared.event.Event.TheVariants as event
-use Rattle.depot_schedule.specs.EventLines.{event_node}
 use Rattle.depot_model.specs.Readers.{Reader}
-use Rattle.depot_world.specs.Effects.{put_by, get_by, hello_by, bundle_by, give_by, restart_by, checkpoint_by, sign_by}
-use Rattle.depot_world.specs.Run.{Labelled, Run, Host, bytes_of_label, host_in, put_host, seen_with, with_host}
-use Rattle.depot_world.specs.ScheduleStops.{Effect, EventResult, event_result}
-use Rattle.depot_world.specs.Setups.{Setup, stands_on, signs_on}
-use Rattle.depot_world.specs.Transcript.{Done, pending_at, done_at_node, done, done_by_node, lines_after_arrow}
+use Rattle.depot_requests.specs.Effects.{Effect, lines_after_arrow}
+use Rattle.depot_world.specs.Run.{Labelled, Run, Host, host_in, put_host, seen_with, with_host}
+use Rattle.depot_world.specs.ScheduleStops.{EventResult, event_result}
+use Rattle.depot_world.specs.Setups.{Setup}
+use Rattle.depot_world.specs.Transcript.{Done, pending_at, done_at_node, done_by_node}
 use Rattle.depot_model.proofs.FeedGrowth.{IsGrown, grown_none}
 use Rattle.depot_world.proofs.GoodRuns.{found_is}
 use Rattle.depot_simulation.specs.Acting.{ActorView, AreHosted, CameTo, IsParticipant, IsHosted, TellReads}
-use Rattle.depot_simulation.specs.Doing.{HasDone, HasLeft, effect_of, is_effect, participant_of}
-use Rattle.depot_scenario.specs.Labels.{AreLabels, label_by, labels_with}
+use Rattle.depot_simulation.specs.Doing.{HasDone, HasLeft, participant_of}
+use Rattle.depot_scenario.specs.Labels.{AreLabels, labels_with}
 use Rattle.depot_simulation.specs.Playing.{IsSimulationAt, IsRemembered, WereSeen, participant_by}
 use Rattle.depot_simulation.specs.Readers.{AreReaders}
 use Rattle.depot_simulation.specs.declared.acting.ActingNode.{ActingNode}
@@ -32,43 +28,11 @@ use Rattle.depot_simulation.specs.declared.participant.Participant.{Participant}
 use Rattle.depot_simulation.specs.declared.simulation.Simulation.{Simulation}
 use Rattle.depot_simulation.specs.declared.readers.Readers.{Readers}
 use Rattle.depot_scenario.specs.declared.known_updates.KnownUpdates.{KnownUpdates}
-use Rattle.depot_simulation.proofs.JournalGrowth.{put_grows, get_grows, hello_grows, bundle_grows, give_grows, restart_grows, checkpoint_grows, sign_grows}
 use Rattle.depot_simulation.proofs.NewUpdates.{accepted_front}
 use Rattle.depot_simulation.proofs.RememberedRuns.{same_node, host_remembers, label_remembers, none_is_kept}
 use Rattle.depot_simulation.proofs.HostPlaces.{host_place_at, no_host_place}
 
--- ---- what an event does at its node
-
--- the journal keeps its records
-effect_grows : (setup : Setup) (run : Run) (e : Event) (s : Host) → IsGrown s.correct.journal (event_result s (effect_of setup run e s)).host.correct.journal
-effect_grows setup run (event.Put node key value) s = put_grows (stands_on setup s.correct.node) s (one_change key value)
-effect_grows setup run (event.Puts node changes) s = put_grows (stands_on setup s.correct.node) s changes
-effect_grows setup run (event.Get node key) s = get_grows s key
-effect_grows setup run (event.Hello node label) s = hello_grows (stands_on setup s.correct.node) s
-effect_grows setup run (event.Bundle node hello label) s = bundle_grows (stands_on setup s.correct.node) (signs_on setup s.correct.node) s (bytes_of_label run hello)
-effect_grows setup run (event.Give node label size) s = give_grows (stands_on setup s.correct.node) s (bytes_of_label run label)
-effect_grows setup run (event.Restart node) s = restart_grows s
-effect_grows setup run (event.Update label writer seq clock prev key value deps hash) s = restart_grows s
-effect_grows setup run (event.Updates label writer seq clock prev changes deps hash) s = restart_grows s
-effect_grows setup run (event.Voucher label writer seq refs) s = restart_grows s
-effect_grows setup run (event.Proof label kind first second) s = restart_grows s
-effect_grows setup run (event.Hollow label voucher plain) s = restart_grows s
-effect_grows setup run (event.Judge label) s = restart_grows s
-effect_grows setup run (event.Raw label bytes) s = restart_grows s
-effect_grows setup run (event.Cut label source start count) s = restart_grows s
-effect_grows setup run (event.Flip label source place) s = restart_grows s
-effect_grows setup run (event.Join label first second) s = restart_grows s
-effect_grows setup run (event.Stop node call image) s = restart_grows s
-effect_grows setup run (event.Receipt node refs) s = restart_grows s
-effect_grows setup run (event.Settled node reference k) s = restart_grows s
-effect_grows setup run event.Audit s = restart_grows s
-effect_grows setup run (event.Checkpoint node label) s = checkpoint_grows (stands_on setup s.correct.node) s
-effect_grows setup run (event.Sign node label) s = sign_grows (stands_on setup s.correct.node) s (bytes_of_label run label)
-effect_grows setup run (event.Trim node label name) s = restart_grows s
-effect_grows setup run (event.Tgive name label) s = restart_grows s
-effect_grows setup run (event.Tget name key) s = restart_grows s
-
--- the event of a node that is there, and of one that isn't
+-- ---- the event of a node that is there, and of one that isn't
 
 at_node : Run → Option (List ℕ) → (Host → Effect) → Option Host → Done
 at_node run label effect o = elim o as (λ x. Done) [
@@ -84,75 +48,11 @@ pub none_is : (run : Run) (node : ℕ) (label : Option (List ℕ)) (effect : Hos
 unfolding done_at_node at_node
 none_is run node label effect found = ap (at_node run label effect) found
 
-effect_is : (setup : Setup) (run : Run) (e : Event) (s : Host) → is_effect e ≡ true → host_in run.hosts (event_node e) ≡ Some s → s.correct.node ≡ event_node e → done setup run e ≡ done_by_node run (label_by e) (event_result s (effect_of setup run e s))
-unfolding done
-effect_is setup run (event.Put node key value) s effect found is =
-    there_is run node None (λ x. put_by (stands_on setup node) x.correct (one_change key value)) s found ∙ ap (λ (n : ℕ). done_by_node run None (event_result s (put_by (stands_on setup n) s.correct (one_change key value)))) (sym is)
-effect_is setup run (event.Puts node changes) s effect found is = there_is run node None (λ x. put_by (stands_on setup node) x.correct changes) s found ∙ ap (λ (n : ℕ). done_by_node run None (event_result s (put_by (stands_on setup n) s.correct changes))) (sym is)
-effect_is setup run (event.Get node key) s effect found is = there_is run node None (λ x. get_by x.correct key) s found
-effect_is setup run (event.Hello node label) s effect found is = there_is run node (Some label) (λ x. hello_by (stands_on setup node) x.correct) s found ∙ ap (λ (n : ℕ). done_by_node run (Some label) (event_result s (hello_by (stands_on setup n) s.correct))) (sym is)
-effect_is setup run (event.Bundle node hello label) s effect found is =
-    there_is run node (Some label) (λ x. bundle_by (stands_on setup node) (signs_on setup node) x.correct (bytes_of_label run hello)) s found
-    ∙ ap (λ (n : ℕ). done_by_node run (Some label) (event_result s (bundle_by (stands_on setup n) (signs_on setup n) s.correct (bytes_of_label run hello)))) (sym is)
-effect_is setup run (event.Give node label size) s effect found is =
-    there_is run node None (λ x. give_by (stands_on setup node) x.correct (bytes_of_label run label)) s found ∙ ap (λ (n : ℕ). done_by_node run None (event_result s (give_by (stands_on setup n) s.correct (bytes_of_label run label)))) (sym is)
-effect_is setup run (event.Restart node) s effect found is = there_is run node None (λ x. restart_by x.correct) s found
-effect_is setup run (event.Update label writer seq clock prev key value deps hash) s effect found is = absurd cc
-effect_is setup run (event.Updates label writer seq clock prev changes deps hash) s effect found is = absurd cc
-effect_is setup run (event.Voucher label writer seq refs) s effect found is = absurd cc
-effect_is setup run (event.Proof label kind first second) s effect found is = absurd cc
-effect_is setup run (event.Hollow label voucher plain) s effect found is = absurd cc
-effect_is setup run (event.Judge label) s effect found is = absurd cc
-effect_is setup run (event.Raw label bytes) s effect found is = absurd cc
-effect_is setup run (event.Cut label source start count) s effect found is = absurd cc
-effect_is setup run (event.Flip label source place) s effect found is = absurd cc
-effect_is setup run (event.Join label first second) s effect found is = absurd cc
-effect_is setup run (event.Stop node call image) s effect found is = absurd cc
-effect_is setup run (event.Receipt node refs) s effect found is = absurd cc
-effect_is setup run (event.Settled node reference k) s effect found is = absurd cc
-effect_is setup run event.Audit s effect found is = absurd cc
-effect_is setup run (event.Checkpoint node label) s effect found is =
-    there_is run node (Some label) (λ x. checkpoint_by (stands_on setup node) x.correct) s found ∙ ap (λ (n : ℕ). done_by_node run (Some label) (event_result s (checkpoint_by (stands_on setup n) s.correct))) (sym is)
-effect_is setup run (event.Sign node label) s effect found is =
-    there_is run node None (λ x. sign_by (stands_on setup node) x.correct (bytes_of_label run label)) s found ∙ ap (λ (n : ℕ). done_by_node run None (event_result s (sign_by (stands_on setup n) s.correct (bytes_of_label run label)))) (sym is)
-effect_is setup run (event.Trim node label name) s effect found is = absurd cc
-effect_is setup run (event.Tgive name label) s effect found is = absurd cc
-effect_is setup run (event.Tget name key) s effect found is = absurd cc
-
-nowhere_is : (setup : Setup) (run : Run) (e : Event) → is_effect e ≡ true → host_in run.hosts (event_node e) ≡ None → done setup run e ≡ record { answer = []; behind = []; run = run }
-unfolding done
-nowhere_is setup run (event.Put node key value) effect none = none_is run node None (λ x. put_by (stands_on setup node) x.correct (one_change key value)) none
-nowhere_is setup run (event.Puts node changes) effect none = none_is run node None (λ x. put_by (stands_on setup node) x.correct changes) none
-nowhere_is setup run (event.Get node key) effect none = none_is run node None (λ x. get_by x.correct key) none
-nowhere_is setup run (event.Hello node label) effect none = none_is run node (Some label) (λ x. hello_by (stands_on setup node) x.correct) none
-nowhere_is setup run (event.Bundle node hello label) effect none = none_is run node (Some label) (λ x. bundle_by (stands_on setup node) (signs_on setup node) x.correct (bytes_of_label run hello)) none
-nowhere_is setup run (event.Give node label size) effect none = none_is run node None (λ x. give_by (stands_on setup node) x.correct (bytes_of_label run label)) none
-nowhere_is setup run (event.Restart node) effect none = none_is run node None (λ x. restart_by x.correct) none
-nowhere_is setup run (event.Update label writer seq clock prev key value deps hash) effect none = absurd cc
-nowhere_is setup run (event.Updates label writer seq clock prev changes deps hash) effect none = absurd cc
-nowhere_is setup run (event.Voucher label writer seq refs) effect none = absurd cc
-nowhere_is setup run (event.Proof label kind first second) effect none = absurd cc
-nowhere_is setup run (event.Hollow label voucher plain) effect none = absurd cc
-nowhere_is setup run (event.Judge label) effect none = absurd cc
-nowhere_is setup run (event.Raw label bytes) effect none = absurd cc
-nowhere_is setup run (event.Cut label source start count) effect none = absurd cc
-nowhere_is setup run (event.Flip label source place) effect none = absurd cc
-nowhere_is setup run (event.Join label first second) effect none = absurd cc
-nowhere_is setup run (event.Stop node call image) effect none = absurd cc
-nowhere_is setup run (event.Receipt node refs) effect none = absurd cc
-nowhere_is setup run (event.Settled node reference k) effect none = absurd cc
-nowhere_is setup run event.Audit effect none = absurd cc
-nowhere_is setup run (event.Checkpoint node label) effect none = none_is run node (Some label) (λ x. checkpoint_by (stands_on setup node) x.correct) none
-nowhere_is setup run (event.Sign node label) effect none = none_is run node None (λ x. sign_by (stands_on setup node) x.correct (bytes_of_label run label)) none
-nowhere_is setup run (event.Trim node label name) effect none = absurd cc
-nowhere_is setup run (event.Tgive name label) effect none = absurd cc
-nowhere_is setup run (event.Tget name key) effect none = absurd cc
-
 -- an event of a node that isn't there says nothing
-pub nothing_done : (A : Type 0) {R : Type 0} (view : A → ActorView) (reads : Reader → R → Type 0) (setup : Setup) (run : Run) (e : Event) (simulation : Simulation A R) → is_effect e ≡ true → position (λ p. eqb (view p.actor).here.me (event_node e)) simulation.participants.items ≡ None → IsSimulationAt view reads setup run simulation → HasDone A view reads setup (done setup run e) (10 ∷ []) simulation
-nothing_done A view reads setup run e simulation effect none at =
-    let nowhere = nowhere_is setup run e effect (no_host_place (participant_by view) setup run.hosts simulation.participants.items (event_node e) at.hosted none) in
-    subst (λ (d : Done). HasDone A view reads setup d (10 ∷ []) simulation) (sym nowhere) (record { lines_are = refl; at = at })
+pub nothing_done : (A : Type 0) {R : Type 0} (view : A → ActorView) (reads : Reader → R → Type 0) (setup : Setup) (run : Run) (node : ℕ) (label : Option (List ℕ)) (effect : Host → Effect) (simulation : Simulation A R) → position (λ p. eqb (view p.actor).here.me node) simulation.participants.items ≡ None → IsSimulationAt view reads setup run simulation
+    → HasDone A view reads setup (done_at_node run node label effect) (10 ∷ []) simulation
+nothing_done A view reads setup run node label effect simulation none at =
+    subst (λ (d : Done). HasDone A view reads setup d (10 ∷ []) simulation) (sym (none_is run node label effect (no_host_place (participant_by view) setup run.hosts simulation.participants.items node at.hosted none))) (record { lines_are = refl; at = at })
 
 -- ---- a node that leaves its place
 
@@ -247,25 +147,21 @@ comes_back A {R = R} view reads setup run node o before left new acting after li
 -- ---- what an event does
 
 -- what the node had accepted before it was seen
-pub effect_had_seen : (A : Type 0) {R : Type 0} (view : A → ActorView) (reads : Reader → R → Type 0) (setup : Setup) (run : Run) (e : Event) (left : Simulation A R) (acting : ActingNode A) (after : A) (lines bytes : List ℕ) → (i : IsLeft A view reads setup run (event_node e) left acting) → CameTo setup (event_result i.host (effect_of setup run e i.host)) (view after) lines bytes
-    → WereSeen left.seen.listed.updates (take acting.seat.count (accepted (view after).journal))
-effect_had_seen A view reads setup run e left acting after lines bytes i came =
-    let K = (event_result i.host (effect_of setup run e i.host)).host.correct.journal in
-    subst (λ (x : List Record). WereSeen left.seen.listed.updates (take acting.seat.count (accepted x))) (sym came.hosted.journal) (had_seen A view reads setup run (event_node e) left acting K i (effect_grows setup run e i.host))
+pub effect_had_seen : (A : Type 0) {R : Type 0} (view : A → ActorView) (reads : Reader → R → Type 0) (setup : Setup) (run : Run) (node : ℕ) (d : Effect) (left : Simulation A R) (acting : ActingNode A) (after : A) (lines bytes : List ℕ) → (i : IsLeft A view reads setup run node left acting) → CameTo setup (event_result i.host d) (view after) lines bytes
+    → IsGrown i.host.correct.journal (event_result i.host d).host.correct.journal → WereSeen left.seen.listed.updates (take acting.seat.count (accepted (view after).journal))
+effect_had_seen A view reads setup run node d left acting after lines bytes i came grown =
+    let K = (event_result i.host d).host.correct.journal in
+    subst (λ (x : List Record). WereSeen left.seen.listed.updates (take acting.seat.count (accepted x))) (sym came.hosted.journal) (had_seen A view reads setup run node left acting K i grown)
 
 -- the event was done
-pub effect_done : (A : Type 0) {R : Type 0} (view : A → ActorView) (reads : Reader → R → Type 0) (setup : Setup) (run : Run) (e : Event) (before left new : Simulation A R) (acting : ActingNode A) (after : Participant A) (lines bytes : List ℕ) → is_effect e ≡ true → IsLawful (view after.actor).here (view after.actor).journal → IsSimulationAt view reads setup run before
-    → (i : IsLeft A view reads setup run (event_node e) left acting) → CameTo setup (event_result i.host (effect_of setup run e i.host)) (view after.actor) lines bytes
-    → TellReads (event_result i.host (effect_of setup run e i.host)).host.correct.reads after.reads
-    → new.participants.items ≡ insert left.participants.items acting.seat.place after
-    → new.seen.listed.updates ≡ seen_with left.seen.listed.updates (accepted (view after.actor).journal)
-    → ((labels : List Labelled) → AreLabels left.labels.map.entries labels → AreLabels new.labels.map.entries (labels_with labels (label_by e) bytes)) → new.readers ≡ left.readers
-    → HasDone A view reads setup (done setup run e) lines new
-effect_done A view reads setup run e before left new acting after lines bytes effect lawful at i came told participants seen labels readers =
-    let s = i.host in
-    let w = event_result s (effect_of setup run e s) in
-    subst (λ (d : Done). HasDone A view reads setup d lines new) (sym (effect_is setup run e s effect i.found i.is))
-    (comes_back A view reads setup run (event_node e) (label_by e) before left new acting after lines bytes w lawful at i came (same_node s (effect_of setup run e s)) told participants seen labels readers)
+pub effect_done : (A : Type 0) {R : Type 0} (view : A → ActorView) (reads : Reader → R → Type 0) (setup : Setup) (run : Run) (node : ℕ) (label : Option (List ℕ)) (effect : Host → Effect) (before left new : Simulation A R) (acting : ActingNode A) (after : Participant A) (lines bytes : List ℕ) → IsLawful (view after.actor).here (view after.actor).journal
+    → IsSimulationAt view reads setup run before → (i : IsLeft A view reads setup run node left acting) → CameTo setup (event_result i.host (effect i.host)) (view after.actor) lines bytes → TellReads (event_result i.host (effect i.host)).host.correct.reads after.reads
+    → new.participants.items ≡ insert left.participants.items acting.seat.place after → new.seen.listed.updates ≡ seen_with left.seen.listed.updates (accepted (view after.actor).journal)
+    → ((labels : List Labelled) → AreLabels left.labels.map.entries labels → AreLabels new.labels.map.entries (labels_with labels label bytes)) → new.readers ≡ left.readers
+    → HasDone A view reads setup (done_at_node run node label effect) lines new
+effect_done A view reads setup run node label effect before left new acting after lines bytes lawful at i came told participants seen labels readers =
+    subst (λ (d : Done). HasDone A view reads setup d lines new) (sym (there_is run node label effect i.host i.found))
+    (comes_back A view reads setup run node label before left new acting after lines bytes (event_result i.host (effect i.host)) lawful at i came (same_node i.host (effect i.host)) told participants seen labels readers)
 
 -- ---- stops
 

@@ -21,7 +21,8 @@ use Rattle.depot_model.specs.Readers.{Reader}
 use Rattle.depot_world.specs.Audits.{IsSound, audited, traced_read, trace_by, traces_by}
 use Rattle.depot_world.specs.Run.{Run, Host}
 use Rattle.depot_world.specs.Setups.{Setup}
-use Rattle.depot_world.specs.Transcript.{audit_by, ended}
+use Rattle.depot_requests.specs.Effects.{ended}
+use Rattle.depot_world.specs.Transcript.{audit_by}
 use Rattle.depot_world.proofs.AuditedRuns.{run_is_audited, traces_are_apart, traces_are_listed}
 use Rattle.depot_simulation.specs.Acting.{AreHosted, IsParticipant, ParticipantView, TellReads, ActorView}
 use Rattle.depot_simulation.specs.Auditing.{MayHandIn, handed_in}

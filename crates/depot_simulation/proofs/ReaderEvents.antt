@@ -11,7 +11,8 @@ use Rattle.depot_model.specs.ReaderFeeds.{reader_feed_of}
 use Rattle.depot_model.specs.Readers.{Reader, trim_of}
 use Rattle.depot_world.specs.Run.{NamedReader, Run, Host, reader_in, host_in}
 use Rattle.depot_world.specs.Setups.{Setup, stands_on}
-use Rattle.depot_world.specs.Transcript.{Done, answer_of_reader, ended, reader_made, reader_told, tget_by, tgive_by, trim_at, trimmed_with}
+use Rattle.depot_requests.specs.Effects.{ended}
+use Rattle.depot_world.specs.Transcript.{Done, answer_of_reader, reader_made, reader_told, tget_by, tgive_by, trim_at, trimmed_with}
 use Rattle.depot_world.proofs.GoodRuns.{found_is}
 use Rattle.depot_simulation.specs.Acting.{ActorView}
 use Rattle.depot_simulation.specs.Doing.{HasDone}

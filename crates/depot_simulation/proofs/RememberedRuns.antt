@@ -13,7 +13,8 @@ use Rattle.depot_model.proofs.Members.{from_filter, from_map, in_pushed}
 use Rattle.depot_schedule.specs.declared.member.Member.{Member}
 use Rattle.depot_world.specs.Forgetting.{labels_without, with_labels}
 use Rattle.depot_world.specs.Run.{PendingStop, Host, Labelled, NamedReader, Run, fresh_host, run_of, put_host, seen_with, with_label, with_host}
-use Rattle.depot_world.specs.ScheduleStops.{Effect, EventResult, journal_left, stopped_with, result_pending, result_by, event_result}
+use Rattle.depot_requests.specs.Effects.{Effect}
+use Rattle.depot_world.specs.ScheduleStops.{EventResult, journal_left, stopped_with, result_pending, result_by, event_result}
 use Rattle.depot_world.specs.Setups.{Setup}
 use Rattle.depot_simulation.specs.Playing.{WereSeen, IsRemembered}
 use Rattle.depot_simulation.proofs.Remembered.{IdsWereSeen, were_stay_seen, all_are_seen, causal_come, stays_causal}

@@ -16,7 +16,6 @@ use Rattle.depot_model.specs.Lists.{IsIn}
 use Rattle.depot_model.specs.Own.{values_of}
 use Rattle.depot_model.specs.ReaderFeeds.{reader_feed_of}
 use Rattle.depot_model.specs.Readers.{Reader, trim_of}
-use Rattle.depot_model.specs.Texts.{id_of_update}
 use Rattle.depot_model.specs.World.{setting_of}
 use Rattle.depot_model.specs.declared.judgement.JudgeError.{JudgeError}
 use Rattle.depot_model.proofs.FeedGrowth.{IsGrown, grown_none}
@@ -25,22 +24,26 @@ use Rattle.depot_schedule.specs.declared.event.Event.{Event}
 use Rattle.depot_schedule.specs.declared.event.Event.TheVariants as event
 use Rattle.depot_scenario.specs.declared.known_updates.KnownUpdates.{KnownUpdates}
 use Rattle.depot_world.specs.Audits.{IsSound}
-use Rattle.depot_world.specs.Effects.{put_by, get_by, hello_by, bundle_by, give_by, restart_by, receipt_by, settled_by, checkpoint_by, sign_by}
-use Rattle.depot_world.specs.FaultySigning.{updated, proof_in, all_referred}
+use Rattle.depot_requests.specs.Effects.{Effect}
+use Rattle.depot_requests.specs.Requests.{effect_of}
+use Rattle.depot_requests.specs.declared.request.Request.{Request}
+use Rattle.depot_schedule.specs.EventLines.{event_node}
+use Rattle.depot_world.specs.EventRequests.{label_by, request_in}
+use Rattle.depot_world.specs.ScheduleStops.{restart_by}
+use Rattle.depot_world.specs.FaultySigning.{updated, proof_in}
 use Rattle.depot_world.specs.Forgetting.{IsAlikeFor}
-use Rattle.depot_world.specs.Run.{Host, Run, bytes_of_label, reader_in, referred, host_in, put_host, seen_with, with_host, world_by}
-use Rattle.depot_world.specs.ScheduleStops.{Effect, EventResult, event_result}
+use Rattle.depot_world.specs.Run.{Host, Run, bytes_of_label, reader_in, host_in, put_host, seen_with, with_host, world_by}
+use Rattle.depot_world.specs.ScheduleStops.{EventResult, event_result}
 use Rattle.depot_world.specs.Setups.{Setup, stands_on, signs_on}
-use Rattle.depot_world.specs.Transcript.{Done, pending_at, done_at_node, done_by_node, done_by_update, done, judged_with, receipt_for, run_after, settled_for, trimmed_with, trim_at, reader_told, tgive_by}
+use Rattle.depot_world.specs.Transcript.{Done, pending_at, done_at_node, done_by_node, done_by_update, done, judged_with, asked_for, run_after, trimmed_with, trim_at, reader_told, tgive_by}
 use Rattle.depot_world.proofs.GoodRuns.{found_is}
 use Rattle.depot_world.proofs.ReadCounts.{few_taken}
-use Rattle.depot_world.proofs.ReceiptChanges.{ids_of}
 use Rattle.depot_simulation.specs.Acting.{ActorView}
 use Rattle.depot_simulation.specs.Doing.{HasLeftSimulation}
 use Rattle.depot_simulation.specs.Playing.{IsPlayed, IsRemembered, WereSeen, most_seen}
 use Rattle.depot_simulation.specs.declared.acting.ActingNode.{ActingNode}
 use Rattle.depot_simulation.specs.declared.simulation.Simulation.{Simulation}
-use Rattle.depot_simulation.proofs.JournalGrowth.{put_grows, get_grows, receipt_grows, settled_grows, checkpoint_grows, sign_grows, hello_grows, bundle_grows, give_grows, restart_grows}
+use Rattle.depot_simulation.proofs.JournalGrowth.{request_grows, restart_grows}
 use Rattle.depot_simulation.proofs.NewUpdates.{accepted_more}
 use Rattle.depot_simulation.proofs.NodeEvents.{pending_host}
 use Rattle.depot_simulation.proofs.Remembered.{all_are_seen, seen_add_nothing, seen_at_most, seen_with-append, were_stay_seen}
@@ -125,13 +128,9 @@ pending_counts run node call image = by_host (host_in run.hosts node) refl where
   by_host None none = none_counts run
   by_host (Some s) is = host_counts run s (pending_host s call image) (subst (λ (k : ℕ). host_in run.hosts k ≡ Some s) (sym (found_is run.hosts node s is).is) is) (grown_none s.correct.journal)
 
-receipts_count : (setup : Setup) (run : Run) (node : ℕ) (o : Option (List Update)) → CountsOn run (receipt_for setup run node o).run
-receipts_count setup run node None = none_counts run
-receipts_count setup run node (Some us) = node_counts run node None (λ s. receipt_by (stands_on setup node) s.correct (ids_of us)) (λ s. receipt_grows (stands_on setup node) s (ids_of us))
-
-settled_counts : (run : Run) (node k : ℕ) (o : Option Update) → CountsOn run (settled_for run node k o).run
-settled_counts run node k None = none_counts run
-settled_counts run node k (Some u) = node_counts run node None (λ s. settled_by s.correct (id_of_update u) k) (λ s. settled_grows s (id_of_update u) k)
+asked_counts : (setup : Setup) (run : Run) (node : ℕ) (label : Option (List ℕ)) (o : Option Request) → CountsOn run (asked_for setup run node label o).run
+asked_counts setup run node label None = none_counts run
+asked_counts setup run node label (Some r) = node_counts run node label (λ s. effect_of (stands_on setup node) (signs_on setup node) s.correct r) (λ s. request_grows (stands_on setup node) (signs_on setup node) s r)
 
 trim_counts : (setup : Setup) (run : Run) (node : ℕ) (text name : List ℕ) → CountsOn run (trim_at setup run node text name).run
 unfolding trim_at
@@ -165,13 +164,6 @@ judge_counts setup run (Ok p) = by_point (first_failed_point setup.suite.verifie
 -- each event
 event_counts : (setup : Setup) (run : Run) (e : Event) → CountsOn run (done setup run e).run
 unfolding done
-event_counts setup run (event.Put node key value) = node_counts run node None (λ s. put_by (stands_on setup node) s.correct (one_change key value)) (λ s. put_grows (stands_on setup node) s (one_change key value))
-event_counts setup run (event.Puts node changes) = node_counts run node None (λ s. put_by (stands_on setup node) s.correct changes) (λ s. put_grows (stands_on setup node) s changes)
-event_counts setup run (event.Get node key) = node_counts run node None (λ s. get_by s.correct key) (λ s. get_grows s key)
-event_counts setup run (event.Hello node label) = node_counts run node (Some label) (λ s. hello_by (stands_on setup node) s.correct) (λ s. hello_grows (stands_on setup node) s)
-event_counts setup run (event.Bundle node hello label) =
-    node_counts run node (Some label) (λ s. bundle_by (stands_on setup node) (signs_on setup node) s.correct (bytes_of_label run hello)) (λ s. bundle_grows (stands_on setup node) (signs_on setup node) s (bytes_of_label run hello))
-event_counts setup run (event.Give node label size) = node_counts run node None (λ s. give_by (stands_on setup node) s.correct (bytes_of_label run label)) (λ s. give_grows (stands_on setup node) s (bytes_of_label run label))
 event_counts setup run (event.Restart node) = node_counts run node None (λ s. restart_by s.correct) (λ s. restart_grows s)
 event_counts setup run (event.Update label writer seq clock prev key value deps history) = update_counts (signs_on setup writer) run label (values_of (one_change key value)) (updated (signs_on setup writer) run writer seq clock prev (one_change key value) deps history)
 event_counts setup run (event.Updates label writer seq clock prev changes deps history) = update_counts (signs_on setup writer) run label (values_of changes) (updated (signs_on setup writer) run writer seq clock prev changes deps history)
@@ -184,14 +176,11 @@ event_counts setup run (event.Cut label source start count) = none_counts run
 event_counts setup run (event.Flip label source place) = none_counts run
 event_counts setup run (event.Join label first second) = none_counts run
 event_counts setup run (event.Stop node call image) = pending_counts run node call image
-event_counts setup run (event.Receipt node refs) = receipts_count setup run node (all_referred run refs)
-event_counts setup run (event.Settled node reference k) = settled_counts run node k (referred run reference)
 event_counts setup run event.Audit = none_counts run
-event_counts setup run (event.Checkpoint node label) = node_counts run node (Some label) (λ s. checkpoint_by (stands_on setup node) s.correct) (λ s. checkpoint_grows (stands_on setup node) s)
-event_counts setup run (event.Sign node label) = node_counts run node None (λ s. sign_by (stands_on setup node) s.correct (bytes_of_label run label)) (λ s. sign_grows (stands_on setup node) s (bytes_of_label run label))
 event_counts setup run (event.Trim node label name) = trim_counts setup run node (bytes_of_label run label) name
 event_counts setup run (event.Tgive name label) = tgive_counts run name (bytes_of_label run label)
 event_counts setup run (event.Tget name key) = none_counts run
+event_counts setup run e = asked_counts setup run (event_node e) (label_by e) (request_in run e)
 
 -- all events
 counted_after : (setup : Setup) (run : Run) (es : List Event) (n : ℕ) → IsCounted n run.hosts run.seen → IsCounted (n + length es) (run_after setup run es).hosts (run_after setup run es).seen

@@ -23,7 +23,8 @@ use Rattle.depot_model.specs.Readers.{Reader}
 use Rattle.depot_world.specs.Run.{Run, bytes_of_label, seen_with}
 use Rattle.depot_world.specs.FaultySigning.{drafted, entries_of, history_by, prev_of_ref, proof_in, updated, with_history}
 use Rattle.depot_world.specs.Setups.{Setup, signs_on}
-use Rattle.depot_world.specs.Transcript.{Done, done, done_by_text, done_by_update, ended, head_words, judged_with, lines_after_arrow, lines_of}
+use Rattle.depot_requests.specs.Effects.{ended, lines_after_arrow}
+use Rattle.depot_world.specs.Transcript.{Done, done, done_by_text, done_by_update, head_words, judged_with, lines_of}
 use Rattle.depot_simulation.specs.Acting.{AreHosted, ParticipantView, ActorView}
 use Rattle.depot_simulation.specs.Doing.{HasDone, is_signing, signed_text, update_by, with_update}
 use Rattle.depot_scenario.specs.Labels.{AreLabels}

@@ -14,8 +14,8 @@ use Rattle.depot_traces.specs.TraceTexts.{read_text}
 use Rattle.depot_traces.specs.declared.trace.ReadTrace.{ReadTrace}
 use Rattle.depot_world.specs.Audits.{traced_read}
 use Rattle.depot_world.specs.Run.{PendingStop, Host}
-use Rattle.depot_world.specs.ScheduleStops.{Effect, EventResult, event_result}
-use Rattle.depot_world.specs.Transcript.{lines_after_arrow}
+use Rattle.depot_requests.specs.Effects.{Effect, lines_after_arrow}
+use Rattle.depot_world.specs.ScheduleStops.{EventResult, event_result}
 use Rattle.depot_world.specs.Setups.{Setup, stands_on, signs_on}
 use Rattle.depot_simulation.specs.declared.actor.EventOutcome.{EventOutcome}
 

@@ -1,11 +1,10 @@
 -- What an event does to a simulation.
-use Rattle.std.specs.Prelude.{◌≡◌, ◌==◌, ℕ, List, [], ◌∷◌, ◌++◌, length, take, drop, remove, position, slice_get, Bool, true, false, Option, Some, None}
+use Rattle.std.specs.Prelude.{◌≡◌, ◌==◌, ℕ, List, [], ◌∷◌, ◌++◌, length, take, drop, remove, position, slice_get, Bool, true, false, Option, Some, None, IfSome}
 use Rattle.depot_base.specs.Writes.{one_change}
 use Rattle.depot_base.specs.declared.record.Record.{Record}
 use Rattle.depot_base.specs.declared.update.Update.{Update}
 use Rattle.depot_base.specs.declared.write.Change.{Change}
 use Rattle.depot_model.specs.Bundle.{Signs}
-use Rattle.depot_model.specs.Changes.{AreChanges}
 use Rattle.depot_model.specs.Journal.{accepted}
 use Rattle.depot_model.specs.Own.{values_of}
 use Rattle.depot_model.specs.Readers.{Reader}
@@ -15,12 +14,16 @@ use Rattle.depot_schedule.specs.declared.event.Event.TheVariants as event
 use Rattle.depot_schedule.specs.declared.event.Ref.{Ref}
 use Rattle.depot_schedule.specs.EventLines.{event_changes, event_node}
 use Rattle.depot_world.specs.Audits.{traced_read}
-use Rattle.depot_world.specs.Effects.{read_at_end, put_by, get_by, hello_by, bundle_by, give_by, restart_by, receipt_by, settled_by, checkpoint_by, sign_by}
-use Rattle.depot_world.specs.Run.{Run, Host, bytes_of_label, seen_with}
+use Rattle.depot_requests.specs.Effects.{lines_after_arrow, read_at_end}
+use Rattle.depot_requests.specs.Requests.{IsRequest}
+use Rattle.depot_requests.specs.declared.request.Request.{Request}
+use Rattle.depot_requests.specs.declared.request.Request.TheVariants as request
+use Rattle.depot_world.specs.EventRequests.{request_in}
+use Rattle.depot_world.specs.ScheduleStops.{restart_by}
+use Rattle.depot_world.specs.Run.{Run, bytes_of_label, seen_with}
 use Rattle.depot_world.specs.FaultySigning.{Text, no_reference, counted_bytes, updated, update_text, vouched_text, proof_text, hollow_text, proof_in, flip_at}
-use Rattle.depot_world.specs.ScheduleStops.{Effect}
-use Rattle.depot_world.specs.Setups.{Setup, stands_on, signs_on}
-use Rattle.depot_world.specs.Transcript.{Done, done_at_node, judged_with, lines_after_arrow, lines_of}
+use Rattle.depot_world.specs.Setups.{Setup, signs_on}
+use Rattle.depot_world.specs.Transcript.{Done, done_at_node, judged_with, lines_of}
 use Rattle.depot_simulation.specs.Acting.{ActorView}
 use Rattle.depot_simulation.specs.Playing.{IsSimulationAt, IsPlayed}
 use Rattle.depot_simulation.specs.declared.acting.ActingNode.{ActingNode}
@@ -41,49 +44,18 @@ pub record HasTold (A : Type 0) {R : Type 0} (view : A → ActorView) (reads : R
 
 -- ---- events of nodes
 
--- a node acts in it
-abbrev pub is_effect : Event → Bool
-is_effect (event.Put node key value) = true
-is_effect (event.Puts node changes) = true
-is_effect (event.Get node key) = true
-is_effect (event.Hello node label) = true
-is_effect (event.Bundle node hello label) = true
-is_effect (event.Give node label size) = true
-is_effect (event.Restart node) = true
-is_effect (event.Checkpoint node label) = true
-is_effect (event.Sign node label) = true
-is_effect e = false
+-- whatever labels and references name, its node may be asked for it
+abbrev pub MayAskNode : Event → Type 0
+MayAskNode e = (run : Run) → IfSome (request_in run e) IsRequest
 
--- what it lets the node put are changes that a node may be asked for
-abbrev pub PutsChanges : Event → Type 0
-PutsChanges (event.Put node key value) = AreChanges (one_change key value)
-PutsChanges (event.Puts node changes) = AreChanges changes
-PutsChanges e = Unit {0}
+-- the read that a node makes for a request, as a trace tells it, if it makes one
+abbrev pub reads_by : List Record → Request → List ReadTrace
+reads_by J (request.Get key) = traced_read (read_at_end J key) ∷ []
+reads_by J r = []
 
--- what it lets the node do
-abbrev pub effect_of : Setup → Run → Event → Host → Effect
-effect_of setup run (event.Put node key value) s = put_by (stands_on setup s.correct.node) s.correct (one_change key value)
-effect_of setup run (event.Puts node changes) s = put_by (stands_on setup s.correct.node) s.correct changes
-effect_of setup run (event.Get node key) s = get_by s.correct key
-effect_of setup run (event.Hello node label) s = hello_by (stands_on setup s.correct.node) s.correct
-effect_of setup run (event.Bundle node hello label) s = bundle_by (stands_on setup s.correct.node) (signs_on setup s.correct.node) s.correct (bytes_of_label run hello)
-effect_of setup run (event.Give node label size) s = give_by (stands_on setup s.correct.node) s.correct (bytes_of_label run label)
-effect_of setup run (event.Checkpoint node label) s = checkpoint_by (stands_on setup s.correct.node) s.correct
-effect_of setup run (event.Sign node label) s = sign_by (stands_on setup s.correct.node) s.correct (bytes_of_label run label)
-effect_of setup run e s = restart_by s.correct
-
--- the read that a node makes in it, as a trace tells it, if it makes one
-abbrev pub reads_by : List Record → Event → List ReadTrace
-reads_by J (event.Get node key) = traced_read (read_at_end J key) ∷ []
-reads_by J e = []
-
--- a node gives receipts for these ids
-abbrev pub receipts_by : Setup → Run → ℕ → List (List ℕ) → Done
-receipts_by setup run node ids = done_at_node run node None (λ s. receipt_by (stands_on setup node) s.correct ids)
-
--- a node tells whether an id is settled at so many nodes
-abbrev pub settling_by : Run → ℕ → List ℕ → ℕ → Done
-settling_by run node id k = done_at_node run node None (λ s. settled_by s.correct id k)
+-- a node is started again
+abbrev pub restarted_at : Run → ℕ → Done
+restarted_at run node = done_at_node run node None (λ s. restart_by s.correct)
 
 -- the place of the first node of this number, from 0
 abbrev pub place_of_node : {A : Type 0} → (A → ActorView) → ℕ → List (Participant A) → Option ℕ

@@ -7,24 +7,20 @@ use Rattle.depot_model.specs.Readers.{Reader}
 use Rattle.depot_model.specs.Roster.{Verifies}
 use Rattle.depot_outside.specs.Told.{Sinks, Wrote, WroteFront}
 use Rattle.depot_schedule.specs.declared.event.Event.{Event}
-use Rattle.depot_scenario.specs.Labels.{AreLabels}
 use Rattle.depot_scenario.specs.LabelUses.{AreUses}
 use Rattle.depot_scenario.specs.ScenarioTexts.{IsText}
 use Rattle.depot_scenario.specs.Scenarios.{IsScenarioOf}
-use Rattle.depot_scenario.specs.declared.label_table.Given.{Given}
 use Rattle.depot_scenario.specs.declared.scenario.Scenario.{Scenario}
 use Rattle.depot_scenario.specs.declared.texts.Text as made_text
 use Rattle.depot_world.specs.Audits.{IsSound}
 use Rattle.depot_world.specs.FaultySigning.{Text}
-use Rattle.depot_world.specs.Run.{Run, Host}
-use Rattle.depot_world.specs.ScheduleStops.{event_result}
+use Rattle.depot_world.specs.Run.{Run}
 use Rattle.depot_world.specs.Setups.{Setup}
 use Rattle.depot_world.specs.Transcript.{Done, done, printed}
-use Rattle.depot_simulation.specs.Acting.{CameTo, IsHosted, ActorView}
-use Rattle.depot_simulation.specs.Doing.{HasDone, HasLeft, HasTold, effect_of}
+use Rattle.depot_simulation.specs.Acting.{ActorView}
+use Rattle.depot_simulation.specs.Doing.{HasDone, HasLeft, HasTold}
 use Rattle.depot_simulation.specs.Playing.{IsSimulationAt, IsSimulationFor, StaysSound}
 use Rattle.depot_simulation.specs.declared.acting.ActingNode.{ActingNode}
-use Rattle.depot_simulation.specs.declared.actor.EventOutcome.{EventOutcome}
 use Rattle.depot_simulation.specs.declared.simulation.Simulation.{Simulation}
 
 -- ---- the runs
@@ -98,11 +94,6 @@ abbrev pub Completes : {A R : Type 0} → (A → ActorView) → (Reader → R �
     → List ℕ → Simulation A R → Type 0
 Completes {A = A} {R = R} view reads node left acting what lines new = (before : Simulation A R) → HasLeft A view node before left acting
     → Simulates view reads before what lines new
-
--- Of whatever run these are the labels, and whatever host this was the node, an event came to what it lets the node do.
-abbrev pub ActsIn : {A : Type 0} → (A → ActorView) → List (Vec ℕ Global × Given) → A → Event → EventOutcome A → Type 0
-ActsIn view labels actor e outcome = (setup : Setup) (run : Run) (s : Host) → AreLabels labels run.labels → IsHosted setup s (view actor)
-    → CameTo setup (event_result s (effect_of setup run e s)) (view outcome.actor) outcome.lines outcome.bytes
 
 -- ---- what a label is given
 

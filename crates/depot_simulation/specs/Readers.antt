@@ -6,7 +6,8 @@ use Rattle.depot_answers.specs.AnswerTexts.{spaced, text_of_reader_feed, text_of
 use Rattle.depot_model.specs.ReaderFeeds.{reader_feed_of}
 use Rattle.depot_model.specs.Readers.{Reader, TrimAnswer}
 use Rattle.depot_world.specs.Run.{NamedReader, put_reader, reader_in}
-use Rattle.depot_world.specs.Transcript.{answer_of_reader, ended, reader_made}
+use Rattle.depot_requests.specs.Effects.{ended}
+use Rattle.depot_world.specs.Transcript.{answer_of_reader, reader_made}
 use Rattle.depot_scenario.specs.Labels.{named_in}
 use Rattle.depot_simulation.specs.declared.reading.Trimming.{Trimming}
 

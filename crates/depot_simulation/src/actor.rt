@@ -1,27 +1,26 @@
 //! A correct node at work.
-ghost use Rattle.std.specs.Prelude.{◌≡◌, ◌<◌, ◌≤◌, true, Some, IfOk, length, option_copied, slice_get};
-ghost use Rattle.depot_base.specs.Pairs.{AllPairsByRecursion};
-ghost use Rattle.depot_base.specs.Parts.{is_below};
+ghost use Rattle.std.specs.Prelude.{◌≡◌, ◌<◌, ◌≤◌, Some, IfOk, length, option_copied, slice_get};
 ghost use Rattle.depot_base.specs.declared.limits.TheConstants.{MOST_STOP_CALL};
-ghost use Rattle.depot_model.specs.Changes.{AreChanges};
 ghost use Rattle.depot_model.specs.Items.{at};
 ghost use Rattle.depot_model.specs.Journal.{accepted};
 ghost use Rattle.depot_model.specs.Lawful.{IsLawful};
 ghost use Rattle.depot_model.specs.Readers.{trim_of};
-ghost use Rattle.depot_model.specs.Receipts.{receipt_changes};
 ghost use Rattle.depot_model.specs.Texts.{id_of_update};
 ghost use Rattle.depot_traces.specs.SeenTraces as seen_traces;
 ghost use Rattle.depot_traces.specs.TraceTexts.{IsTrace, read_text};
 ghost use Rattle.depot_traces.specs.declared.trace.TheConstants.{MOST_READS};
 ghost use Rattle.depot_world.specs.Audits.{traced_read};
-ghost use Rattle.depot_world.specs.Effects.{read_at_end, put_by, get_by, receipt_by, settled_by, checkpoint_by, sign_by, hello_by, bundle_by, give_by, restart_by};
+ghost use Rattle.depot_requests.specs.Effects.{read_at_end};
+ghost use Rattle.depot_requests.specs.Requests.{IsRequest, effect_of};
+ghost use Rattle.depot_world.specs.ScheduleStops.{restart_by};
 ghost use Rattle.depot_world.specs.Run.{PendingStop, own_update};
 ghost use Rattle.depot_simulation.specs.Acting.{Acts, HaveTexts, ActorView};
 ghost use Rattle.depot_simulation.specs.Readers.{HasTrimmed};
 ghost use Rattle.depot_simulation.specs.Auditing.{handed_in};
 
 use crate::reading::{Reading, Trimming};
-use depot_base::{Bytes, Changes, Hash32, Ids, Key, Memory, Update};
+use depot_base::{Bytes, Hash32, Key, Memory, Update};
+use depot_requests::Request;
 use depot_scenario::Numbered;
 use depot_traces::{ReadTrace, Trace};
 
@@ -63,10 +62,10 @@ pub trait Actor: Drop + Numbered {
     fn own_update(&self, seq: u32) -> Option<&Update>
         ensures { option_copied result ≡ own_update (view self.now).journal seq };
 
-    /// It gives keys values, or deletes them.
-    fn put(self, changes: Changes) -> Result<EventOutcome<Self>, Memory>
-        requires { AreChanges changes }
-        ensures { IfOk result (λ outcome. Acts view self (λ here sign correct. put_by here correct changes) outcome) };
+    /// It does what it is asked.
+    fn serve(self, request: Request) -> Result<EventOutcome<Self>, Memory>
+        requires { IsRequest request }
+        ensures { IfOk result (λ outcome. Acts view self (λ here sign correct. effect_of here sign correct request) outcome) };
 
     /// A read of a key at its records as they are, as a trace tells it.
     fn read(&self, key: &Key) -> Result<ReadTrace, Memory>
@@ -78,43 +77,9 @@ pub trait Actor: Drop + Numbered {
         requires fit { HaveTexts reads.now }
         ensures { IfOk result (λ t. IsTrace t × (seen_traces.trace_of t ≡ handed_in (record { view = view self.now; reads = reads.now }))) };
 
-    /// It reads a key.
-    fn get(self, key: &Key) -> Result<EventOutcome<Self>, Memory>
-        ensures { IfOk result (λ outcome. Acts view self (λ here sign correct. get_by correct key.now) outcome) };
-
-    /// It gives receipts for 1 to 16 ids, rising strictly.
-    fn receipt(self, ids: &Ids) -> Result<EventOutcome<Self>, Memory>
-        requires changes { AreChanges (receipt_changes ids.now) }
-        requires rising { AllPairsByRecursion (λ g h. is_below g h ≡ true) ids.now }
-        ensures { IfOk result (λ outcome. Acts view self (λ here sign correct. receipt_by here correct ids.now) outcome) };
-
-    /// It tells whether at least so many nodes gave a receipt for an id, among all updates that it accepted.
-    fn settled(self, id: &Hash32, k: u32) -> Result<EventOutcome<Self>, Memory>
-        ensures { IfOk result (λ outcome. Acts view self (λ here sign correct. settled_by correct id.now k) outcome) };
-
-    /// It makes a checkpoint and signs it.
-    fn checkpoint(self) -> Result<EventOutcome<Self>, Memory>
-        ensures { IfOk result (λ outcome. Acts view self (λ here sign correct. checkpoint_by here correct) outcome) };
-
-    /// It signs a checkpoint's text.
-    fn sign(self, text: &[u8]) -> Result<EventOutcome<Self>, Memory>
-        ensures { IfOk result (λ outcome. Acts view self (λ here sign correct. sign_by here correct text.now) outcome) };
-
     /// A reader is made of it, below the checkpoint of this text.
     fn trim(&self, text: &[u8]) -> Result<Trimming<Self::Reader>, Memory>
         ensures { IfOk result (λ t. HasTrimmed Self.Reader.reads (trim_of (view self.now).here (view self.now).journal text.now) t) };
-
-    /// It says hello.
-    fn hello(self) -> Result<EventOutcome<Self>, Memory>
-        ensures { IfOk result (λ outcome. Acts view self (λ here sign correct. hello_by here correct) outcome) };
-
-    /// It makes a bundle for the bytes of a hello.
-    fn bundle(self, hello: &[u8]) -> Result<EventOutcome<Self>, Memory>
-        ensures { IfOk result (λ outcome. Acts view self (λ here sign correct. bundle_by here sign correct hello.now) outcome) };
-
-    /// It takes a stream, whole or in pieces of so many bytes.
-    fn give(self, stream: &[u8], size: Option<u32>) -> Result<EventOutcome<Self>, Memory>
-        ensures { IfOk result (λ outcome. Acts view self (λ here sign correct. give_by here correct stream.now) outcome) };
 
     /// It is started again from its disk.
     fn restart(self) -> Result<EventOutcome<Self>, Memory>

@@ -48,13 +48,7 @@ impl<A: Actor> Simulation<A> {
         ensures asked { self.new.seen.asked ≡ self.old.seen.asked }
     {
         match event {
-            Event::Put { node, .. } => self.effect(*node, event),
-            Event::Puts { node, .. } => self.effect(*node, event),
-            Event::Get { node, .. } => self.effect(*node, event),
-            Event::Hello { node, .. } => self.effect(*node, event),
-            Event::Bundle { node, .. } => self.effect(*node, event),
-            Event::Give { node, .. } => self.effect(*node, event),
-            Event::Restart { node } => self.effect(*node, event),
+            Event::Restart { node } => self.restart(*node),
             Event::Update { label, .. } => self.update(scenario, label, event),
             Event::Updates { label, .. } => self.update(scenario, label, event),
             Event::Voucher { label, .. } => self.make(scenario, label, event),
@@ -66,14 +60,11 @@ impl<A: Actor> Simulation<A> {
             Event::Flip { label, .. } => self.make(scenario, label, event),
             Event::Join { label, .. } => self.make(scenario, label, event),
             Event::Stop { node, call, image } => self.stop(*node, *call, *image),
-            Event::Receipt { node, refs } => self.receipt(*node, refs.as_slice()),
-            Event::Settled { node, reference, k } => self.settled(*node, reference, *k),
             Event::Audit => self.audit(scenario),
-            Event::Checkpoint { node, .. } => self.effect(*node, event),
-            Event::Sign { node, .. } => self.effect(*node, event),
             Event::Trim { node, label, name } => self.trim(*node, label, name),
             Event::Tgive { name, label } => self.tgive(name, label),
             Event::Tget { name, key } => self.tget(name, key),
+            _ => self.ask(event),
         }
     }
 

@@ -6,9 +6,8 @@
 //!
 //! A `Simulation` is a run at work (`IsSimulationAt`): the correct nodes, each with the reads that it made (`Participant`), what labels name, the
 //! updates that were seen, and the `Readers` by their names, each known by its contract alone too (`Reading`). `events` does one event and
-//! gives its lines: `effects` those that a node acts in, which leaves its place for them
-//! (`host_places`), `event_receipts` those in which it gives receipts or counts them, for what references name, `event_stops` those that
-//! set a stop on a disk, `event_readers` those of readers, `audits` the audit of all nodes, `updates` and `made` those that only make a
+//! gives its lines: `requests` those that ask a node for something, by what labels and references name; the node leaves its place for them
+//! (`host_places`), does what is asked, and comes back. `event_stops` does those that set a stop on a disk, `event_readers` those of readers, `audits` the audit of all nodes, `updates` and `made` those that only make a
 //! label, and `drafting` finds what their references name. `asking` tells which events ask for right histories, `playing` begins a run
 //! and plays all events, and `forgetting` gives up labels that no event to come names. What needs no node stands in `depot_scenario`;
 //! the nodes are `depot_replay`'s.
@@ -19,9 +18,7 @@ mod actor;
 mod asking;
 mod audits;
 mod drafting;
-mod effects;
 mod event_readers;
-mod event_receipts;
 mod event_stops;
 mod events;
 mod forgetting;
@@ -32,6 +29,7 @@ mod playing;
 mod readers;
 mod reading;
 mod replay_error;
+mod requests;
 mod simulation;
 mod starts_fresh;
 mod updates;

@@ -5,7 +5,8 @@ use Rattle.std.proofs.lemmas.List.{append-nil}
 use Rattle.depot_model.specs.Lists.{IsIn}
 use Rattle.depot_model.specs.World.{Read}
 use Rattle.depot_world.specs.Run.{PendingStop, Host, Labelled, Run, host_in, put_host, with_label, with_host}
-use Rattle.depot_world.specs.ScheduleStops.{Effect, EventResult, result_by, stopped_with, result_pending, journal_left, event_result}
+use Rattle.depot_requests.specs.Effects.{Effect}
+use Rattle.depot_world.specs.ScheduleStops.{EventResult, result_by, stopped_with, result_pending, journal_left, event_result}
 use Rattle.depot_world.specs.Transcript.{Done, done_by_node, done_at_node, pending_at}
 use Rattle.depot_world.proofs.GoodRuns.{numbers_of, found_is, from_put_host, same_numbers}
 

@@ -1,6 +1,6 @@
 -- The reads of a node in the world of a schedule are those of its `get` events, and the judged proofs those with a verdict.
-use Rattle.std.proofs.Common.{◌≡◌, ℕ, ◌≤◌, Bool, true, false, eqb, cond, List, [], ◌∷◌, ◌++◌, append_assoc, map, Option, Some, None, Result, Ok, Err, refl, sym, ap, subst, ◌∙◌, inl, inr, codes}
-use Rattle.std.specs.Prelude.{filter}
+use Rattle.std.proofs.Common.{◌≡◌, ℕ, ◌≤◌, Bool, true, false, eqb, cond, List, [], ◌∷◌, ◌++◌, append_assoc, map, Option, Some, None, Result, Ok, Err, refl, sym, ap, subst, ◌∙◌, inl, inr, codes, arith}
+use Rattle.std.specs.Prelude.{◌⊎◌, filter, option_map}
 use Rattle.std.proofs.lemmas.Bool.{eqb-true, eq-eqb, cond-false}
 use Rattle.std.proofs.lemmas.List.{append-nil, map-append}
 use Rattle.depot_base.specs.Writes.{one_change}
@@ -20,22 +20,27 @@ use Rattle.depot_model.specs.Vouching.{rising}
 use Rattle.depot_model.specs.World.{Correct, Read}
 use Rattle.depot_model.specs.declared.judgement.JudgeError.{JudgeError}
 use Rattle.depot_model.proofs.Members.{from_map, in_map, all_at}
-use Rattle.depot_schedule.specs.EventLines.{stop_line}
 use Rattle.depot_schedule.specs.Schedules.{FitsEvent, FitEvents, IsSchedule, with_event, before_events}
 use Rattle.depot_schedule.specs.declared.event.Event.{Event}
 use Rattle.depot_schedule.specs.declared.event.Event.TheVariants as event
 use Rattle.depot_schedule.specs.declared.member.Member.{Member}
 use Rattle.depot_schedule.specs.declared.schedule.Schedule.{Schedule}
 use Rattle.depot_tests_worlds.specs.Asked.{key_read, keys_read, verdict_on, verdicts_on}
-use Rattle.depot_world.specs.Effects.{put_by, get_by, receipt_by, settled_by, checkpoint_by, sign_by, hello_by, bundle_by, give_by, restart_by}
+use Rattle.depot_requests.specs.Effects.{Effect}
+use Rattle.depot_requests.specs.Requests.{effect_of, served}
+use Rattle.depot_requests.specs.declared.request.Request.{Request}
+use Rattle.depot_requests.specs.declared.request.Request.TheVariants as request
+use Rattle.depot_schedule.specs.EventLines.{event_node, stop_line}
+use Rattle.depot_world.specs.EventRequests.{label_by, piece_of, request_in}
+use Rattle.depot_world.specs.ScheduleStops.{restart_by}
 use Rattle.depot_world.specs.FaultySigning.{all_referred, updated, proof_in}
 use Rattle.depot_world.specs.Run.{Run, Host, fresh_host, run_of, world_by, host_in, bytes_of_label, reader_in, referred, with_host}
-use Rattle.depot_world.specs.ScheduleStops.{Effect, event_result}
+use Rattle.depot_world.specs.ScheduleStops.{event_result}
 use Rattle.depot_world.specs.Setups.{Setup, setup_of, stands_on, signs_on}
-use Rattle.depot_world.specs.Transcript.{Done, done_by_node, done_at_node, pending_at, receipt_for, settled_for, trimmed_with, trim_at, reader_told, tgive_by, done_by_update, judged_with, done, run_after, world_of}
+use Rattle.depot_world.specs.Transcript.{Done, done_by_node, done_at_node, pending_at, asked_at, asked_for, trimmed_with, trim_at, reader_told, tgive_by, done_by_update, judged_with, done, run_after, world_of}
 use Rattle.depot_world.proofs.GoodRuns.{numbers_of}
 use Rattle.depot_world.proofs.GoodWorlds.{schedule_makes_world}
-use Rattle.depot_world.proofs.ReadCounts.{put_keeps, receipt_keeps, settled_keeps, checkpoint_keeps, sign_keeps, bundle_keeps}
+use Rattle.depot_world.proofs.ReadCounts.{request_reads}
 use Rattle.depot_tests_worlds.proofs.HostReads.{keys_of, Waits, HasRead, no_keys, no_keys_either, Follows, stays, node_follows, stop_follows}
 
 -- ---- the reads of each event
@@ -44,21 +49,20 @@ use Rattle.depot_tests_worlds.proofs.HostReads.{keys_of, Waits, HasRead, no_keys
 silent : (s : Host) (reads : List Read) → reads ≡ s.correct.reads → map (λ (r : Read). r.key) reads ≡ keys_of s ++ []
 silent s reads same = ap (λ (rs : List Read). map (λ (r : Read). r.key) rs) same ∙ sym (append-nil (keys_of s))
 
-get_reads : (s : Host) (key : List ℕ) → map (λ (r : Read). r.key) (get_by s.correct key).reads ≡ keys_of s ++ key ∷ []
-unfolding get_by
-get_reads s key = map-append (λ (r : Read). r.key) s.correct.reads _
+-- what a node is asked reads these keys
+abbrev keys_by : Request → List (List ℕ)
+keys_by (request.Get key) = key ∷ []
+keys_by other = []
 
-get_calls : (s : Host) (key : List ℕ) → (get_by s.correct key).calls ≡ 0
-unfolding get_by
-get_calls s key = refl
+asked_reads : (here : Setting) (sign : Signs) (s : Host) (r : Request) → map (λ (x : Read). x.key) (effect_of here sign s.correct r).reads ≡ keys_of s ++ keys_by r
+asked_reads here sign s (request.Get key) = ap (map (λ (x : Read). x.key)) (request_reads here sign s.correct (request.Get key)) ∙ map-append (λ (x : Read). x.key) s.correct.reads _
+asked_reads here sign s other = silent s _ (request_reads here sign s.correct other)
 
-hello_silent : (here : Setting) (s : Host) → map (λ (r : Read). r.key) (hello_by here s.correct).reads ≡ keys_of s ++ []
-unfolding hello_by
-hello_silent here s = silent s _ refl
-
-give_silent : (here : Setting) (s : Host) (stream : List ℕ) → map (λ (r : Read). r.key) (give_by here s.correct stream).reads ≡ keys_of s ++ []
-unfolding give_by
-give_silent here s stream = silent s _ refl
+-- a read makes no call
+asked_calls : (here : Setting) (sign : Signs) (s : Host) (r : Request) → (keys_by r ≡ []) ⊎ ((effect_of here sign s.correct r).calls ≡ 0)
+unfolding effect_of served
+asked_calls here sign s (request.Get key) = inr (omega arith)
+asked_calls here sign s other = inl refl
 
 restart_silent : (s : Host) → map (λ (r : Read). r.key) (restart_by s.correct).reads ≡ keys_of s ++ []
 unfolding restart_by
@@ -135,17 +139,21 @@ judge_stays setup run (Ok p) = by_point (first_failed_point setup.suite.verifies
   by_point (Some f) = refl
   by_point None = refl
 
--- receipts, and whether enough were given, for what references name or for nothing
+-- what a node is asked, if references name it
 
-receipts_follow : (setup : Setup) (run : Run) (node : ℕ) (o : Option (List Update)) → ((s : Host) → IsIn s run.hosts → Waits s) → Follows run (receipt_for setup run node o).run node []
+asked_follows : (setup : Setup) (run : Run) (node : ℕ) (label : Option (List ℕ)) (r : Request) → ((s : Host) → IsIn s run.hosts → Waits s) → Follows run (asked_at setup run node label r).run node (keys_by r)
+asked_follows setup run node label r all =
+    let here = stands_on setup node in
+    let sign = signs_on setup node in
+    node_follows run node label (λ s. effect_of here sign s.correct r) (keys_by r) all (λ s. asked_reads here sign s r) (λ s. asked_calls here sign s r)
+
+receipts_follow : (setup : Setup) (run : Run) (node : ℕ) (o : Option (List Update)) → ((s : Host) → IsIn s run.hosts → Waits s) → Follows run (asked_for setup run node None (option_map (λ us. request.Receipt (rising (map id_of_update us))) o)).run node []
 receipts_follow setup run node None all = stays run _ node refl
-receipts_follow setup run node (Some us) all =
-    let ids = rising (map id_of_update us) in
-    node_follows run node None (λ s. receipt_by (stands_on setup node) s.correct ids) [] all (λ s. silent s _ (receipt_keeps (stands_on setup node) s.correct ids)) (λ s. inl refl)
+receipts_follow setup run node (Some us) all = asked_follows setup run node None (request.Receipt (rising (map id_of_update us))) all
 
-settled_follows : (run : Run) (node k : ℕ) (o : Option Update) → ((s : Host) → IsIn s run.hosts → Waits s) → Follows run (settled_for run node k o).run node []
-settled_follows run node k None all = stays run _ node refl
-settled_follows run node k (Some u) all = node_follows run node None (λ s. settled_by s.correct (id_of_update u) k) [] all (λ s. silent s _ (settled_keeps s.correct (id_of_update u) k)) (λ s. inl refl)
+settled_follows : (setup : Setup) (run : Run) (node k : ℕ) (o : Option Update) → ((s : Host) → IsIn s run.hosts → Waits s) → Follows run (asked_for setup run node None (option_map (λ u. request.Settled (id_of_update u) k) o)).run node []
+settled_follows setup run node k None all = stays run _ node refl
+settled_follows setup run node k (Some u) all = asked_follows setup run node None (request.Settled (id_of_update u) k) all
 
 -- a reader is made, or takes a stream: no node has a part in what it reads
 
@@ -165,12 +173,12 @@ tgive_stays run name stream = by_reader (reader_in run.readers name) where
 
 event_follows : (setup : Setup) (run : Run) (e : Event) → ((s : Host) → IsIn s run.hosts → Waits s) → StopsLater e → Follows run (done setup run e).run (node_in e) (keys_in e)
 unfolding done
-event_follows setup run (event.Put node key value) all later = node_follows run node None (λ s. put_by (stands_on setup node) s.correct (one_change key value)) [] all (λ s. silent s _ (put_keeps (stands_on setup node) s.correct (one_change key value))) (λ s. inl refl)
-event_follows setup run (event.Puts node changes) all later = node_follows run node None (λ s. put_by (stands_on setup node) s.correct changes) [] all (λ s. silent s _ (put_keeps (stands_on setup node) s.correct changes)) (λ s. inl refl)
-event_follows setup run (event.Get node key) all later = node_follows run node None (λ s. get_by s.correct key) (key ∷ []) all (λ s. get_reads s key) (λ s. inr (get_calls s key))
-event_follows setup run (event.Hello node label) all later = node_follows run node (Some label) (λ s. hello_by (stands_on setup node) s.correct) [] all (λ s. hello_silent (stands_on setup node) s) (λ s. inl refl)
-event_follows setup run (event.Bundle node hello label) all later = node_follows run node (Some label) (λ s. bundle_by (stands_on setup node) (signs_on setup node) s.correct (bytes_of_label run hello)) [] all (λ s. silent s _ (bundle_keeps (stands_on setup node) (signs_on setup node) s.correct (bytes_of_label run hello))) (λ s. inl refl)
-event_follows setup run (event.Give node label size) all later = node_follows run node None (λ s. give_by (stands_on setup node) s.correct (bytes_of_label run label)) [] all (λ s. give_silent (stands_on setup node) s (bytes_of_label run label)) (λ s. inl refl)
+event_follows setup run (event.Put node key value) all later = asked_follows setup run node None (request.Put (one_change key value)) all
+event_follows setup run (event.Puts node changes) all later = asked_follows setup run node None (request.Put changes) all
+event_follows setup run (event.Get node key) all later = asked_follows setup run node None (request.Get key) all
+event_follows setup run (event.Hello node label) all later = asked_follows setup run node (Some label) request.Hello all
+event_follows setup run (event.Bundle node hello label) all later = asked_follows setup run node (Some label) (request.Bundle (bytes_of_label run hello)) all
+event_follows setup run (event.Give node label size) all later = asked_follows setup run node None (request.Take (bytes_of_label run label) (piece_of size)) all
 event_follows setup run (event.Restart node) all later = node_follows run node None (λ s. restart_by s.correct) [] all (λ s. restart_silent s) (λ s. inl refl)
 event_follows setup run (event.Update label writer seq clock prev key value deps history) all later = stays run _ 0 (update_stays (signs_on setup writer) run label _ (updated (signs_on setup writer) run writer seq clock prev (one_change key value) deps history))
 event_follows setup run (event.Updates label writer seq clock prev changes deps history) all later = stays run _ 0 (update_stays (signs_on setup writer) run label _ (updated (signs_on setup writer) run writer seq clock prev changes deps history))
@@ -184,10 +192,10 @@ event_follows setup run (event.Flip label source place) all later = stays run _ 
 event_follows setup run (event.Join label first second) all later = stays run _ 0 refl
 event_follows setup run (event.Stop node call image) all later = stop_follows run node call image later
 event_follows setup run (event.Receipt node refs) all later = receipts_follow setup run node (all_referred run refs) all
-event_follows setup run (event.Settled node reference k) all later = settled_follows run node k (referred run reference) all
+event_follows setup run (event.Settled node reference k) all later = settled_follows setup run node k (referred run reference) all
 event_follows setup run event.Audit all later = stays run _ 0 refl
-event_follows setup run (event.Checkpoint node label) all later = node_follows run node (Some label) (λ s. checkpoint_by (stands_on setup node) s.correct) [] all (λ s. silent s _ (checkpoint_keeps (stands_on setup node) s.correct)) (λ s. inl refl)
-event_follows setup run (event.Sign node label) all later = node_follows run node None (λ s. sign_by (stands_on setup node) s.correct (bytes_of_label run label)) [] all (λ s. silent s _ (sign_keeps (stands_on setup node) s.correct (bytes_of_label run label))) (λ s. inl refl)
+event_follows setup run (event.Checkpoint node label) all later = asked_follows setup run node (Some label) request.Checkpoint all
+event_follows setup run (event.Sign node label) all later = asked_follows setup run node None (request.Sign (bytes_of_label run label)) all
 event_follows setup run (event.Trim node label name) all later = stays run _ node (trim_stays setup run node (bytes_of_label run label) name)
 event_follows setup run (event.Tgive name label) all later = stays run _ 0 (tgive_stays run name (bytes_of_label run label))
 event_follows setup run (event.Tget name key) all later = stays run _ 0 refl
@@ -345,13 +353,9 @@ judge_judged setup run (Ok p) = by_point (first_failed_point setup.suite.verifie
   by_point (Some f) = sym (append-nil run.judged)
   by_point None = refl
 
-receipts_judged : (setup : Setup) (run : Run) (node : ℕ) (o : Option (List Update)) → (receipt_for setup run node o).run.judged ≡ run.judged ++ []
-receipts_judged setup run node None = sym (append-nil run.judged)
-receipts_judged setup run node (Some us) = node_judged run node None _
-
-settled_judged : (run : Run) (node k : ℕ) (o : Option Update) → (settled_for run node k o).run.judged ≡ run.judged ++ []
-settled_judged run node k None = sym (append-nil run.judged)
-settled_judged run node k (Some u) = node_judged run node None _
+asked_judged : (setup : Setup) (run : Run) (node : ℕ) (label : Option (List ℕ)) (o : Option Request) → (asked_for setup run node label o).run.judged ≡ run.judged ++ []
+asked_judged setup run node label None = sym (append-nil run.judged)
+asked_judged setup run node label (Some r) = node_judged run node label _
 
 trim_judged : (setup : Setup) (run : Run) (node : ℕ) (text name : List ℕ) → (trim_at setup run node text name).run.judged ≡ run.judged ++ []
 unfolding trim_at
@@ -369,12 +373,6 @@ tgive_judged run name stream = by_reader (reader_in run.readers name) where
 
 event_judges : (setup : Setup) (run : Run) (e : Event) → (done setup run e).run.judged ≡ run.judged ++ verdict_on setup run e
 unfolding done
-event_judges setup run (event.Put node key value) = node_judged run node None _
-event_judges setup run (event.Puts node changes) = node_judged run node None _
-event_judges setup run (event.Get node key) = node_judged run node None _
-event_judges setup run (event.Hello node label) = node_judged run node (Some label) _
-event_judges setup run (event.Bundle node hello label) = node_judged run node (Some label) _
-event_judges setup run (event.Give node label size) = node_judged run node None _
 event_judges setup run (event.Restart node) = node_judged run node None _
 event_judges setup run (event.Update label writer seq clock prev key value deps history) = update_judged (signs_on setup writer) run label _ (updated (signs_on setup writer) run writer seq clock prev (one_change key value) deps history)
 event_judges setup run (event.Updates label writer seq clock prev changes deps history) = update_judged (signs_on setup writer) run label _ (updated (signs_on setup writer) run writer seq clock prev changes deps history)
@@ -387,14 +385,11 @@ event_judges setup run (event.Cut label source start count) = sym (append-nil ru
 event_judges setup run (event.Flip label source place) = sym (append-nil run.judged)
 event_judges setup run (event.Join label first second) = sym (append-nil run.judged)
 event_judges setup run (event.Stop node call image) = stop_judged run node call image
-event_judges setup run (event.Receipt node refs) = receipts_judged setup run node (all_referred run refs)
-event_judges setup run (event.Settled node reference k) = settled_judged run node k (referred run reference)
 event_judges setup run event.Audit = sym (append-nil run.judged)
-event_judges setup run (event.Checkpoint node label) = node_judged run node (Some label) _
-event_judges setup run (event.Sign node label) = node_judged run node None _
 event_judges setup run (event.Trim node label name) = trim_judged setup run node (bytes_of_label run label) name
 event_judges setup run (event.Tgive name label) = tgive_judged run name (bytes_of_label run label)
 event_judges setup run (event.Tget name key) = sym (append-nil run.judged)
+event_judges setup run e = asked_judged setup run (event_node e) (label_by e) (request_in run e)
 
 events_judge : (setup : Setup) (run : Run) (es : List Event) → (run_after setup run es).judged ≡ run.judged ++ verdicts_on setup run es
 unfolding run_after

@@ -28,7 +28,9 @@ use Rattle.depot_model.specs.Texts.{text_of_update, update_fields, voucher_field
 use Rattle.depot_model.specs.Vouching.{put_rising, rising, groups_behind, groups_of, new_vouchers, limit_of_new, limit_of_vouchers}
 use Rattle.depot_schedule.specs.EventWords.{named_by}
 use Rattle.depot_answers.specs.AnswerTexts.{text_of_check, text_of_limit, text_of_report}
-use Rattle.depot_world.specs.Effects.{put_by, get_by, receipt_by, settled_by, hello_by, bundle_by, give_by, restart_by}
+use Rattle.depot_requests.specs.Replies.{closing_told}
+use Rattle.depot_requests.specs.Requests.{served}
+use Rattle.depot_world.specs.ScheduleStops.{restart_by}
 use Rattle.depot_model.specs.LatestList.{latest_in}
 use Rattle.depot_model.specs.Insertion.{insert_by, order_by}
 use Rattle.depot_traces.specs.TraceTexts.{answered_text, behind_mark, read_text, record_piece, trace_text}
@@ -56,7 +58,7 @@ use Rattle.depot_script.specs.declared.command.Command.TheVariants as command
 use Rattle.depot_session.specs.declared.ending.ScriptEnding.{ScriptEnding}
 use Rattle.depot_session.specs.declared.ending.ScriptEnding.TheVariants as ending
 use Rattle.depot_session.specs.SessionRuns.{GoesShort, GrowsTo, IsCutBy, IsLast, IsToBeWritten, LeavesFront, pending_for, pending_in, world_at}
-use Rattle.depot_session.specs.Sessions.{Answers, Files, Session, answers_of, ending_of_take, export_by, session_from, step_of}
+use Rattle.depot_session.specs.Sessions.{Answers, Files, Session, answers_of, ending_of_closing, session_from, step_of}
 use Rattle.depot_session.specs.Unhindered.{AreUnhindered}
 
 -- ---- a script
@@ -95,14 +97,14 @@ record CarriedOut : Type 0 where
   pub no_file : all.session.files (codes "none") ≡ None
 
 carried_out : CarriedOut
-unfolding answers_of step_of put_command get_command hello_command bundle_command take_command rest_of numeral number bytes_of inner list_of dep roster_entry signed_with is_covered candidates records_where values_behind candidate_parcels parcels fitting sent_for sent_foreign unvouched bundle_frames bundle_of bundle_answer sight content_checks opponent forked refused_as_convicted statement_checks proof_checks first_failed_check is_known answer_to due named_opponent added growth is_of_kind contradicts kind_of proof_of given_by take_frame fed_frame fed_byte fed ending_of report_of frame_at hello_leaf hello convicted_nodes lacking record_place hello_of leaves_of put_by_id by_id history_text history_hash first_values has_id named prev_of is_convicted is_vouched holds_hash holds is_wanted points spent_by tips_of collides_by limit_of_own limit_of_put past precedes_named next_entries next_own leaf_count plain_root plain_signature plain_verifies birth own_put tagged record_text foreign_leaves full_with key_of is_signed given_as answer_to_text growth_of_text update_fields voucher_fields update_body voucher_body statement signed proof roster id_of_update id_of_statement hash_of_roster put_rising rising groups_behind groups_of new_vouchers limit_of_new limit_of_vouchers named_by text_of_check text_of_limit text_of_report put_by get_by hello_by bundle_by give_by restart_by insert_by order_by latest_in sha256 first_words schedule rounds compress hash_after digest_bytes encode_with decode_pairs digits seen_under write marked is_update_text is_hollow
+unfolding answers_of step_of put_command get_command hello_command bundle_command take_command rest_of numeral number bytes_of inner list_of dep roster_entry signed_with is_covered candidates records_where values_behind candidate_parcels parcels fitting sent_for sent_foreign unvouched bundle_frames bundle_of bundle_answer sight content_checks opponent forked refused_as_convicted statement_checks proof_checks first_failed_check is_known answer_to due named_opponent added growth is_of_kind contradicts kind_of proof_of given_by take_frame fed_frame fed_byte fed ending_of report_of frame_at hello_leaf hello convicted_nodes lacking record_place hello_of leaves_of put_by_id by_id history_text history_hash first_values has_id named prev_of is_convicted is_vouched holds_hash holds is_wanted points spent_by tips_of collides_by limit_of_own limit_of_put past precedes_named next_entries next_own leaf_count plain_root plain_signature plain_verifies birth own_put tagged record_text foreign_leaves full_with key_of is_signed given_as answer_to_text growth_of_text update_fields voucher_fields update_body voucher_body statement signed proof roster id_of_update id_of_statement hash_of_roster put_rising rising groups_behind groups_of new_vouchers limit_of_new limit_of_vouchers named_by text_of_check text_of_limit text_of_report served restart_by insert_by order_by latest_in sha256 first_words schedule rounds compress hash_after digest_bytes encode_with decode_pairs digits seen_under write marked is_update_text is_hollow
 carried_out = record { ends = refl; records = refl; reads = refl; shown = refl; hello_file = refl; bundle_file = refl; other_file = refl; no_file = refl }
 
 record Told : Type 0 where
   pub lines : (answers (command.Put k (97 ∷ []) ∷ command.Get k ∷ command.Hello (codes "h") ∷ command.Bundle (codes "two") (codes "b") ∷ command.Take (codes "in") ∷ [])).text ≡ codes "put 6b -> 0/1\nget 6b -> 1/0/1=61\nhello h -> convicted 0 leaves 1 wanted 0\nbundle two b -> proofs 0 vouchers 0 updates 1 values 1 whole\ntake in -> accepted 2 known 0 refused 0 whole\n"
 
 told : Told
-unfolding answers_of step_of put_command get_command hello_command bundle_command take_command rest_of numeral number bytes_of inner list_of dep roster_entry signed_with is_covered candidates records_where values_behind candidate_parcels parcels fitting sent_for sent_foreign unvouched bundle_frames bundle_of bundle_answer sight content_checks opponent forked refused_as_convicted statement_checks proof_checks first_failed_check is_known answer_to due named_opponent added growth is_of_kind contradicts kind_of proof_of given_by take_frame fed_frame fed_byte fed ending_of report_of frame_at hello_leaf hello convicted_nodes lacking record_place hello_of leaves_of put_by_id by_id history_text history_hash first_values has_id named prev_of is_convicted is_vouched holds_hash holds is_wanted points spent_by tips_of collides_by limit_of_own limit_of_put past precedes_named next_entries next_own leaf_count plain_root plain_signature plain_verifies birth own_put tagged record_text foreign_leaves full_with key_of is_signed given_as answer_to_text growth_of_text update_fields voucher_fields update_body voucher_body statement signed proof roster id_of_update id_of_statement hash_of_roster put_rising rising groups_behind groups_of new_vouchers limit_of_new limit_of_vouchers named_by text_of_check text_of_limit text_of_report put_by get_by hello_by bundle_by give_by restart_by insert_by order_by latest_in sha256 first_words schedule rounds compress hash_after digest_bytes encode_with decode_pairs digits seen_under write marked is_update_text is_hollow
+unfolding answers_of step_of put_command get_command hello_command bundle_command take_command rest_of numeral number bytes_of inner list_of dep roster_entry signed_with is_covered candidates records_where values_behind candidate_parcels parcels fitting sent_for sent_foreign unvouched bundle_frames bundle_of bundle_answer sight content_checks opponent forked refused_as_convicted statement_checks proof_checks first_failed_check is_known answer_to due named_opponent added growth is_of_kind contradicts kind_of proof_of given_by take_frame fed_frame fed_byte fed ending_of report_of frame_at hello_leaf hello convicted_nodes lacking record_place hello_of leaves_of put_by_id by_id history_text history_hash first_values has_id named prev_of is_convicted is_vouched holds_hash holds is_wanted points spent_by tips_of collides_by limit_of_own limit_of_put past precedes_named next_entries next_own leaf_count plain_root plain_signature plain_verifies birth own_put tagged record_text foreign_leaves full_with key_of is_signed given_as answer_to_text growth_of_text update_fields voucher_fields update_body voucher_body statement signed proof roster id_of_update id_of_statement hash_of_roster put_rising rising groups_behind groups_of new_vouchers limit_of_new limit_of_vouchers named_by text_of_check text_of_limit text_of_report served restart_by insert_by order_by latest_in sha256 first_words schedule rounds compress hash_after digest_bytes encode_with decode_pairs digits seen_under write marked is_update_text is_hollow
 told = record { lines = refl }
 
 -- several changes at once, a deletion among them
@@ -126,7 +128,7 @@ record Several : Type 0 where
   pub lines : several.text ≡ codes "puts -> 0/1\nget 6b -> 1/0/1=61\nget 6c -> 1/0/1=62\nputs -> 1/2\nget 6b -> 1/1/2!\nget 6c -> 1/1/2=63\n"
 
 several_at_once : Several
-unfolding answers_of step_of put_command puts_command get_command hello_command bundle_command take_command rest_of numeral number bytes_of inner list_of dep roster_entry signed_with is_covered candidates records_where values_behind candidate_parcels parcels fitting sent_for sent_foreign unvouched bundle_frames bundle_of bundle_answer sight content_checks opponent forked refused_as_convicted statement_checks proof_checks first_failed_check is_known answer_to due named_opponent added growth is_of_kind contradicts kind_of proof_of given_by take_frame fed_frame fed_byte fed ending_of report_of frame_at hello_leaf hello convicted_nodes lacking record_place hello_of leaves_of put_by_id by_id history_text history_hash first_values has_id named prev_of is_convicted is_vouched holds_hash holds is_wanted points spent_by tips_of collides_by limit_of_own limit_of_put past precedes_named next_entries next_own leaf_count plain_root plain_signature plain_verifies birth own_put tagged record_text foreign_leaves full_with key_of is_signed given_as answer_to_text growth_of_text update_fields voucher_fields update_body voucher_body statement signed proof roster id_of_update id_of_statement hash_of_roster put_rising rising groups_behind groups_of new_vouchers limit_of_new limit_of_vouchers named_by text_of_check text_of_limit text_of_report put_by get_by hello_by bundle_by give_by restart_by insert_by order_by latest_in sha256 first_words schedule rounds compress hash_after digest_bytes encode_with decode_pairs digits seen_under write marked is_update_text is_hollow
+unfolding answers_of step_of put_command puts_command get_command hello_command bundle_command take_command rest_of numeral number bytes_of inner list_of dep roster_entry signed_with is_covered candidates records_where values_behind candidate_parcels parcels fitting sent_for sent_foreign unvouched bundle_frames bundle_of bundle_answer sight content_checks opponent forked refused_as_convicted statement_checks proof_checks first_failed_check is_known answer_to due named_opponent added growth is_of_kind contradicts kind_of proof_of given_by take_frame fed_frame fed_byte fed ending_of report_of frame_at hello_leaf hello convicted_nodes lacking record_place hello_of leaves_of put_by_id by_id history_text history_hash first_values has_id named prev_of is_convicted is_vouched holds_hash holds is_wanted points spent_by tips_of collides_by limit_of_own limit_of_put past precedes_named next_entries next_own leaf_count plain_root plain_signature plain_verifies birth own_put tagged record_text foreign_leaves full_with key_of is_signed given_as answer_to_text growth_of_text update_fields voucher_fields update_body voucher_body statement signed proof roster id_of_update id_of_statement hash_of_roster put_rising rising groups_behind groups_of new_vouchers limit_of_new limit_of_vouchers named_by text_of_check text_of_limit text_of_report served restart_by insert_by order_by latest_in sha256 first_words schedule rounds compress hash_after digest_bytes encode_with decode_pairs digits seen_under write marked is_update_text is_hollow
 several_at_once = record { ends = refl; records = refl; lines = refl }
 
 -- receipts, and whether a put is settled
@@ -146,7 +148,7 @@ record Received : Type 0 where
   pub lines : received.text ≡ codes "receipt df4be50b7bd1dc07fc67b2d1e8967be7e022e474f81cb5102039c1a6ecc0666b -> Unknown\nput 6b -> 0/1\nsettled df4be50b7bd1dc07fc67b2d1e8967be7e022e474f81cb5102039c1a6ecc0666b 1 -> no\nreceipt df4be50b7bd1dc07fc67b2d1e8967be7e022e474f81cb5102039c1a6ecc0666b -> 1/2\nsettled df4be50b7bd1dc07fc67b2d1e8967be7e022e474f81cb5102039c1a6ecc0666b 1 -> yes\nsettled df4be50b7bd1dc07fc67b2d1e8967be7e022e474f81cb5102039c1a6ecc0666b 2 -> no\n"
 
 received_all : Received
-unfolding answers_of step_of put_command receipt_command settled_command get_command hello_command bundle_command take_command rest_of numeral number bytes_of inner list_of dep roster_entry signed_with is_covered candidates records_where values_behind candidate_parcels parcels fitting sent_for sent_foreign unvouched bundle_frames bundle_of bundle_answer sight content_checks opponent forked refused_as_convicted statement_checks proof_checks first_failed_check is_known answer_to due named_opponent added growth is_of_kind contradicts kind_of proof_of given_by take_frame fed_frame fed_byte fed ending_of report_of frame_at hello_leaf hello convicted_nodes lacking record_place hello_of leaves_of put_by_id by_id history_text history_hash first_values has_id named prev_of is_convicted is_vouched holds_hash holds is_wanted points spent_by tips_of collides_by limit_of_own limit_of_put past precedes_named next_entries next_own leaf_count plain_root plain_signature plain_verifies birth own_put tagged record_text foreign_leaves full_with key_of is_signed given_as answer_to_text growth_of_text update_fields voucher_fields update_body voucher_body statement signed proof roster id_of_update id_of_statement hash_of_roster put_rising rising groups_behind groups_of new_vouchers limit_of_new limit_of_vouchers named_by text_of_check text_of_limit text_of_report put_by receipt_by settled_by receipt_key put_number numbers_rising no_receipt get_by hello_by bundle_by give_by restart_by insert_by order_by latest_in sha256 first_words schedule rounds compress hash_after digest_bytes encode_with decode_pairs digits seen_under write marked is_update_text is_hollow
+unfolding answers_of step_of put_command receipt_command settled_command get_command hello_command bundle_command take_command rest_of numeral number bytes_of inner list_of dep roster_entry signed_with is_covered candidates records_where values_behind candidate_parcels parcels fitting sent_for sent_foreign unvouched bundle_frames bundle_of bundle_answer sight content_checks opponent forked refused_as_convicted statement_checks proof_checks first_failed_check is_known answer_to due named_opponent added growth is_of_kind contradicts kind_of proof_of given_by take_frame fed_frame fed_byte fed ending_of report_of frame_at hello_leaf hello convicted_nodes lacking record_place hello_of leaves_of put_by_id by_id history_text history_hash first_values has_id named prev_of is_convicted is_vouched holds_hash holds is_wanted points spent_by tips_of collides_by limit_of_own limit_of_put past precedes_named next_entries next_own leaf_count plain_root plain_signature plain_verifies birth own_put tagged record_text foreign_leaves full_with key_of is_signed given_as answer_to_text growth_of_text update_fields voucher_fields update_body voucher_body statement signed proof roster id_of_update id_of_statement hash_of_roster put_rising rising groups_behind groups_of new_vouchers limit_of_new limit_of_vouchers named_by text_of_check text_of_limit text_of_report served receipt_key put_number numbers_rising no_receipt restart_by insert_by order_by latest_in sha256 first_words schedule rounds compress hash_after digest_bytes encode_with decode_pairs digits seen_under write marked is_update_text is_hollow
 received_all = record { ends = refl; records = refl; lines = refl }
 
 -- a trace that is handed in
@@ -174,7 +176,7 @@ record Exported : Type 0 where
   pub later : exported_later.text ≡ codes "export t -> records 2 reads 0\n"
 
 exported_all : Exported
-unfolding answers_of step_of export_by trace_text record_piece read_text answered_text behind_mark put_command get_command export_command hello_command bundle_command take_command rest_of numeral number bytes_of inner list_of dep roster_entry signed_with is_covered candidates records_where values_behind candidate_parcels parcels fitting sent_for sent_foreign unvouched bundle_frames bundle_of bundle_answer sight content_checks opponent forked refused_as_convicted statement_checks proof_checks first_failed_check is_known answer_to due named_opponent added growth is_of_kind contradicts kind_of proof_of given_by take_frame fed_frame fed_byte fed ending_of report_of frame_at hello_leaf hello convicted_nodes lacking record_place hello_of leaves_of put_by_id by_id history_text history_hash first_values has_id named prev_of is_convicted is_vouched holds_hash holds is_wanted points spent_by tips_of collides_by limit_of_own limit_of_put past precedes_named next_entries next_own leaf_count plain_root plain_signature plain_verifies birth own_put tagged record_text foreign_leaves full_with key_of is_signed given_as answer_to_text growth_of_text update_fields voucher_fields update_body voucher_body statement signed proof roster id_of_update id_of_statement hash_of_roster put_rising rising groups_behind groups_of new_vouchers limit_of_new limit_of_vouchers named_by text_of_check text_of_limit text_of_report put_by get_by hello_by bundle_by give_by restart_by insert_by order_by latest_in sha256 first_words schedule rounds compress hash_after digest_bytes encode_with decode_pairs digits seen_under write marked is_update_text is_hollow
+unfolding answers_of step_of trace_text record_piece read_text answered_text behind_mark put_command get_command export_command hello_command bundle_command take_command rest_of numeral number bytes_of inner list_of dep roster_entry signed_with is_covered candidates records_where values_behind candidate_parcels parcels fitting sent_for sent_foreign unvouched bundle_frames bundle_of bundle_answer sight content_checks opponent forked refused_as_convicted statement_checks proof_checks first_failed_check is_known answer_to due named_opponent added growth is_of_kind contradicts kind_of proof_of given_by take_frame fed_frame fed_byte fed ending_of report_of frame_at hello_leaf hello convicted_nodes lacking record_place hello_of leaves_of put_by_id by_id history_text history_hash first_values has_id named prev_of is_convicted is_vouched holds_hash holds is_wanted points spent_by tips_of collides_by limit_of_own limit_of_put past precedes_named next_entries next_own leaf_count plain_root plain_signature plain_verifies birth own_put tagged record_text foreign_leaves full_with key_of is_signed given_as answer_to_text growth_of_text update_fields voucher_fields update_body voucher_body statement signed proof roster id_of_update id_of_statement hash_of_roster put_rising rising groups_behind groups_of new_vouchers limit_of_new limit_of_vouchers named_by text_of_check text_of_limit text_of_report served restart_by insert_by order_by latest_in sha256 first_words schedule rounds compress hash_after digest_bytes encode_with decode_pairs digits seen_under write marked is_update_text is_hollow
 exported_all = record { ends = refl; lines = refl; file = refl; later = refl }
 
 -- ---- how a script ends
@@ -211,11 +213,11 @@ record Endings : Type 0 where
   pub nothing_stored : (answers (command.Bundle (codes "bad") (codes "b") ∷ [])).session.files (codes "b") ≡ None
 
 endings : Endings
-unfolding answers_of step_of put_command get_command hello_command bundle_command take_command rest_of numeral number bytes_of inner list_of dep roster_entry signed_with is_covered candidates records_where values_behind candidate_parcels parcels fitting sent_for sent_foreign unvouched bundle_frames bundle_of bundle_answer sight content_checks opponent forked refused_as_convicted statement_checks proof_checks first_failed_check is_known answer_to due named_opponent added growth is_of_kind contradicts kind_of proof_of given_by take_frame fed_frame fed_byte fed ending_of report_of frame_at hello_leaf hello convicted_nodes lacking record_place hello_of leaves_of put_by_id by_id history_text history_hash first_values has_id named prev_of is_convicted is_vouched holds_hash holds is_wanted points spent_by tips_of collides_by limit_of_own limit_of_put past precedes_named next_entries next_own leaf_count plain_root plain_signature plain_verifies birth own_put tagged record_text foreign_leaves full_with key_of is_signed given_as answer_to_text growth_of_text update_fields voucher_fields update_body voucher_body statement signed proof roster id_of_update id_of_statement hash_of_roster put_rising rising groups_behind groups_of new_vouchers limit_of_new limit_of_vouchers named_by text_of_check text_of_limit text_of_report put_by get_by hello_by bundle_by give_by restart_by insert_by order_by latest_in sha256 first_words schedule rounds compress hash_after digest_bytes encode_with decode_pairs digits seen_under write marked is_update_text is_hollow
+unfolding answers_of step_of put_command get_command hello_command bundle_command take_command rest_of numeral number bytes_of inner list_of dep roster_entry signed_with is_covered candidates records_where values_behind candidate_parcels parcels fitting sent_for sent_foreign unvouched bundle_frames bundle_of bundle_answer sight content_checks opponent forked refused_as_convicted statement_checks proof_checks first_failed_check is_known answer_to due named_opponent added growth is_of_kind contradicts kind_of proof_of given_by take_frame fed_frame fed_byte fed ending_of report_of frame_at hello_leaf hello convicted_nodes lacking record_place hello_of leaves_of put_by_id by_id history_text history_hash first_values has_id named prev_of is_convicted is_vouched holds_hash holds is_wanted points spent_by tips_of collides_by limit_of_own limit_of_put past precedes_named next_entries next_own leaf_count plain_root plain_signature plain_verifies birth own_put tagged record_text foreign_leaves full_with key_of is_signed given_as answer_to_text growth_of_text update_fields voucher_fields update_body voucher_body statement signed proof roster id_of_update id_of_statement hash_of_roster put_rising rising groups_behind groups_of new_vouchers limit_of_new limit_of_vouchers named_by text_of_check text_of_limit text_of_report served restart_by insert_by order_by latest_in sha256 first_words schedule rounds compress hash_after digest_bytes encode_with decode_pairs digits seen_under write marked is_update_text is_hollow
 endings = record { nothing = refl; absent_hello = refl; absent_hello_line = refl; absent_stream = refl; absent_stream_line = refl; no_hello = refl; no_hello_line = refl; other_roster = refl; other_roster_line = refl; no_stream = refl; limit = refl; limit_line = refl; no_read = refl; nothing_stored = refl }
 
 -- a stream for which there is no room ends it by a limit
-full_take : (what : Full) → ending_of_take (Some (out_of_room what)) ≡ Some ending.Limit
+full_take : (what : Full) → ending_of_closing (closing_told (Some (out_of_room what))) ≡ Some ending.Limit
 full_take what = refl
 
 -- ---- runs that are cut short
@@ -285,7 +287,7 @@ record PutGoes : Type 0 where
   pub nothing : (answers_of (node 2) no_signature second []).text ≡ []
 
 put_goes : PutGoes
-unfolding answers_of step_of put_command get_command hello_command bundle_command take_command rest_of numeral number bytes_of inner list_of dep roster_entry signed_with is_covered candidates records_where values_behind candidate_parcels parcels fitting sent_for sent_foreign unvouched bundle_frames bundle_of bundle_answer sight content_checks opponent forked refused_as_convicted statement_checks proof_checks first_failed_check is_known answer_to due named_opponent added growth is_of_kind contradicts kind_of proof_of given_by take_frame fed_frame fed_byte fed ending_of report_of frame_at hello_leaf hello convicted_nodes lacking record_place hello_of leaves_of put_by_id by_id history_text history_hash first_values has_id named prev_of is_convicted is_vouched holds_hash holds is_wanted points spent_by tips_of collides_by limit_of_own limit_of_put past precedes_named next_entries next_own leaf_count plain_root plain_signature plain_verifies birth own_put tagged record_text foreign_leaves full_with key_of is_signed given_as answer_to_text growth_of_text update_fields voucher_fields update_body voucher_body statement signed proof roster id_of_update id_of_statement hash_of_roster put_rising rising groups_behind groups_of new_vouchers limit_of_new limit_of_vouchers named_by text_of_check text_of_limit text_of_report put_by get_by hello_by bundle_by give_by restart_by insert_by order_by latest_in sha256 first_words schedule rounds compress hash_after digest_bytes encode_with decode_pairs digits seen_under write marked is_update_text is_hollow all_verify
+unfolding answers_of step_of put_command get_command hello_command bundle_command take_command rest_of numeral number bytes_of inner list_of dep roster_entry signed_with is_covered candidates records_where values_behind candidate_parcels parcels fitting sent_for sent_foreign unvouched bundle_frames bundle_of bundle_answer sight content_checks opponent forked refused_as_convicted statement_checks proof_checks first_failed_check is_known answer_to due named_opponent added growth is_of_kind contradicts kind_of proof_of given_by take_frame fed_frame fed_byte fed ending_of report_of frame_at hello_leaf hello convicted_nodes lacking record_place hello_of leaves_of put_by_id by_id history_text history_hash first_values has_id named prev_of is_convicted is_vouched holds_hash holds is_wanted points spent_by tips_of collides_by limit_of_own limit_of_put past precedes_named next_entries next_own leaf_count plain_root plain_signature plain_verifies birth own_put tagged record_text foreign_leaves full_with key_of is_signed given_as answer_to_text growth_of_text update_fields voucher_fields update_body voucher_body statement signed proof roster id_of_update id_of_statement hash_of_roster put_rising rising groups_behind groups_of new_vouchers limit_of_new limit_of_vouchers named_by text_of_check text_of_limit text_of_report served restart_by insert_by order_by latest_in sha256 first_words schedule rounds compress hash_after digest_bytes encode_with decode_pairs digits seen_under write marked is_update_text is_hollow all_verify
 put_goes = record { brings = refl; steps = refl; text = refl; files = refl; before = refl; done = refl; nothing = refl }
 
 is_correct : IsCorrect (world_at (node 2)) second.correct
@@ -381,7 +383,7 @@ not_told (inr (inr (failed, is))) = omega (arith, failed)
 
 -- nothing stands in the way of a put that meets no limit, and of a read
 unhindered : AreUnhindered (node 2) no_signature second (one_put ∷ command.Get k ∷ [])
-unfolding answers_of step_of put_command get_command hello_command bundle_command take_command rest_of numeral number bytes_of inner list_of dep roster_entry signed_with is_covered candidates records_where values_behind candidate_parcels parcels fitting sent_for sent_foreign unvouched bundle_frames bundle_of bundle_answer sight content_checks opponent forked refused_as_convicted statement_checks proof_checks first_failed_check is_known answer_to due named_opponent added growth is_of_kind contradicts kind_of proof_of given_by take_frame fed_frame fed_byte fed ending_of report_of frame_at hello_leaf hello convicted_nodes lacking record_place hello_of leaves_of put_by_id by_id history_text history_hash first_values has_id named prev_of is_convicted is_vouched holds_hash holds is_wanted points spent_by tips_of collides_by limit_of_own limit_of_put past precedes_named next_entries next_own leaf_count plain_root plain_signature plain_verifies birth own_put tagged record_text foreign_leaves full_with key_of is_signed given_as answer_to_text growth_of_text update_fields voucher_fields update_body voucher_body statement signed proof roster id_of_update id_of_statement hash_of_roster put_rising rising groups_behind groups_of new_vouchers limit_of_new limit_of_vouchers named_by text_of_check text_of_limit text_of_report put_by get_by hello_by bundle_by give_by restart_by insert_by order_by latest_in sha256 first_words schedule rounds compress hash_after digest_bytes encode_with decode_pairs digits seen_under write marked is_update_text is_hollow all_verify
+unfolding answers_of step_of put_command get_command hello_command bundle_command take_command rest_of numeral number bytes_of inner list_of dep roster_entry signed_with is_covered candidates records_where values_behind candidate_parcels parcels fitting sent_for sent_foreign unvouched bundle_frames bundle_of bundle_answer sight content_checks opponent forked refused_as_convicted statement_checks proof_checks first_failed_check is_known answer_to due named_opponent added growth is_of_kind contradicts kind_of proof_of given_by take_frame fed_frame fed_byte fed ending_of report_of frame_at hello_leaf hello convicted_nodes lacking record_place hello_of leaves_of put_by_id by_id history_text history_hash first_values has_id named prev_of is_convicted is_vouched holds_hash holds is_wanted points spent_by tips_of collides_by limit_of_own limit_of_put past precedes_named next_entries next_own leaf_count plain_root plain_signature plain_verifies birth own_put tagged record_text foreign_leaves full_with key_of is_signed given_as answer_to_text growth_of_text update_fields voucher_fields update_body voucher_body statement signed proof roster id_of_update id_of_statement hash_of_roster put_rising rising groups_behind groups_of new_vouchers limit_of_new limit_of_vouchers named_by text_of_check text_of_limit text_of_report served restart_by insert_by order_by latest_in sha256 first_words schedule rounds compress hash_after digest_bytes encode_with decode_pairs digits seen_under write marked is_update_text is_hollow all_verify
 unhindered = (refl, (tt, tt))
 
 -- a stream that isn't there stands in the way of taking it, and a limit in that of a put
@@ -389,5 +391,5 @@ not_without_stream : AreUnhindered (node 2) no_signature second (command.Take (c
 not_without_stream are = let none : ◌≡◌ {A = Option (List ℕ)} None (Some are.0.bytes) = are.0.there in cc
 
 not_at_a_limit : AreUnhindered low (sign 1) (session_from low used [] files) (one_put ∷ []) → ⊥
-unfolding answers_of step_of put_command get_command hello_command bundle_command take_command rest_of numeral number bytes_of inner list_of dep roster_entry signed_with is_covered candidates records_where values_behind candidate_parcels parcels fitting sent_for sent_foreign unvouched bundle_frames bundle_of bundle_answer sight content_checks opponent forked refused_as_convicted statement_checks proof_checks first_failed_check is_known answer_to due named_opponent added growth is_of_kind contradicts kind_of proof_of given_by take_frame fed_frame fed_byte fed ending_of report_of frame_at hello_leaf hello convicted_nodes lacking record_place hello_of leaves_of put_by_id by_id history_text history_hash first_values has_id named prev_of is_convicted is_vouched holds_hash holds is_wanted points spent_by tips_of collides_by limit_of_own limit_of_put past precedes_named next_entries next_own leaf_count plain_root plain_signature plain_verifies birth own_put tagged record_text foreign_leaves full_with key_of is_signed given_as answer_to_text growth_of_text update_fields voucher_fields update_body voucher_body statement signed proof roster id_of_update id_of_statement hash_of_roster put_rising rising groups_behind groups_of new_vouchers limit_of_new limit_of_vouchers named_by text_of_check text_of_limit text_of_report put_by get_by hello_by bundle_by give_by restart_by insert_by order_by latest_in sha256 first_words schedule rounds compress hash_after digest_bytes encode_with decode_pairs digits seen_under write marked is_update_text is_hollow all_verify
+unfolding answers_of step_of put_command get_command hello_command bundle_command take_command rest_of numeral number bytes_of inner list_of dep roster_entry signed_with is_covered candidates records_where values_behind candidate_parcels parcels fitting sent_for sent_foreign unvouched bundle_frames bundle_of bundle_answer sight content_checks opponent forked refused_as_convicted statement_checks proof_checks first_failed_check is_known answer_to due named_opponent added growth is_of_kind contradicts kind_of proof_of given_by take_frame fed_frame fed_byte fed ending_of report_of frame_at hello_leaf hello convicted_nodes lacking record_place hello_of leaves_of put_by_id by_id history_text history_hash first_values has_id named prev_of is_convicted is_vouched holds_hash holds is_wanted points spent_by tips_of collides_by limit_of_own limit_of_put past precedes_named next_entries next_own leaf_count plain_root plain_signature plain_verifies birth own_put tagged record_text foreign_leaves full_with key_of is_signed given_as answer_to_text growth_of_text update_fields voucher_fields update_body voucher_body statement signed proof roster id_of_update id_of_statement hash_of_roster put_rising rising groups_behind groups_of new_vouchers limit_of_new limit_of_vouchers named_by text_of_check text_of_limit text_of_report served restart_by insert_by order_by latest_in sha256 first_words schedule rounds compress hash_after digest_bytes encode_with decode_pairs digits seen_under write marked is_update_text is_hollow all_verify
 not_at_a_limit are = let none : ◌≡◌ {A = Option Limit} (Some (spent 4)) None = are.0 in cc

@@ -5,10 +5,13 @@ use Rattle.depot_model.specs.Checks.{Setting}
 use Rattle.depot_model.specs.Readers.{Reader}
 use Rattle.depot_outside.specs.Told.{Shelves}
 use Rattle.depot_script.specs.declared.command.Command.{Command}
+use Rattle.depot_requests.specs.Requests.{served}
+use Rattle.depot_requests.specs.declared.request.Request.TheVariants as request
 use Rattle.depot_script.specs.declared.command.Command.TheVariants as command
 use Rattle.depot_session.specs.ScriptTelling.{Asked}
 use Rattle.depot_session.specs.SessionRuns.{AsksFirst, AsksShort, AsksWhole, FailsFor, IsHandedOut}
-use Rattle.depot_session.specs.Sessions.{Session, Step, answers_of, loads_through, step_of, stores_through, take_from}
+use Rattle.depot_session.specs.Sessions.{Session, Step, answers_of, asks_for, loads_through, step_by, step_of, stores_through, with_file}
+use Rattle.depot_session.specs.declared.requesting.TheConstants.{TAKEN_PIECE}
 
 abbrev hello : List ℕ
 hello = codes "hello"
@@ -101,9 +104,9 @@ module _ (here : Setting) (sign : Signs) (s : Session) where
 
   -- cut short in the second it loaded both
   both_loaded : AsksShort here sign s (command.Take hello ∷ []) (command.Take made ∷ []) [] (asked_for (hello ∷ made ∷ []) [])
-  unfolding loads_through stores_through step_of
+  unfolding loads_through stores_through step_of served
   both_loaded = record { loads = inr refl; stores = inl (sym (nothing_taken (s.files hello))) } where
-    nothing_taken : (o : Option (List ℕ)) → (take_from here s hello o).stores ++ [] ≡ []
+    nothing_taken : (o : Option (List ℕ)) → (step_by here sign s (command.Take hello) (with_file (λ bytes. asks_for (request.Take bytes TAKEN_PIECE)) hello o)).stores ++ [] ≡ []
     nothing_taken None = refl
     nothing_taken (Some stream) = refl
 
@@ -114,18 +117,18 @@ module _ (here : Setting) (sign : Signs) (s : Session) where
 
   -- a hello is stored once, and by a run that goes on as often as there are commands for it
   once : AsksShort here sign s [] (command.Hello made ∷ []) [] (asked_for [] (made ∷ []))
-  unfolding loads_through stores_through step_of
+  unfolding loads_through stores_through step_of served
   once = record { loads = inl refl; stores = inr refl }
 
   not_twice : AsksShort here sign s [] (command.Hello made ∷ []) [] (asked_for [] (made ∷ made ∷ [])) → ⊥
-  unfolding stores_through step_of
+  unfolding stores_through step_of served
   not_twice a = elim a.stores [
     | inl none ↦ (let is : made ∷ made ∷ [] ≡ [] = none in cc)
     | inr one ↦ (let is : made ∷ made ∷ [] ≡ made ∷ [] = one in cc)
   ]
 
   as_often : AsksWhole here sign s (command.Hello made ∷ command.Hello made ∷ []) [] (asked_for [] (made ∷ made ∷ []))
-  unfolding answers_of step_of loads_through stores_through
+  unfolding answers_of step_of served loads_through stores_through
   as_often = record { done = command.Hello made ∷ command.Hello made ∷ []; rest = []; parts = refl; went_on = refl; over = inl refl; loads = refl; stores = refl }
 
   -- what is to be given to a reader is loaded where one was made

@@ -1,5 +1,5 @@
 -- A run goes on as one with fewer labels does, where no event to come names those that are gone.
-use Rattle.std.proofs.Common.{◌≡◌, ℕ, Bool, true, false, not, leb, cond, List, [], ◌∷◌, ◌++◌, codes, length, take, drop, Option, Some, None, Result, Ok, Err, option_map, refl, sym, ap, subst, ◌∙◌, inl, inr}
+use Rattle.std.proofs.Common.{◌≡◌, ℕ, Bool, true, false, not, leb, cond, List, [], ◌∷◌, ◌++◌, codes, length, map, take, drop, Option, Some, None, Result, Ok, Err, option_map, refl, sym, ap, subst, ◌∙◌, inl, inr}
 use Rattle.std.specs.Prelude.{option_and_then}
 use Rattle.std.specs.Option.{option_map_or}
 use Rattle.std.specs.Str.{bytes_eq}
@@ -34,13 +34,20 @@ use Rattle.depot_schedule.specs.declared.event.Ref.{Ref}
 use Rattle.depot_schedule.specs.declared.event.Ref.TheVariants as ref
 use Rattle.depot_answers.specs.AnswerTexts.{spaced}
 use Rattle.depot_world.specs.Audits.{IsSound, audited}
-use Rattle.depot_world.specs.Effects.{put_by, get_by, hello_by, bundle_by, give_by, restart_by, settled_by, checkpoint_by, sign_by}
+use Rattle.depot_model.specs.Vouching.{rising}
+use Rattle.depot_requests.specs.Effects.{Effect}
+use Rattle.depot_requests.specs.Requests.{effect_of}
+use Rattle.depot_requests.specs.declared.request.Request.{Request}
+use Rattle.depot_requests.specs.declared.request.Request.TheVariants as request
+use Rattle.depot_schedule.specs.EventLines.{event_node}
+use Rattle.depot_world.specs.EventRequests.{label_by, piece_of, request_in}
+use Rattle.depot_world.specs.ScheduleStops.{restart_by}
 use Rattle.depot_world.specs.FaultySigning.{Text, no_reference, counted_bytes, all_of, all_referred, prev_of_ref, updated, update_text, vouched_text, proof_with, proof_text, hollow_text, proof_in, flip_at}
 use Rattle.depot_world.specs.Forgetting.{labels_of_ref, labels_of_prev, labels_of_refs, labels_in, labels_without, with_labels, NoneNames, NameTheSame, NameTheSameIn, IsAlikeFor, GoesAlike}
 use Rattle.depot_world.specs.Run.{Host, Labelled, Run, made_in, host_in, reader_in, bytes_of_label, signed_of, first_update, referred, plain_referred, id_referred, seen_with, world_by, with_host}
-use Rattle.depot_world.specs.ScheduleStops.{Effect, EventResult, event_result}
+use Rattle.depot_world.specs.ScheduleStops.{EventResult, event_result}
 use Rattle.depot_world.specs.Setups.{Setup, stands_on, signs_on}
-use Rattle.depot_world.specs.Transcript.{Done, pending_at, done_at_node, done_by_node, done_by_text, done_by_update, done, judged_with, lines_of, receipt_for, settled_for, trimmed_with, trim_at, reader_told, tgive_by, audit_by}
+use Rattle.depot_world.specs.Transcript.{Done, pending_at, done_at_node, done_by_node, done_by_text, done_by_update, done, judged_with, lines_of, asked_for, trimmed_with, trim_at, reader_told, tgive_by, audit_by}
 
 -- ---- what a label names
 
@@ -208,17 +215,25 @@ update_alike es sign run few label values o p same is = subst (λ (q : Option Up
   by_update None = text_alike es run few label no_reference no_reference same refl
   by_update (Some u) = text_alike es (record run { seen = seen_with run.seen (u ∷ []) }) few label (update_text sign u values) (update_text sign u values) same refl
 
-receipts_alike : (es : List Event) (setup : Setup) (run : Run) (few : List Labelled) (node : ℕ) (o p : Option (List Update)) → NameTheSameIn es run.labels few → o ≡ p → CameAlike es (receipt_for setup run node o) (receipt_for setup (with_labels run few) node p)
-receipts_alike es setup run few node o p same is = subst (λ (q : Option (List Update)). CameAlike es (receipt_for setup run node o) (receipt_for setup (with_labels run few) node q)) is (by_updates o) where
-  by_updates : (q : Option (List Update)) → CameAlike es (receipt_for setup run node q) (receipt_for setup (with_labels run few) node q)
-  by_updates None = same_run es run few (codes " NoRef") [] same
-  by_updates (Some us) = node_alike es run few node None _ same
+-- what is asked of a node, where both ask for the same
+asked_alike : (es : List Event) (setup : Setup) (run : Run) (few : List Labelled) (node : ℕ) (label : Option (List ℕ)) (o p : Option Request) → NameTheSameIn es run.labels few → o ≡ p → CameAlike es (asked_for setup run node label o) (asked_for setup (with_labels run few) node label p)
+asked_alike es setup run few node label o p same is = subst (λ (q : Option Request). CameAlike es (asked_for setup run node label o) (asked_for setup (with_labels run few) node label q)) is (by_request o) where
+  by_request : (q : Option Request) → CameAlike es (asked_for setup run node label q) (asked_for setup (with_labels run few) node label q)
+  by_request None = same_run es run few (codes " NoRef") [] same
+  by_request (Some r) = node_alike es run few node label (λ s. effect_of (stands_on setup node) (signs_on setup node) s.correct r) same
 
-settled_alike : (es : List Event) (run : Run) (few : List Labelled) (node k : ℕ) (o p : Option Update) → NameTheSameIn es run.labels few → o ≡ p → CameAlike es (settled_for run node k o) (settled_for (with_labels run few) node k p)
-settled_alike es run few node k o p same is = subst (λ (q : Option Update). CameAlike es (settled_for run node k o) (settled_for (with_labels run few) node k q)) is (by_update o) where
-  by_update : (q : Option Update) → CameAlike es (settled_for run node k q) (settled_for (with_labels run few) node k q)
-  by_update None = same_run es run few (codes " NoRef") [] same
-  by_update (Some u) = node_alike es run few node None (λ s. settled_by s.correct (id_of_update u) k) same
+-- an event asks for the same by labels that name the same
+same_request : (run : Run) (few : List Labelled) (e : Event) → NameTheSame (labels_in e) run.labels few → request_in run e ≡ request_in (with_labels run few) e
+same_request run few (event.Bundle node hello label) now = ap (λ (bytes : List ℕ). Some (request.Bundle bytes)) (bytes_same run few hello (now hello (inl refl)))
+same_request run few (event.Give node label size) now = ap (λ (bytes : List ℕ). Some (request.Take bytes (piece_of size))) (bytes_same run few label (now label (inl refl)))
+same_request run few (event.Sign node label) now = ap (λ (bytes : List ℕ). Some (request.Sign bytes)) (bytes_same run few label (now label (inl refl)))
+same_request run few (event.Receipt node refs) now = ap (option_map (λ (us : List Update). request.Receipt (rising (map id_of_update us)))) (all_referred_same run few refs now)
+same_request run few (event.Settled node reference k) now = ap (option_map (λ (u : Update). request.Settled (id_of_update u) k)) (referred_same run few reference now)
+same_request run few e now = refl
+
+asking_alike : (setup : Setup) (es : List Event) (run : Run) (few : List Labelled) (e : Event) → NameTheSame (labels_in e) run.labels few → NameTheSameIn es run.labels few
+    → CameAlike es (asked_for setup run (event_node e) (label_by e) (request_in run e)) (asked_for setup (with_labels run few) (event_node e) (label_by e) (request_in (with_labels run few) e))
+asking_alike setup es run few e now same = asked_alike es setup run few (event_node e) (label_by e) (request_in run e) (request_in (with_labels run few) e) same (same_request run few e now)
 
 judge_alike : (es : List Event) (setup : Setup) (run : Run) (few : List Labelled) (read : Result Proof ℕ) → NameTheSameIn es run.labels few → CameAlike es (judged_with setup run read) (judged_with setup (with_labels run few) read)
 judge_alike es setup run few (Err at) same = same_run es run few _ [] same
@@ -257,14 +272,6 @@ by_bytes es run few label of e each = subst (λ (bytes : List ℕ). CameAlike es
 -- each event
 done_alike : (setup : Setup) (es : List Event) (run : Run) (few : List Labelled) (e : Event) → NameTheSame (labels_in e) run.labels few → NameTheSameIn es run.labels few → CameAlike es (done setup run e) (done setup (with_labels run few) e)
 unfolding done
-done_alike setup es run few (event.Put node key value) now same = node_alike es run few node None (λ s. put_by (stands_on setup node) s.correct (one_change key value)) same
-done_alike setup es run few (event.Puts node changes) now same = node_alike es run few node None (λ s. put_by (stands_on setup node) s.correct changes) same
-done_alike setup es run few (event.Get node key) now same = node_alike es run few node None (λ s. get_by s.correct key) same
-done_alike setup es run few (event.Hello node label) now same = node_alike es run few node (Some label) (λ s. hello_by (stands_on setup node) s.correct) same
-done_alike setup es run few (event.Bundle node hello label) now same =
-    by_bytes es run few hello (λ r bytes. done_at_node r node (Some label) (λ s. bundle_by (stands_on setup node) (signs_on setup node) s.correct bytes)) (now hello (inl refl)) (λ bytes. node_alike es run few node (Some label) (λ s. bundle_by (stands_on setup node) (signs_on setup node) s.correct bytes) same)
-done_alike setup es run few (event.Give node label size) now same =
-    by_bytes es run few label (λ r bytes. done_at_node r node None (λ s. give_by (stands_on setup node) s.correct bytes)) (now label (inl refl)) (λ bytes. node_alike es run few node None (λ s. give_by (stands_on setup node) s.correct bytes) same)
 done_alike setup es run few (event.Restart node) now same = node_alike es run few node None (λ s. restart_by s.correct) same
 done_alike setup es run few (event.Update label writer seq clock prev key value deps history) now same =
     let of_prev = λ (l : List ℕ) (on : IsIn l (labels_of_prev prev)). now l (inr (in_left l (labels_of_prev prev) (labels_of_refs deps) on)) in
@@ -286,15 +293,11 @@ done_alike setup es run few (event.Join label first second) now same =
     (ap (λ (bytes : List ℕ). counted_bytes (bytes ++ bytes_of_label run second)) (bytes_same run few first (now first (inr (inl refl))))
     ∙ ap (λ (bytes : List ℕ). counted_bytes (bytes_of_label (with_labels run few) first ++ bytes)) (bytes_same run few second (now second (inr (inr (inl refl))))))
 done_alike setup es run few (event.Stop node call image) now same = pending_alike es run few node call image same
-done_alike setup es run few (event.Receipt node refs) now same = receipts_alike es setup run few node _ _ same (all_referred_same run few refs now)
-done_alike setup es run few (event.Settled node reference k) now same = settled_alike es run few node k _ _ same (referred_same run few reference now)
 done_alike setup es run few event.Audit now same = audit_alike es setup run few same
-done_alike setup es run few (event.Checkpoint node label) now same = node_alike es run few node (Some label) (λ s. checkpoint_by (stands_on setup node) s.correct) same
-done_alike setup es run few (event.Sign node label) now same =
-    by_bytes es run few label (λ r bytes. done_at_node r node None (λ s. sign_by (stands_on setup node) s.correct bytes)) (now label (inl refl)) (λ bytes. node_alike es run few node None (λ s. sign_by (stands_on setup node) s.correct bytes) same)
 done_alike setup es run few (event.Trim node label name) now same = by_bytes es run few label (λ r bytes. trim_at setup r node bytes name) (now label (inl refl)) (λ bytes. trim_alike es setup run few node bytes name same)
 done_alike setup es run few (event.Tgive name label) now same = by_bytes es run few label (λ r bytes. tgive_by r name bytes) (now label (inl refl)) (λ bytes. tgive_alike es run few name bytes same)
 done_alike setup es run few (event.Tget name key) now same = same_run es run few _ [] same
+done_alike setup es run few e now same = asking_alike setup es run few e now same
 
 -- ---- the law
 

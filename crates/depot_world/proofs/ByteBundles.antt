@@ -1,10 +1,7 @@
 -- The bytes of a bundle are bytes, and its vouchers keep a lawful journal lawful.
-use Rattle.std.proofs.Common.{◌≡◌, ℕ, Bool, true, false, not, ◌&&◌, cond, eqb, List, [], ◌∷◌, ◌++◌, length, map, Option, Some, None, refl, sym, subst, inl, inr, arith}
+use Rattle.std.proofs.Common.{◌≡◌, ℕ, Bool, true, false, not, cond, eqb, List, [], ◌∷◌, ◌++◌, length, map, Option, Some, None, refl, sym, subst, inl, inr, arith}
 use Rattle.std.specs.List.{AllByRecursion, flat_map}
 use Rattle.std.specs.Prelude.{filter, nat_lt}
-use Rattle.std.specs.Str.{bytes_eq}
-use Rattle.std.proofs.lemmas.Bool.{and_from}
-use Rattle.std.proofs.lemmas.Slice.Eq.{bytes_eq-Decides}
 use Rattle.sha2.specs.Sha256.{sha256}
 use Rattle.depot_base.specs.declared.update.Update.{Update}
 use Rattle.depot_base.specs.declared.voucher.Voucher.{Voucher}
@@ -17,17 +14,16 @@ use Rattle.depot_model.specs.declared.hello.Hello.{Hello}
 use Rattle.depot_model.specs.Bundle.{Signs, signed_with, signed_by, candidates, has_candidate, Parcel, candidate_parcel, candidate_parcels, wanted_parcel, hashes_of, parcels, statement_frame, value_frame, frames_of, sent_for, sent_foreign, unvouched, bytes_of_bundle, proofs_for, vouchers_for, proof_frame, end_frame, bundle_frames, with_vouchers, bundle_of, voucher_frame}
 use Rattle.depot_model.specs.Contents.{values_named}
 use Rattle.depot_model.specs.Frames.{Frame, text_of_frame}
-use Rattle.depot_model.specs.Journal.{accepted, accepted_by, proofs, proof_by, value_by, value_with, held, is_foreign}
+use Rattle.depot_model.specs.Journal.{accepted_by, proofs, proof_by, value_by, value_with, held}
 use Rattle.depot_model.specs.Lists.{IsIn, is_among}
 use Rattle.depot_model.specs.Texts.{id_of_update, text_of_proof, text_of_statement, text_of_signed}
 use Rattle.depot_model.specs.Vouching.{own_vouchers, own_voucher_by, is_mine_vouched, new_vouchers, records_of}
-use Rattle.depot_model.proofs.Members.{all_at, in_left, in_parts, from_map, from_filter, any_from}
+use Rattle.depot_model.proofs.Members.{all_at, in_left, in_parts, from_map, from_filter}
 use Rattle.depot_laws.specs.Rejoin.{updates_of}
 use Rattle.depot_laws.proofs.Candidates.{behind_is}
 use Rattle.depot_laws.proofs.HeldValues.{held_is_brought, value_with_is, held_as_is}
-use Rattle.depot_laws.proofs.Parcels.{candidates_for, sent_in_front, told_of_parcels}
-use Rattle.depot_laws.proofs.Splits.{given_by, flat_left, flat_gives}
-use Rattle.depot_laws.proofs.Worlds.{giver_in}
+use Rattle.depot_laws.proofs.Parcels.{candidates_for, sent_in_front}
+use Rattle.depot_laws.proofs.Splits.{given_by}
 use Rattle.depot_base.proofs.GeneralLaws.{all_both}
 use Rattle.depot_world.proofs.OnlyBytes.{OnlyBytes, only_flat}
 use Rattle.depot_world.proofs.ByteTexts.{only_id, update_statement, only_frame}
@@ -151,26 +147,6 @@ frames_hold me sign K h xs more signs hold each =
     (all_both IsByteFrame (flat_map frames_of xs) (end_frame more ∷ []) (all_parcel_frames xs each) (end_holds more, tt)))
 
 -- ---- vouchers
-
-foreign_is_accepted : (me : ℕ) (sign : Signs) (J : List Record) (h : Hello) (u : Update) → IsIn u (updates_of (sent_for sign J h)) → IsIn u (accepted J)
-unfolding candidates
-foreign_is_accepted me sign J h u on =
-    let f = sent_in_front sign J h in
-    let told : IsIn u (updates_of (parcels sign J h)) = subst (λ (xs : List Parcel). IsIn u (updates_of xs)) (sym f.is) (flat_left (λ (x : Parcel). flat_map (λ (s : Signed). _) x.told) u (sent_for sign J h) f.left on) in
-    let by_candidate : IsIn u (accepted (candidates_for J h)) = subst (λ (us : List Update). IsIn u us) (told_of_parcels sign J h) told in
-    let g = given_by accepted_by u (candidates_for J h) by_candidate in
-    flat_gives accepted_by u g.by J (from_filter (has_candidate J (map (λ l. l.id) h.leaves) h.node) g.by J (giver_in accepted_by u (candidates_for J h) g)).0 g.given
-
--- each id that a bundle vouches for is that of an accepted update of another
-pub unvouched_are_foreign : (me : ℕ) (sign : Signs) (J : List Record) (hello : Hello) (h : List ℕ) → IsIn h (unvouched me J (sent_for sign J hello)) → is_foreign me (accepted J) h ≡ true
-unfolding unvouched sent_foreign
-unvouched_are_foreign me sign J hello h on =
-    let xs = sent_for sign J hello in
-    let sent = (from_filter (λ (i : List ℕ). not (is_mine_vouched J i)) h (sent_foreign me xs) on).0 in
-    let u = from_map id_of_update h (filter (λ (t : Update). not (eqb t.writer me)) (updates_of xs)) sent in
-    let f = from_filter (λ (t : Update). not (eqb t.writer me)) u.0 (updates_of xs) u.1.0 in
-    any_from (λ (t : Update). bytes_eq (id_of_update t) h && not (eqb t.writer me)) u.0 (accepted J) (foreign_is_accepted me sign J hello u.0 f.0)
-    (and_from (bytes_eq (id_of_update u.0) h) (not (eqb u.0.writer me)) ((bytes_eq-Decides (id_of_update u.0) h).1 u.1.1) f.1)
 
 unvouched_only : (me : ℕ) (J : List Record) (xs : List Parcel) (h : List ℕ) → IsIn h (unvouched me J xs) → OnlyBytes h
 unfolding unvouched sent_foreign

@@ -2,6 +2,7 @@
 use Rattle.std.proofs.Common.{ℕ, ◌<◌, ◌≤◌, List, [], ◌∷◌, length, Option, Some, None, arith}
 use Rattle.std.specs.List.{AllByRecursion}
 use Rattle.std.specs.Option.{option_to_list}
+use Rattle.std.specs.Prelude.{IfSome}
 use Rattle.std.proofs.lemmas.Bool.{leb-true}
 use Rattle.depot_base.specs.Writes.{one_change}
 use Rattle.depot_base.specs.declared.write.Change.{Change}
@@ -14,7 +15,7 @@ use Rattle.depot_schedule.specs.declared.event.HistoryWord.{HistoryWord}
 use Rattle.depot_schedule.specs.declared.event.HistoryWord.TheVariants as history_word
 use Rattle.depot_schedule.specs.declared.event.Ref.{Ref}
 use Rattle.depot_schedule.specs.declared.schedule.Schedule.{Schedule}
-use Rattle.depot_schedule.specs.EventLines.{put_line, puts_line, update_line, updates_line, raw_line, receipt_line}
+use Rattle.depot_schedule.specs.EventLines.{put_line, puts_line, give_line, update_line, updates_line, raw_line, receipt_line}
 use Rattle.depot_lines.specs.Language.{FitAll, FitsOption, nothing}
 use Rattle.depot_schedule.specs.Schedules.{FitsEvent}
 use Rattle.depot_lines.specs.Vocabulary.{key_by, value, raw_bytes, changes, FitsChange}
@@ -34,10 +35,11 @@ abbrev pub IsByteHistory : HistoryWord → Type 0
 IsByteHistory history_word.Right = Unit {0}
 IsByteHistory (history_word.Given h) = OnlyBytes h
 
--- what an event brings is bytes; what a put brings is of no receipt's key, and receipts are for 1 to 16 references
+-- what an event brings is bytes; what a put brings is of no receipt's key, a piece is no empty one, and receipts are for 1 to 16 references
 abbrev pub BringsBytes : Event → Type 0
 BringsBytes (event.Put node k v) = AreByteChanges (one_change k v) × WriteNoReceipts (one_change k v)
 BringsBytes (event.Puts node cs) = AreByteChanges cs × WriteNoReceipts cs
+BringsBytes (event.Give node label size) = IfSome size (λ n. 1 ≤ n)
 BringsBytes (event.Receipt node refs) = (1 ≤ length refs) × (length refs ≤ 16)
 BringsBytes (event.Update label writer seq clock prev k v deps hash) = AreByteChanges (one_change k v) × IsByteHistory hash
 BringsBytes (event.Updates label writer seq clock prev cs deps hash) = AreByteChanges cs × IsByteHistory hash
@@ -95,6 +97,11 @@ raw_brings : (s : Schedule) (label bytes : List ℕ) → raw_line.fits s (event.
 unfolding raw_line
 raw_brings s label bytes fits = raw_is s bytes fits.1.0
 
+give_brings : (s : Schedule) (node : ℕ) (label : List ℕ) (size : Option ℕ) → give_line.fits s (event.Give node label size) → IfSome size (λ n. 1 ≤ n)
+unfolding give_line
+give_brings s node label None fits = tt
+give_brings s node label (Some n) fits = fits.1.1.0.0
+
 receipt_brings : (s : Schedule) (node : ℕ) (refs : List Ref) → receipt_line.fits s (event.Receipt node refs) → (1 ≤ length refs) × (length refs ≤ 16)
 unfolding receipt_line
 receipt_brings s node refs fits = let some : 0 < length refs = fits.1.0.0.0 in (omega (arith, some), leb-true _ _ fits.1.0.1)
@@ -109,7 +116,7 @@ events_bring_bytes s (event.Raw label bytes) fits = raw_brings s label bytes fit
 events_bring_bytes s (event.Get node k) fits = tt
 events_bring_bytes s (event.Hello node label) fits = tt
 events_bring_bytes s (event.Bundle node hello label) fits = tt
-events_bring_bytes s (event.Give node label size) fits = tt
+events_bring_bytes s (event.Give node label size) fits = give_brings s node label size fits
 events_bring_bytes s (event.Restart node) fits = tt
 events_bring_bytes s (event.Voucher label writer seq refs) fits = tt
 events_bring_bytes s (event.Proof label kind first second) fits = tt

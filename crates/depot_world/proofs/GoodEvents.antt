@@ -1,6 +1,7 @@
 -- Each event of a schedule keeps a run that makes a world.
-use Rattle.std.proofs.Common.{◌≡◌, ℕ, List, [], ◌∷◌, ◌++◌, take, drop, Option, Some, None, Result, Ok, Err, codes, ◌≤◌, length, refl, subst, inl, inr, arith}
+use Rattle.std.proofs.Common.{◌≡◌, ℕ, List, [], ◌∷◌, ◌++◌, take, drop, Option, Some, None, Result, Ok, Err, codes, refl, subst, inl, inr}
 use Rattle.std.specs.List.{AllByRecursion}
+use Rattle.std.specs.Prelude.{IfSome}
 use Rattle.depot_base.specs.Writes.{one_change}
 use Rattle.depot_base.specs.declared.proof.Proof.{Proof}
 use Rattle.depot_base.specs.declared.update.Update.{Update}
@@ -12,29 +13,32 @@ use Rattle.depot_model.specs.Lines.{text_of_point, text_of_verdict}
 use Rattle.depot_model.specs.Own.{values_of}
 use Rattle.depot_model.specs.ReaderFeeds.{reader_feed_of}
 use Rattle.depot_model.specs.Readers.{Reader, trim_of}
-use Rattle.depot_model.specs.Texts.{IsProof, proof, id_of_update}
+use Rattle.depot_model.specs.Texts.{IsProof, proof}
 use Rattle.depot_model.specs.declared.judgement.JudgeError.{JudgeError}
 use Rattle.depot_model.proofs.Members.{in_pushed}
 use Rattle.depot_model.proofs.TextLaws.{proof_lawful}
+use Rattle.depot_schedule.specs.EventLines.{event_node}
 use Rattle.depot_schedule.specs.declared.event.Event.{Event}
 use Rattle.depot_schedule.specs.declared.event.Event.TheVariants as event
 use Rattle.depot_schedule.specs.declared.event.HistoryWord.{HistoryWord}
 use Rattle.depot_schedule.specs.declared.event.Ref.{Ref}
 use Rattle.depot_answers.specs.AnswerTexts.{spaced}
-use Rattle.depot_world.specs.Effects.{put_by, get_by, hello_by, bundle_by, give_by, restart_by, receipt_by, settled_by, checkpoint_by, sign_by}
-use Rattle.depot_world.specs.Run.{Host, Run, host_in, bytes_of_label, reader_in, put_reader, referred, seen_with, with_host}
-use Rattle.depot_world.specs.FaultySigning.{counted_bytes, no_reference, update_text, updated, vouched_text, proof_text, hollow_text, proof_in, flip_at, all_referred}
-use Rattle.depot_world.specs.ScheduleStops.{Effect}
+use Rattle.depot_requests.specs.Requests.{effect_of}
+use Rattle.depot_requests.specs.declared.request.Request.{Request}
+use Rattle.depot_world.specs.EventRequests.{label_by, request_in}
+use Rattle.depot_world.specs.ScheduleStops.{restart_by}
+use Rattle.depot_world.specs.Run.{Host, Run, host_in, bytes_of_label, reader_in, put_reader, seen_with, with_host}
+use Rattle.depot_world.specs.FaultySigning.{counted_bytes, no_reference, update_text, updated, vouched_text, proof_text, hollow_text, proof_in, flip_at}
 use Rattle.depot_world.specs.Setups.{Setup, stands_on, signs_on}
-use Rattle.depot_world.specs.Transcript.{Done, pending_at, done_by_update, done_by_changes, judged_with, receipt_for, settled_for, reader_made, trimmed_with, trim_at, reader_told, tgive_by, done}
+use Rattle.depot_world.specs.Transcript.{Done, pending_at, done_by_update, done_by_changes, judged_with, asked_for, reader_made, trimmed_with, trim_at, reader_told, tgive_by, done}
 use Rattle.depot_world.proofs.OnlyBytes.{OnlyBytes, by_places, only_both, only_take, only_drop}
 use Rattle.depot_world.proofs.ByteLabels.{IsByteUpdate, bytes_hold, updated_holds, none_holds, counted_holds, update_text_holds, vouched_text_holds, proof_text_holds, hollow_text_holds, flip_holds}
 use Rattle.depot_world.proofs.ByteOwn.{only_change_values}
 use Rattle.depot_world.proofs.ByteSignatures.{SignsBytes}
 use Rattle.depot_world.proofs.EventFacts.{AreByteChanges, IsByteHistory, BringsBytes}
-use Rattle.depot_world.proofs.GoodEffects.{put_is_good, get_is_good, hello_is_good, bundle_is_good, give_is_good, restart_is_good, receipts_are_good, settled_is_good, checkpoint_is_good, sign_is_good}
-use Rattle.depot_world.proofs.ReceiptChanges.{ids_of, referred_as_many}
-use Rattle.depot_world.proofs.TrueReceipts.{put_stays_true}
+use Rattle.depot_world.proofs.EventAsks.{events_ask_well}
+use Rattle.depot_world.proofs.GoodEffects.{request_is_good, restart_is_good}
+use Rattle.depot_world.proofs.GoodRequests.{IsGoodRequest}
 use Rattle.depot_world.proofs.GoodNodes.{IsGoodEffect}
 use Rattle.depot_world.proofs.GoodRuns.{IsGoodRun, IsJudged, found_is, host_keeps, text_keeps, seen_keeps, readers_keep, node_keeps}
 
@@ -79,10 +83,6 @@ judge_keeps setup run label g =
 
 -- ---- all events
 
--- what is good for a node where it stands is good for the node of that number
-at_number : (setup : Setup) (s : Host) (node : ℕ) (effect : ℕ → Effect) → s.correct.node ≡ node → IsGoodEffect setup s.correct (effect s.correct.node) → IsGoodEffect setup s.correct (effect node)
-at_number setup s node effect same good = subst (λ (n : ℕ). IsGoodEffect setup s.correct (effect n)) same good
-
 -- a faulty update that writes what these changes say
 changes_keep : (setup : Setup) (run : Run) (label : List ℕ) (writer seq clock : ℕ) (prev : Option Ref) (changes : List Change) (deps : List Ref) (history : HistoryWord) → SignsBytes (signs_on setup writer) → AreByteChanges changes → IsByteHistory history → IsGoodRun setup run
     → IsGoodRun setup (done_by_changes setup run label writer seq clock prev changes deps history).run
@@ -90,18 +90,15 @@ changes_keep setup run label writer seq clock prev changes deps history signs on
     update_keeps setup (signs_on setup writer) run label (values_of changes) (updated (signs_on setup writer) run writer seq clock prev changes deps history) g signs (only_change_values changes only.bytes)
     (updated_holds (signs_on setup writer) run writer seq clock prev changes deps history only.bytes given)
 
--- receipts for what 1 to 16 references name
-receipts_keep : (setup : Setup) (run : Run) (node : ℕ) (refs : List Ref) (o : Option (List Update)) → all_referred run refs ≡ o → 1 ≤ length refs → length refs ≤ 16 → IsGoodRun setup run → IsGoodRun setup (receipt_for setup run node o).run
-receipts_keep setup run node refs None is some few g = g
-receipts_keep setup run node refs (Some us) is some few g =
-    let many = referred_as_many run refs us is in
-    node_keeps setup run node None (λ s. receipt_by (stands_on setup node) s.correct (ids_of us)) g
-    (λ s same good. at_number setup s node (λ n. receipt_by (stands_on setup n) s.correct (ids_of us)) same (receipts_are_good setup s.correct us good (omega (arith, many, some)) (omega (arith, many, few))))
+-- what a node is asked for, if references name it
+asked_keeps : (setup : Setup) (run : Run) (node : ℕ) (label : Option (List ℕ)) (o : Option Request) → SignsBytes (signs_on setup node) → IfSome o IsGoodRequest → IsGoodRun setup run → IsGoodRun setup (asked_for setup run node label o).run
+asked_keeps setup run node label None signs good g = g
+asked_keeps setup run node label (Some r) signs good g = node_keeps setup run node label (λ s. effect_of (stands_on setup node) (signs_on setup node) s.correct r) g
+    (λ s same node_good. subst (λ (n : ℕ). IsGoodEffect setup s.correct (effect_of (stands_on setup n) (signs_on setup node) s.correct r)) same (request_is_good setup s.correct (signs_on setup node) r node_good signs good))
 
--- whether what a reference names is settled
-settled_keeps : (setup : Setup) (run : Run) (node k : ℕ) (o : Option Update) → IsGoodRun setup run → IsGoodRun setup (settled_for run node k o).run
-settled_keeps setup run node k None g = g
-settled_keeps setup run node k (Some u) g = node_keeps setup run node None (λ s. settled_by s.correct (id_of_update u) k) g (λ s same good. settled_is_good setup s.correct (id_of_update u) k good)
+-- what an event asks a node for
+asking_keeps : (setup : Setup) (run : Run) (e : Event) → ((node : ℕ) → SignsBytes (signs_on setup node)) → BringsBytes e → IsGoodRun setup run → IsGoodRun setup (asked_for setup run (event_node e) (label_by e) (request_in run e)).run
+asking_keeps setup run e signs brings g = asked_keeps setup run (event_node e) (label_by e) (request_in run e) (signs (event_node e)) (events_ask_well run e g.labels brings) g
 
 -- a reader that is made, or goes on
 trim_keeps : (setup : Setup) (run : Run) (node : ℕ) (text name : List ℕ) → IsGoodRun setup run → IsGoodRun setup (trim_at setup run node text name).run
@@ -121,17 +118,6 @@ tgive_keeps setup run name stream g = by_reader (reader_in run.readers name) whe
 -- each event, in a setup whose members sign bytes
 pub event_keeps : (setup : Setup) (run : Run) (e : Event) → ((node : ℕ) → SignsBytes (signs_on setup node)) → BringsBytes e → IsGoodRun setup run → IsGoodRun setup (done setup run e).run
 unfolding done
-event_keeps setup run (event.Put node key value) signs only g = node_keeps setup run node None (λ s. put_by (stands_on setup node) s.correct (one_change key value)) g
-    (λ s same good. at_number setup s node (λ n. put_by (stands_on setup n) s.correct (one_change key value)) same (put_is_good setup s.correct (one_change key value) good only.0.are only.0.bytes (put_stays_true s.correct.node s.correct.journal (one_change key value) only.1 good.receipts)))
-event_keeps setup run (event.Puts node changes) signs only g = node_keeps setup run node None (λ s. put_by (stands_on setup node) s.correct changes) g
-    (λ s same good. at_number setup s node (λ n. put_by (stands_on setup n) s.correct changes) same (put_is_good setup s.correct changes good only.0.are only.0.bytes (put_stays_true s.correct.node s.correct.journal changes only.1 good.receipts)))
-event_keeps setup run (event.Get node key) signs only g = node_keeps setup run node None (λ s. get_by s.correct key) g (λ s same good. get_is_good setup s.correct key good)
-event_keeps setup run (event.Hello node label) signs only g = node_keeps setup run node (Some label) (λ s. hello_by (stands_on setup node) s.correct) g
-    (λ s same good. at_number setup s node (λ n. hello_by (stands_on setup n) s.correct) same (hello_is_good setup s.correct good))
-event_keeps setup run (event.Bundle node hello label) signs only g = node_keeps setup run node (Some label) (λ s. bundle_by (stands_on setup node) (signs_on setup node) s.correct (bytes_of_label run hello)) g
-    (λ s same good. at_number setup s node (λ n. bundle_by (stands_on setup n) (signs_on setup node) s.correct (bytes_of_label run hello)) same (bundle_is_good setup s.correct (signs_on setup node) (bytes_of_label run hello) good (signs node)))
-event_keeps setup run (event.Give node label size) signs only g = node_keeps setup run node None (λ s. give_by (stands_on setup node) s.correct (bytes_of_label run label)) g
-    (λ s same good. at_number setup s node (λ n. give_by (stands_on setup n) s.correct (bytes_of_label run label)) same (give_is_good setup s.correct (bytes_of_label run label) good (bytes_hold run label g.labels)))
 event_keeps setup run (event.Restart node) signs only g = node_keeps setup run node None (λ s. restart_by s.correct) g (λ s same good. restart_is_good setup s.correct good)
 event_keeps setup run (event.Update label writer seq clock prev key value deps history) signs only g =
     changes_keep setup run label writer seq clock prev (one_change key value) deps history (signs writer) only.0 only.1 g
@@ -150,13 +136,8 @@ event_keeps setup run (event.Join label first second) signs only g =
     text_keeps setup run label (counted_bytes (bytes_of_label run first ++ bytes_of_label run second)) g
     (counted_holds (bytes_of_label run first ++ bytes_of_label run second) (only_both (bytes_of_label run first) (bytes_of_label run second) (bytes_hold run first g.labels) (bytes_hold run second g.labels)))
 event_keeps setup run (event.Stop node call image) signs only g = pending_keeps setup run node call image g
-event_keeps setup run (event.Receipt node refs) signs only g = receipts_keep setup run node refs (all_referred run refs) refl only.0 only.1 g
-event_keeps setup run (event.Settled node reference k) signs only g = settled_keeps setup run node k (referred run reference) g
 event_keeps setup run event.Audit signs only g = g
-event_keeps setup run (event.Checkpoint node label) signs only g = node_keeps setup run node (Some label) (λ s. checkpoint_by (stands_on setup node) s.correct) g
-    (λ s same good. at_number setup s node (λ n. checkpoint_by (stands_on setup n) s.correct) same (checkpoint_is_good setup s.correct good))
-event_keeps setup run (event.Sign node label) signs only g = node_keeps setup run node None (λ s. sign_by (stands_on setup node) s.correct (bytes_of_label run label)) g
-    (λ s same good. at_number setup s node (λ n. sign_by (stands_on setup n) s.correct (bytes_of_label run label)) same (sign_is_good setup s.correct (bytes_of_label run label) good (bytes_hold run label g.labels)))
 event_keeps setup run (event.Trim node label name) signs only g = trim_keeps setup run node (bytes_of_label run label) name g
 event_keeps setup run (event.Tgive name label) signs only g = tgive_keeps setup run name (bytes_of_label run label) g
 event_keeps setup run (event.Tget name key) signs only g = g
+event_keeps setup run e signs only g = asking_keeps setup run e signs only g

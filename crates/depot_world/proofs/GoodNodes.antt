@@ -14,7 +14,8 @@ use Rattle.depot_laws.proofs.Splits.{lawful_front}
 use Rattle.depot_laws.proofs.Tests.{all_left}
 use Rattle.depot_laws.proofs.TrueReceipts.{front_is_true}
 use Rattle.depot_world.specs.Run.{PendingStop, Host}
-use Rattle.depot_world.specs.ScheduleStops.{Effect, EventResult, standing_after, journal_left, result_by, stopped_with, result_pending, event_result}
+use Rattle.depot_requests.specs.Effects.{Effect}
+use Rattle.depot_world.specs.ScheduleStops.{EventResult, standing_after, journal_left, result_by, stopped_with, result_pending, event_result}
 use Rattle.depot_world.specs.Setups.{Setup, stands_on}
 use Rattle.depot_world.proofs.OnlyBytes.{OnlyBytes}
 use Rattle.depot_world.proofs.ByteJournals.{HoldsBytes, AllHold}

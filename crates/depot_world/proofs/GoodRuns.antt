@@ -10,7 +10,8 @@ use Rattle.depot_model.specs.Texts.{IsProof}
 use Rattle.depot_model.proofs.Members.{in_pushed}
 use Rattle.depot_world.specs.Run.{Host, Labelled, NamedReader, Run, host_in, put_host, with_label, with_host}
 use Rattle.depot_world.specs.FaultySigning.{Text}
-use Rattle.depot_world.specs.ScheduleStops.{Effect, EventResult, event_result}
+use Rattle.depot_requests.specs.Effects.{Effect}
+use Rattle.depot_world.specs.ScheduleStops.{EventResult, event_result}
 use Rattle.depot_world.specs.Setups.{Setup}
 use Rattle.depot_world.specs.Transcript.{Done, done_by_node, done_at_node, done_by_text}
 use Rattle.depot_world.proofs.OnlyBytes.{OnlyBytes}

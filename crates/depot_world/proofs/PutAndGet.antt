@@ -27,7 +27,7 @@ use Rattle.depot_schedule.specs.declared.event.Event.TheVariants as event
 use Rattle.depot_schedule.specs.declared.schedule.Schedule.{Schedule}
 use Rattle.depot_schedule.specs.EventLines.{put_line, get_line}
 use Rattle.depot_schedule.specs.Schedules.{IsSchedule}
-use Rattle.depot_world.specs.Effects.{put_by, get_by}
+use Rattle.depot_requests.specs.Requests.{effect_of, served}
 use Rattle.depot_model.specs.Insertion.{insert_by, order_by}
 use Rattle.depot_model.specs.LatestList.{latest_in}
 use Rattle.depot_world.specs.Run.{run_of, world_by, host_in, seen_with, put_host, with_host}
@@ -63,7 +63,7 @@ record Computes : Type 0 where
   pub first_bytes : map (λ (text : List ℕ). take 1 (sha256 text)) (hashed_texts (world_of put_and_get)) ≡ (223 ∷ []) ∷ (202 ∷ []) ∷ []
 
 computes : Computes
-unfolding numeral number bytes_of inner list_of dep roster_entry leaves_of put_by_id by_id history_text history_hash has_id prev_of named first_values spent_by tips_of collides_by limit_of_own limit_of_put past precedes_named next_entries next_own leaf_count plain_root birth own_put tagged record_text foreign_leaves full_with key_of update_fields update_body roster id_of_update hash_of_roster put_by get_by insert_by order_by latest_in run_of world_by host_in seen_with put_host with_host event_result suite_of seed_of setup_of done_at_node done run_after world_of sha256 first_words schedule rounds compress hash_after digest_bytes
+unfolding numeral number bytes_of inner list_of dep roster_entry leaves_of put_by_id by_id history_text history_hash has_id prev_of named first_values spent_by tips_of collides_by limit_of_own limit_of_put past precedes_named next_entries next_own leaf_count plain_root birth own_put tagged record_text foreign_leaves full_with key_of update_fields update_body roster id_of_update hash_of_roster served effect_of insert_by order_by latest_in run_of world_by host_in seen_with put_host with_host event_result suite_of seed_of setup_of done_at_node done run_after world_of sha256 first_words schedule rounds compress hash_after digest_bytes
 computes = record { lengths = refl; met = refl; first_bytes = refl }
 
 -- ---- the premises of the laws

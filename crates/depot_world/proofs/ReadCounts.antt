@@ -2,34 +2,33 @@
 use Rattle.std.proofs.Common.{◌≡◌, ◌-◌, ℕ, ◌+◌, ◌≤◌, Bool, true, false, leb, cond, List, [], ◌∷◌, ◌++◌, codes, length, take, zero, suc, Option, Some, None, Result, Ok, Err, refl, ap, subst, ◌∙◌, inl, inr, arith}
 use Rattle.depot_base.specs.Writes.{one_change}
 use Rattle.depot_base.specs.declared.proof.Proof.{Proof}
-use Rattle.depot_base.specs.declared.record.Record.TheVariants.{OwnPut}
 use Rattle.depot_base.specs.declared.update.Update.{Update}
-use Rattle.depot_base.specs.declared.write.Change.{Change}
-use Rattle.depot_model.specs.Bundle.{Signs, BundleAnswer, bundled, bad_hello, other_roster, limited, bundle_answer}
+use Rattle.depot_model.specs.Bundle.{Signs}
 use Rattle.depot_model.specs.Checks.{Setting}
 use Rattle.depot_model.specs.Judgement.{first_failed_point, verdict_of}
-use Rattle.depot_model.specs.Limits.{Limit, limit_of_put}
 use Rattle.depot_model.specs.Lines.{text_of_point, text_of_verdict}
 use Rattle.depot_model.specs.Lists.{IsIn}
-use Rattle.depot_model.specs.Opening.{MadeCheckpoint, no_leaves, many_leaves, made_text, make_of, Opened, ill_at, of_roster, with_unknown, opened, opened_text}
-use Rattle.depot_model.specs.Own.{next_own, values_of}
+use Rattle.depot_model.specs.Own.{values_of}
 use Rattle.depot_model.specs.ReaderFeeds.{reader_feed_of}
 use Rattle.depot_model.specs.Readers.{Reader, trim_of}
-use Rattle.depot_model.specs.Receipts.{NoReceipt, no_receipt, receipt_changes}
-use Rattle.depot_model.specs.Texts.{id_of_update}
 use Rattle.depot_model.specs.World.{Correct, Read}
 use Rattle.depot_model.specs.declared.judgement.JudgeError.{JudgeError}
-use Rattle.depot_answers.specs.AnswerTexts.{spaced, text_of_limit, text_of_put}
+use Rattle.depot_answers.specs.AnswerTexts.{spaced}
+use Rattle.depot_requests.specs.Requests.{effect_of, reads_after}
+use Rattle.depot_requests.specs.declared.request.Request.{Request}
+use Rattle.depot_requests.specs.declared.request.Request.TheVariants as request
+use Rattle.depot_schedule.specs.EventLines.{event_node}
 use Rattle.depot_schedule.specs.declared.event.Event.{Event}
 use Rattle.depot_schedule.specs.declared.event.Event.TheVariants as event
-use Rattle.depot_world.specs.Effects.{idle, grown, read_at_end, put_by, get_by, receipt_with, receipt_by, settled_by, checkpoint_changes, giving_unless, checkpoint_with, checkpoint_by, sign_with, sign_by, hello_by, bundle_with, bundle_by, give_by, restart_by}
-use Rattle.depot_world.specs.FaultySigning.{updated, proof_in, all_referred}
-use Rattle.depot_world.specs.Run.{PendingStop, Host, Run, bytes_of_label, reader_in, referred, host_in, put_host, with_host}
-use Rattle.depot_world.specs.ScheduleStops.{Effect, EventResult, journal_left, stopped_with, result_by, result_pending, event_result}
+use Rattle.depot_requests.specs.Effects.{read_at_end, Effect}
+use Rattle.depot_world.specs.ScheduleStops.{restart_by}
+use Rattle.depot_world.specs.EventRequests.{label_by, request_in}
+use Rattle.depot_world.specs.FaultySigning.{updated, proof_in}
+use Rattle.depot_world.specs.Run.{PendingStop, Host, Run, bytes_of_label, reader_in, host_in, put_host, with_host}
+use Rattle.depot_world.specs.ScheduleStops.{EventResult, journal_left, stopped_with, result_by, result_pending, event_result}
 use Rattle.depot_world.specs.Setups.{Setup, stands_on, signs_on}
-use Rattle.depot_world.specs.Transcript.{Done, pending_at, done_at_node, done_by_node, done_by_update, done, judged_with, receipt_for, run_after, settled_for, trimmed_with, trim_at, reader_told, tgive_by}
+use Rattle.depot_world.specs.Transcript.{Done, pending_at, done_at_node, done_by_node, done_by_update, done, judged_with, asked_for, run_after, trimmed_with, trim_at, reader_told, tgive_by}
 use Rattle.depot_world.proofs.GoodRuns.{numbers_of, found_is, from_put_host, same_numbers}
-use Rattle.depot_world.proofs.ReceiptChanges.{ids_of}
 
 -- ---- lists
 
@@ -74,69 +73,10 @@ result_whole s d apart = by_stop s.pending refl where
 
 -- ---- what an event adds
 
-pub put_keeps : (here : Setting) (c : Correct) (changes : List Change) → (put_by here c changes).reads ≡ c.reads
-unfolding put_by
-put_keeps here c changes = by_limit (limit_of_put here c.journal changes) where
-  by_limit : (o : Option Limit) → (elim o as (λ x. Effect) [
-    | Some limit ↦ idle c (text_of_limit limit)
-    | None ↦ grown c (c.journal ++ OwnPut (next_own c.node c.journal changes) (values_of changes) ∷ []) (text_of_put (next_own c.node c.journal changes)) []
-  ]).reads ≡ c.reads
-  by_limit (Some limit) = refl
-  by_limit None = refl
-
-pub get_adds : (c : Correct) (key : List ℕ) → (get_by c key).reads ≡ c.reads ++ read_at_end c.journal key ∷ []
-unfolding get_by
-get_adds c key = refl
-
-pub receipt_keeps : (here : Setting) (c : Correct) (ids : List (List ℕ)) → (receipt_by here c ids).reads ≡ c.reads
-unfolding receipt_by
-receipt_keeps here c ids = by_why (no_receipt c.journal ids) where
-  by_why : (o : Option NoReceipt) → (receipt_with here c ids o).reads ≡ c.reads
-  by_why (Some why) = refl
-  by_why None = put_keeps here c (receipt_changes ids)
-
-pub settled_keeps : (c : Correct) (id : List ℕ) (k : ℕ) → (settled_by c id k).reads ≡ c.reads
-unfolding settled_by
-settled_keeps c id k = refl
-
-giving_keeps : (c : Correct) (o : Option Limit) (bytes : List ℕ) (d : Effect) → d.reads ≡ c.reads → (giving_unless o bytes d).reads ≡ c.reads
-giving_keeps c (Some limit) bytes d same = same
-giving_keeps c None bytes d same = same
-
-pub checkpoint_keeps : (here : Setting) (c : Correct) → (checkpoint_by here c).reads ≡ c.reads
-unfolding checkpoint_by
-checkpoint_keeps here c = by_made (make_of here c.journal) where
-  by_made : (m : MadeCheckpoint) → (checkpoint_with here c m).reads ≡ c.reads
-  by_made no_leaves = refl
-  by_made (many_leaves n) = refl
-  by_made (made_text text) = giving_keeps c (limit_of_put here c.journal (checkpoint_changes text)) text (put_by here c (checkpoint_changes text)) (put_keeps here c (checkpoint_changes text))
-
-pub sign_keeps : (here : Setting) (c : Correct) (text : List ℕ) → (sign_by here c text).reads ≡ c.reads
-unfolding sign_by
-sign_keeps here c text = by_opened (opened_text here c.journal text) where
-  by_opened : (o : Opened) → (sign_with here c text o).reads ≡ c.reads
-  by_opened (ill_at at) = refl
-  by_opened (of_roster given) = refl
-  by_opened (with_unknown id) = refl
-  by_opened (opened ids) = put_keeps here c (checkpoint_changes text)
-
-pub hello_keeps : (here : Setting) (c : Correct) → (hello_by here c).reads ≡ c.reads
-unfolding hello_by
-hello_keeps here c = refl
-
-answer_keeps : (c : Correct) (a : BundleAnswer) → (bundle_with c a).reads ≡ c.reads
-answer_keeps c (bundled b) = refl
-answer_keeps c (bad_hello at) = refl
-answer_keeps c (other_roster given) = refl
-answer_keeps c (limited limit) = refl
-
-pub bundle_keeps : (here : Setting) (sign : Signs) (c : Correct) (hello : List ℕ) → (bundle_by here sign c hello).reads ≡ c.reads
-unfolding bundle_by
-bundle_keeps here sign c hello = answer_keeps c (bundle_answer here sign c.journal hello)
-
-pub give_keeps : (here : Setting) (c : Correct) (stream : List ℕ) → (give_by here c stream).reads ≡ c.reads
-unfolding give_by
-give_keeps here c stream = refl
+-- the reads behind a request are kept
+pub request_reads : (here : Setting) (sign : Signs) (c : Correct) (r : Request) → (effect_of here sign c r).reads ≡ reads_after c r
+unfolding effect_of
+request_reads here sign c r = refl
 
 pub restart_keeps : (c : Correct) → (restart_by c).reads ≡ c.reads
 unfolding restart_by
@@ -149,8 +89,12 @@ AddsOne c d = length d.reads ≤ length c.reads + 1
 none_more : (c : Correct) (d : Effect) → d.reads ≡ c.reads → AddsOne c d
 none_more c d same = omega (arith, ap (λ (rs : List Read). length rs) same)
 
-one_more : (c : Correct) (key : List ℕ) → AddsOne c (get_by c key)
-one_more c key = omega (arith, ap (λ (rs : List Read). length rs) (get_adds c key), long_push c.reads (read_at_end c.journal key))
+few_more : (c : Correct) (r : Request) → length (reads_after c r) ≤ length c.reads + 1
+few_more c (request.Get key) = omega (arith, long_push c.reads (read_at_end c.journal key))
+few_more c other = omega arith
+
+one_more : (here : Setting) (sign : Signs) (c : Correct) (r : Request) → AddsOne c (effect_of here sign c r)
+one_more here sign c r = omega (arith, ap (λ (rs : List Read). length rs) (request_reads here sign c r), few_more c r)
 
 -- as the event went, too
 result_adds : (s : Host) (d : Effect) → AddsOne s.correct d → length (event_result s d).host.correct.reads ≤ length s.correct.reads + 1
@@ -208,13 +152,9 @@ pending_adds run node call image = by_host (host_in run.hosts node) refl where
   by_host None none = none_added run.hosts
   by_host (Some s) is = host_adds run (record { correct = s.correct; pending = Some (record { call = call; image = image }) }) s (found_is run.hosts node s is).on (omega arith)
 
-receipts_add : (setup : Setup) (run : Run) (node : ℕ) (o : Option (List Update)) → AddsReads run.hosts (receipt_for setup run node o).run.hosts
-receipts_add setup run node None = none_added run.hosts
-receipts_add setup run node (Some us) = node_adds run node None (λ s. receipt_by (stands_on setup node) s.correct (ids_of us)) (λ s. none_more s.correct (receipt_by (stands_on setup node) s.correct (ids_of us)) (receipt_keeps (stands_on setup node) s.correct (ids_of us)))
-
-settled_add : (run : Run) (node k : ℕ) (o : Option Update) → AddsReads run.hosts (settled_for run node k o).run.hosts
-settled_add run node k None = none_added run.hosts
-settled_add run node k (Some u) = node_adds run node None (λ s. settled_by s.correct (id_of_update u) k) (λ s. none_more s.correct (settled_by s.correct (id_of_update u) k) (settled_keeps s.correct (id_of_update u) k))
+asked_adds : (setup : Setup) (run : Run) (node : ℕ) (label : Option (List ℕ)) (o : Option Request) → AddsReads run.hosts (asked_for setup run node label o).run.hosts
+asked_adds setup run node label None = none_added run.hosts
+asked_adds setup run node label (Some r) = node_adds run node label (λ s. effect_of (stands_on setup node) (signs_on setup node) s.correct r) (λ s. one_more (stands_on setup node) (signs_on setup node) s.correct r)
 
 trim_adds : (setup : Setup) (run : Run) (node : ℕ) (text name : List ℕ) → AddsReads run.hosts (trim_at setup run node text name).run.hosts
 unfolding trim_at
@@ -246,12 +186,6 @@ judge_adds setup run (Ok p) = by_point (first_failed_point setup.suite.verifies 
 -- each event
 event_adds : (setup : Setup) (run : Run) (e : Event) → AddsReads run.hosts (done setup run e).run.hosts
 unfolding done
-event_adds setup run (event.Put node key value) = node_adds run node None (λ s. put_by (stands_on setup node) s.correct (one_change key value)) (λ s. none_more s.correct (put_by (stands_on setup node) s.correct (one_change key value)) (put_keeps (stands_on setup node) s.correct (one_change key value)))
-event_adds setup run (event.Puts node changes) = node_adds run node None (λ s. put_by (stands_on setup node) s.correct changes) (λ s. none_more s.correct (put_by (stands_on setup node) s.correct changes) (put_keeps (stands_on setup node) s.correct changes))
-event_adds setup run (event.Get node key) = node_adds run node None (λ s. get_by s.correct key) (λ s. one_more s.correct key)
-event_adds setup run (event.Hello node label) = node_adds run node (Some label) (λ s. hello_by (stands_on setup node) s.correct) (λ s. none_more s.correct (hello_by (stands_on setup node) s.correct) (hello_keeps (stands_on setup node) s.correct))
-event_adds setup run (event.Bundle node hello label) = node_adds run node (Some label) (λ s. bundle_by (stands_on setup node) (signs_on setup node) s.correct (bytes_of_label run hello)) (λ s. none_more s.correct (bundle_by (stands_on setup node) (signs_on setup node) s.correct (bytes_of_label run hello)) (bundle_keeps (stands_on setup node) (signs_on setup node) s.correct (bytes_of_label run hello)))
-event_adds setup run (event.Give node label size) = node_adds run node None (λ s. give_by (stands_on setup node) s.correct (bytes_of_label run label)) (λ s. none_more s.correct (give_by (stands_on setup node) s.correct (bytes_of_label run label)) (give_keeps (stands_on setup node) s.correct (bytes_of_label run label)))
 event_adds setup run (event.Restart node) = node_adds run node None (λ s. restart_by s.correct) (λ s. none_more s.correct (restart_by s.correct) (restart_keeps s.correct))
 event_adds setup run (event.Update label writer seq clock prev key value deps history) = update_adds (signs_on setup writer) run label (values_of (one_change key value)) (updated (signs_on setup writer) run writer seq clock prev (one_change key value) deps history)
 event_adds setup run (event.Updates label writer seq clock prev changes deps history) = update_adds (signs_on setup writer) run label (values_of changes) (updated (signs_on setup writer) run writer seq clock prev changes deps history)
@@ -264,14 +198,11 @@ event_adds setup run (event.Cut label source start count) = none_added run.hosts
 event_adds setup run (event.Flip label source place) = none_added run.hosts
 event_adds setup run (event.Join label first second) = none_added run.hosts
 event_adds setup run (event.Stop node call image) = pending_adds run node call image
-event_adds setup run (event.Receipt node refs) = receipts_add setup run node (all_referred run refs)
-event_adds setup run (event.Settled node reference k) = settled_add run node k (referred run reference)
 event_adds setup run event.Audit = none_added run.hosts
-event_adds setup run (event.Checkpoint node label) = node_adds run node (Some label) (λ s. checkpoint_by (stands_on setup node) s.correct) (λ s. none_more s.correct (checkpoint_by (stands_on setup node) s.correct) (checkpoint_keeps (stands_on setup node) s.correct))
-event_adds setup run (event.Sign node label) = node_adds run node None (λ s. sign_by (stands_on setup node) s.correct (bytes_of_label run label)) (λ s. none_more s.correct (sign_by (stands_on setup node) s.correct (bytes_of_label run label)) (sign_keeps (stands_on setup node) s.correct (bytes_of_label run label)))
 event_adds setup run (event.Trim node label name) = trim_adds setup run node (bytes_of_label run label) name
 event_adds setup run (event.Tgive name label) = tgive_adds run name (bytes_of_label run label)
 event_adds setup run (event.Tget name key) = none_added run.hosts
+event_adds setup run e = asked_adds setup run (event_node e) (label_by e) (request_in run e)
 
 -- ---- all events
 

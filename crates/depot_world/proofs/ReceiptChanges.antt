@@ -49,7 +49,7 @@ as_many : (ids : List (List ℕ)) → length (receipt_changes ids) ≡ length id
 as_many [] = refl
 as_many (h ∷ ids) = ap (λ (n : ℕ). suc n) (as_many ids)
 
-many_ids : (us : List Update) → length (map id_of_update us) ≡ length us
+pub many_ids : (us : List Update) → length (map id_of_update us) ≡ length us
 many_ids [] = refl
 many_ids (u ∷ us) = ap (λ (n : ℕ). suc n) (many_ids us)
 

@@ -1,8 +1,8 @@
 pub mod Audits
-pub mod Effects
 pub mod Forgetting
 pub mod Run
 pub mod FaultySigning
+pub mod EventRequests
 pub mod ScheduleStops
 pub mod Setups
 pub mod Transcript

@@ -1,23 +1,10 @@
 -- What a stop leaves of an event of a node.
-use Rattle.std.specs.Prelude.{ℕ, ◌+◌, ◌-◌, ◌*◌, ◌/◌, ◌%◌, List, [], ◌∷◌, ◌++◌, length, take, drop, ◌&&◌, ◌==◌, nat_le, Option, Some, None, codes, if◌then◌else◌}
+use Rattle.std.specs.Prelude.{ℕ, ◌+◌, ◌-◌, ◌/◌, ◌%◌, List, [], ◌∷◌, ◌++◌, length, take, drop, ◌&&◌, ◌==◌, nat_le, Option, Some, None, codes, if◌then◌else◌}
 use Rattle.depot_base.specs.declared.record.Record.{Record}
-use Rattle.depot_model.specs.World.{Read}
-use Rattle.depot_answers.specs.AnswerTexts.{text_of_number}
+use Rattle.depot_model.specs.World.{Correct}
+use Rattle.depot_answers.specs.AnswerTexts.{spaced, text_of_number, text_of_records}
+use Rattle.depot_requests.specs.Effects.{Effect}
 use Rattle.depot_world.specs.Run.{PendingStop, Host}
-
--- An event of a node as it goes where no stop falls into it: the journal and the reads after it, how many calls it makes of the disk, what
--- is printed behind the arrow and on lines of their own, and the bytes that it gives a label.
-pub record Effect : Type 0 where
-  pub journal : List Record
-  pub reads : List Read
-  pub calls : ℕ
-  pub answer : List ℕ
-  pub behind : List (List ℕ)
-  pub bytes : List ℕ
-
--- a record is appended by four calls: its body is written, synced, its gate is written, synced
-abbrev pub calls_for_records : ℕ → ℕ
-calls_for_records records = 4 * records
 
 -- How many of the records that an event appends stand in the image of a stop at this call, from 1. Those before the one at hand stand in
 -- each; that one in image 1 alone, which has all that was written, once its gate is written, by the third of its calls. In image 2 the
@@ -66,3 +53,9 @@ event_result s d = elim s.pending [
   | None ↦ result_by s None d
   | Some a ↦ result_pending s d a
 ]
+
+-- ---- starting again
+
+-- A node is started again from its disk: a sync, a look at the file's length, and a read of its bytes.
+unfoldable pub restart_by : Correct → Effect
+restart_by c = record { journal = c.journal; reads = c.reads; calls = 3; answer = spaced (text_of_records c.journal); behind = []; bytes = [] }

@@ -1,5 +1,5 @@
 -- What a schedule makes happen, event by event: the world and the transcript.
-use Rattle.std.specs.Prelude.{ℕ, List, [], ◌∷◌, ◌++◌, map, take, drop, false, Option, Some, None, Result, Ok, Err, codes}
+use Rattle.std.specs.Prelude.{ℕ, List, [], ◌∷◌, ◌++◌, take, drop, false, Option, Some, None, Result, Ok, Err, codes}
 use Rattle.std.specs.List.{flat_map}
 use Rattle.std.specs.Option.{option_map_or}
 use Rattle.depot_base.specs.Writes.{one_change}
@@ -13,10 +13,9 @@ use Rattle.depot_model.specs.Lines.{text_of_point, text_of_verdict}
 use Rattle.depot_model.specs.Own.{values_of}
 use Rattle.depot_model.specs.ReaderFeeds.{ReaderFeed, reader_feed_of}
 use Rattle.depot_model.specs.Readers.{Reader, TrimAnswer, unopened, unsigned, reading, trim_of, shown_by_reader}
-use Rattle.depot_model.specs.Texts.{id_of_update}
-use Rattle.depot_model.specs.Vouching.{rising}
 use Rattle.depot_model.specs.World.{World}
 use Rattle.depot_lines.specs.Language.{join}
+use Rattle.depot_schedule.specs.EventLines.{event_node}
 use Rattle.depot_schedule.specs.Schedules.{event_words}
 use Rattle.depot_schedule.specs.declared.event.Event.{Event}
 use Rattle.depot_schedule.specs.declared.event.Event.TheVariants as event
@@ -25,10 +24,14 @@ use Rattle.depot_schedule.specs.declared.event.Ref.{Ref}
 use Rattle.depot_schedule.specs.declared.schedule.Schedule.{Schedule}
 use Rattle.depot_answers.specs.AnswerTexts.{spaced, text_of_finding, text_of_trim, text_of_reader_feed, text_of_write}
 use Rattle.depot_world.specs.Audits.{audited}
-use Rattle.depot_world.specs.Effects.{put_by, get_by, hello_by, bundle_by, give_by, restart_by, receipt_by, settled_by, checkpoint_by, sign_by}
-use Rattle.depot_world.specs.Run.{Run, Host, run_of, world_by, host_in, bytes_of_label, referred, reader_in, seen_with, with_label, with_reader, put_reader, with_host}
-use Rattle.depot_world.specs.FaultySigning.{Text, no_reference, counted_bytes, updated, update_text, vouched_text, proof_text, hollow_text, proof_in, point_by, flip_at, all_referred}
-use Rattle.depot_world.specs.ScheduleStops.{Effect, EventResult, event_result}
+use Rattle.depot_requests.specs.Effects.{Effect, ended}
+use Rattle.depot_requests.specs.Requests.{effect_of}
+use Rattle.depot_requests.specs.declared.request.Request.{Request}
+use Rattle.depot_world.specs.EventRequests.{label_by, request_in}
+use Rattle.depot_world.specs.ScheduleStops.{restart_by}
+use Rattle.depot_world.specs.Run.{Run, Host, run_of, world_by, host_in, bytes_of_label, reader_in, seen_with, with_label, with_reader, put_reader, with_host}
+use Rattle.depot_world.specs.FaultySigning.{Text, no_reference, counted_bytes, updated, update_text, vouched_text, proof_text, hollow_text, proof_in, point_by, flip_at}
+use Rattle.depot_world.specs.ScheduleStops.{EventResult, event_result}
 use Rattle.depot_world.specs.Setups.{Setup, setup_of, stands_on, signs_on}
 
 -- an event that was done: what is printed behind the arrow, the lines behind that line, and the run after it
@@ -62,15 +65,14 @@ pending_at run node call image = elim (host_in run.hosts node) [
 abbrev pub not_referred : Run → Done
 not_referred run = record { answer = codes " NoRef"; behind = []; run = run }
 
--- a node gives receipts for what references name, each id once and rising
-abbrev pub receipt_for : Setup → Run → ℕ → Option (List Update) → Done
-receipt_for setup run node None = not_referred run
-receipt_for setup run node (Some us) = done_at_node run node None (λ s. receipt_by (stands_on setup node) s.correct (rising (map id_of_update us)))
+-- a node is asked for this, and a label, if there is one, is given what it hands out
+abbrev pub asked_at : Setup → Run → ℕ → Option (List ℕ) → Request → Done
+asked_at setup run node label r = done_at_node run node label (λ s. effect_of (stands_on setup node) (signs_on setup node) s.correct r)
 
--- a node tells whether what a reference names is settled at so many nodes
-abbrev pub settled_for : Run → ℕ → ℕ → Option Update → Done
-settled_for run node k None = not_referred run
-settled_for run node k (Some u) = done_at_node run node None (λ s. settled_by s.correct (id_of_update u) k)
+-- the same, where references name what is asked for
+abbrev pub asked_for : Setup → Run → ℕ → Option (List ℕ) → Option Request → Done
+asked_for setup run node label None = not_referred run
+asked_for setup run node label (Some r) = asked_at setup run node label r
 
 -- ---- the audit
 
@@ -145,12 +147,6 @@ judged_with setup run read = elim (point_by setup read) [
 -- ---- one event
 
 unfoldable pub done : Setup → Run → Event → Done
-done setup run (event.Put node key value) = done_at_node run node None (λ s. put_by (stands_on setup node) s.correct (one_change key value))
-done setup run (event.Puts node changes) = done_at_node run node None (λ s. put_by (stands_on setup node) s.correct changes)
-done setup run (event.Get node key) = done_at_node run node None (λ s. get_by s.correct key)
-done setup run (event.Hello node label) = done_at_node run node (Some label) (λ s. hello_by (stands_on setup node) s.correct)
-done setup run (event.Bundle node hello label) = done_at_node run node (Some label) (λ s. bundle_by (stands_on setup node) (signs_on setup node) s.correct (bytes_of_label run hello))
-done setup run (event.Give node label size) = done_at_node run node None (λ s. give_by (stands_on setup node) s.correct (bytes_of_label run label))
 done setup run (event.Restart node) = done_at_node run node None (λ s. restart_by s.correct)
 done setup run (event.Update label writer seq clock prev key value deps history) =
     done_by_changes setup run label writer seq clock prev (one_change key value) deps history
@@ -164,14 +160,11 @@ done setup run (event.Cut label source start count) = done_by_text run label (co
 done setup run (event.Flip label source place) = done_by_text run label (counted_bytes (flip_at place (bytes_of_label run source)))
 done setup run (event.Join label first second) = done_by_text run label (counted_bytes (bytes_of_label run first ++ bytes_of_label run second))
 done setup run (event.Stop node call image) = pending_at run node call image
-done setup run (event.Receipt node refs) = receipt_for setup run node (all_referred run refs)
-done setup run (event.Settled node reference k) = settled_for run node k (referred run reference)
 done setup run event.Audit = audit_by setup run
-done setup run (event.Checkpoint node label) = done_at_node run node (Some label) (λ s. checkpoint_by (stands_on setup node) s.correct)
-done setup run (event.Sign node label) = done_at_node run node None (λ s. sign_by (stands_on setup node) s.correct (bytes_of_label run label))
 done setup run (event.Trim node label name) = trim_at setup run node (bytes_of_label run label) name
 done setup run (event.Tgive name label) = tgive_by run name (bytes_of_label run label)
 done setup run (event.Tget name key) = tget_by run name key
+done setup run e = asked_for setup run (event_node e) (label_by e) (request_in run e)
 
 -- ---- its lines
 
@@ -193,14 +186,6 @@ head_count other = 2
 abbrev pub head_words : Event → List (List ℕ)
 head_words (event.Trim node label name) = take 2 (event_words (event.Trim node label name)) ++ drop 3 (event_words (event.Trim node label name))
 head_words e = take (head_count e) (event_words e)
-
--- a line with its LF
-abbrev pub ended : List ℕ → List ℕ
-ended line = line ++ 10 ∷ []
-
--- what is printed from the arrow of an event on: its answer, and the lines behind it
-abbrev pub lines_after_arrow : List ℕ → List (List ℕ) → List ℕ
-lines_after_arrow answer behind = ended answer ++ flat_map ended behind
 
 -- the lines of an event
 unfoldable pub lines_of : Event → Done → List ℕ

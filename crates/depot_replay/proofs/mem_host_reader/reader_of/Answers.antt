@@ -1,7 +1,7 @@
 use Rattle.std.proofs.Common.{◌≡◌, Ok, Err, subst}
 use Rattle.depot_trim.specs.ReaderAnswers.{Trims}
 use Rattle.depot_trim.specs.ReaderView.{IsReaderOf}
-use Rattle.depot_node_lines.specs.CheckpointPrinting.{SettlesTrim}
+use Rattle.depot_service.specs.CheckpointPrinting.{SettlesTrim}
 use Rattle.depot_replay.specs.declared.mem_host_reader.MemHostReader.{MemHostReader}
 use Rattle.depot_replay.proofs.ReaderTurns.{none_made, one_made}
 use Rattle.depot_replay.proofs.mem_host_reader.reader_of.Goals as goal

@@ -8,13 +8,13 @@ use Rattle.depot_model.specs.Bundle.{Signs}
 use Rattle.depot_model.specs.Checks.{Setting}
 use Rattle.depot_outside.specs.Stopping.{state_of}
 use Rattle.depot_outside.specs.declared.mem_disk.MemDisk.{MemDisk}
-use Rattle.depot_world.specs.Transcript.{ended}
+use Rattle.depot_requests.specs.Effects.{ended}
 use Rattle.depot_replay.specs.Disks.{pending_of}
 use Rattle.depot_replay.specs.MemHosts.{IsBegunOn, IsKeptOn}
 use Rattle.depot_replay.proofs.MemHostEvents.{begun_there}
 use Rattle.depot_replay.proofs.MemHostLaws.{has_records}
-use Rattle.depot_node_lines.proofs.FedStreams.{if_both}
-use Rattle.depot_replay.proofs.MemHostReads.{restart_came, restart_stopped}
+use Rattle.depot_service.proofs.FedStreams.{if_both}
+use Rattle.depot_replay.proofs.MemHostRestarts.{restart_came, restart_stopped}
 use Rattle.depot_replay.proofs.MemHostStarts.{start_stopped, started_on, stopped_begun, three_calls}
 use Rattle.depot_replay.proofs.mem_host.MemHostActor.restart.Goals as goal
 

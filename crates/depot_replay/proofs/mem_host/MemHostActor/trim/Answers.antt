@@ -4,7 +4,7 @@ use Rattle.depot_model.specs.Checks.{Setting}
 use Rattle.depot_model.specs.Readers.{trim_of}
 use Rattle.depot_simulation.specs.Readers.{HasTrimmed}
 use Rattle.depot_trim.specs.ReaderView.{IsReaderOf}
-use Rattle.depot_replay.proofs.MemHostTurns.{same_setting}
+use Rattle.depot_replay.proofs.MemHostEvents.{same_setting}
 use Rattle.depot_replay.proofs.mem_host.MemHostActor.trim.Goals as goal
 
 pub trim-made-requires-clause-runs : goal.trim-made-requires-clause-runs

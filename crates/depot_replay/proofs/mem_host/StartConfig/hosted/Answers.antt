@@ -6,7 +6,7 @@ use Rattle.depot_outside.specs.Stopping.{state_of}
 use Rattle.depot_outside.specs.declared.mem_disk.MemDisk.{MemDisk}
 use Rattle.depot_replay.specs.Disks.{pending_of}
 use Rattle.depot_replay.specs.MemHosts.{IsBegunOn}
-use Rattle.depot_node_lines.specs.declared.printed.Printed.{Printed}
+use Rattle.depot_requests.specs.declared.printing.Printed.{Printed}
 use Rattle.depot_replay.proofs.MemHostEvents.{begun_cut, called_kept, called_well, cut_ends, cut_of, left_by_cut}
 use Rattle.depot_replay.proofs.mem_host.StartConfig.hosted.Goals as goal
 

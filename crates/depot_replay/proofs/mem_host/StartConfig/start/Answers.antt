@@ -6,7 +6,7 @@ use Rattle.depot_node.specs.Starting.{placed}
 use Rattle.depot_node.proofs.StartLaws.{lawful_file_starts}
 use Rattle.depot_outside.specs.Stopping.{state_of}
 use Rattle.depot_replay.specs.MemHosts.{FailsToStart, IsStartedIn, SparesLawful}
-use Rattle.depot_replay.proofs.MemHostReads.{fails_there}
+use Rattle.depot_replay.proofs.MemHostRestarts.{fails_there}
 use Rattle.depot_replay.proofs.mem_host.StartConfig.start.Goals as goal
 
 pub returns-clause-node : goal.returns-clause-node

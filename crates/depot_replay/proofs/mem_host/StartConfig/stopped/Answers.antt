@@ -2,12 +2,12 @@ use Rattle.std.proofs.Common.{ℕ, refl, sym, ap, subst, ◌∙◌}
 use Rattle.std.specs.Prelude.{codes}
 use Rattle.std.proofs.lemmas.Result.{IfOk-at_ok}
 use Rattle.depot_answers.specs.AnswerTexts.{text_of_number, spaced}
-use Rattle.depot_world.specs.Transcript.{ended}
+use Rattle.depot_requests.specs.Effects.{ended}
 use Rattle.depot_base.specs.Calls.{calls_to_start}
 use Rattle.depot_model.specs.Bundle.{Signs}
 use Rattle.depot_model.specs.Checks.{Setting}
 use Rattle.depot_outside.specs.Stopping.{state_of}
-use Rattle.depot_node_lines.proofs.FedStreams.{if_both}
+use Rattle.depot_service.proofs.FedStreams.{if_both}
 use Rattle.depot_replay.specs.MemHosts.{IsKeptOn}
 use Rattle.depot_replay.proofs.DiskStops.{none_waits_after}
 use Rattle.depot_replay.proofs.MemHostStarts.{again_wants, started_on}

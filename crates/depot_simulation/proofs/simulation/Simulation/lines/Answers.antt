@@ -4,7 +4,7 @@ use Rattle.depot_schedule.specs.declared.event.Event.{Event}
 use Rattle.depot_world.specs.Transcript.{done}
 use Rattle.depot_scenario.specs.Scenarios.{MayHappen}
 use Rattle.depot_simulation.specs.Doing.{HasDone}
-use Rattle.depot_simulation.proofs.EventFields.{put_changes, receipt_sizes, stop_sizes}
+use Rattle.depot_simulation.proofs.EventFields.{may_ask, stop_sizes}
 use Rattle.depot_simulation.proofs.simulation.Simulation.lines.Goals as goal
 
 pub stop-requires-clause-call : goal.stop-requires-clause-call
@@ -32,26 +32,13 @@ unfolding done
 returns-in-Stop-clause-lines g c = IfOk-weaker c.stop.result _ _ (λ lines told setup run on sound at.
     subst (λ (e : Event). HasDone g.row.A.Denot g.A.Actor.view g.A.Reader.Reading.reads setup (done setup run e) lines c.stop.new.self) (sym c.in-Stop.is) (told setup run at)) c.stop.ensures.lines
 
-pub effect-requires-clause-changes : goal.effect-requires-clause-changes
-effect-requires-clause-changes g c = put_changes c.requires.may.before c.args.event.now c.requires.may.fits
-
-pub effect-requires-in-Puts-clause-changes : goal.effect-requires-in-Puts-clause-changes
-effect-requires-in-Puts-clause-changes g c = put_changes c.requires.may.before c.args.event.now c.requires.may.fits
-
-pub receipt-requires-clause-few : goal.receipt-requires-clause-few
-receipt-requires-clause-few g c =
-    let may = subst (λ (e : Event). MayHappen c.args.scenario.now.height c.args.scenario.now.members.now e) c.in-Receipt.is c.requires.may in
-    rw c.as_slice.ensures (receipt_sizes may.before c.in-Receipt.node c.in-Receipt.refs may.fits)
-
-pub returns-in-Receipt-clause-lines : goal.returns-in-Receipt-clause-lines
+pub returns-in-Restart-clause-lines : goal.returns-in-Restart-clause-lines
 unfolding done
-returns-in-Receipt-clause-lines g c = IfOk-weaker c.receipt.result _ _ (λ lines told setup run on sound at.
-    subst (λ (e : Event). HasDone g.row.A.Denot g.A.Actor.view g.A.Reader.Reading.reads setup (done setup run e) lines c.receipt.new.self) (sym c.in-Receipt.is) (rw c.as_slice.ensures at (told setup run at))) c.receipt.ensures.lines
+returns-in-Restart-clause-lines g c = IfOk-weaker c.restart.result _ _ (λ lines told setup run on sound at.
+    subst (λ (e : Event). HasDone g.row.A.Denot g.A.Actor.view g.A.Reader.Reading.reads setup (done setup run e) lines c.restart.new.self) (sym c.in-Restart.is) (told setup run at)) c.restart.ensures.lines
 
-pub returns-in-Settled-clause-lines : goal.returns-in-Settled-clause-lines
-unfolding done
-returns-in-Settled-clause-lines g c = IfOk-weaker c.settled.result _ _ (λ lines told setup run on sound at.
-    subst (λ (e : Event). HasDone g.row.A.Denot g.A.Actor.view g.A.Reader.Reading.reads setup (done setup run e) lines c.settled.new.self) (sym c.in-Settled.is) (told setup run at)) c.settled.ensures.lines
+pub ask-requires-clause-may : goal.ask-requires-clause-may
+ask-requires-clause-may g c = may_ask c.requires.may.before c.args.event.now c.requires.may.fits
 
 pub returns-in-Audit-clause-lines : goal.returns-in-Audit-clause-lines
 unfolding done

@@ -1,0 +1,7 @@
+use Rattle.std.proofs.Common.{None, arith, sym}
+use Rattle.std.proofs.lemmas.List.{get_or_past}
+use Rattle.depot_c.specs.Asked.{asked_operations}
+use Rattle.depot_c.proofs.ask.Ask.of.Goals as goal
+
+pub returns-else-place-lt25 : goal.returns-else-place-lt25
+returns-else-place-lt25 c = sym (get_or_past asked_operations c.args.op None (omega (arith, c.if-place-lt25.false)))

@@ -1,5 +1,0 @@
-use Rattle.depot_node_lines.proofs.FedReaders.{IsTaking}
-use Rattle.depot_node_lines.proofs.readers.feed_reader.Given as goal
-
-abbrev pub invariant-loop : goal.invariant-loop
-invariant-loop g l = IsTaking g.S.Scheme.verifies l.fn.reader l.stream l.at l.counter l.told l.reader

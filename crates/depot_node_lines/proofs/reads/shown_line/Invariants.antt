@@ -1,9 +1,0 @@
-use Rattle.std.proofs.Common.{◌≡◌, take}
-use Rattle.depot_model.specs.Items.{updates_at}
-use Rattle.depot_model.specs.Journal.{accepted}
-use Rattle.depot_node_lines.specs.Printing.{shown_text}
-use Rattle.depot_node_lines.proofs.ShownWrites.{shown_as}
-use Rattle.depot_node_lines.proofs.reads.shown_line.Given as goal
-
-abbrev pub invariant-loop-item : goal.invariant-loop-item
-invariant-loop-item g l = l.line ≡ shown_text (shown_as (g.N.NodeState.records l.node) l.key (updates_at (accepted (g.N.NodeState.records l.node)) (take l.item-index l.item-items)))

@@ -1,6 +1,0 @@
-pub mod Printing
-pub mod PutPrinting
-pub mod ReceiptPrinting
-pub mod CheckpointPrinting
-pub mod ReaderPrinting
-pub mod TracePrinting

@@ -1,0 +1,13 @@
+pub mod FedStreams
+pub mod FewLatest
+pub mod NodeTraces
+pub mod ShownWrites
+pub mod TracedReads
+pub mod FedReaders
+pub mod IdleRequests
+pub mod PutRequests
+pub mod BundleRequests
+pub mod StreamRequests
+pub mod ReadRequests
+pub mod DueRequests
+pub mod SignRequests

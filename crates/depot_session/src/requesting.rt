@@ -1,0 +1,82 @@
+//! What a command asks a node for.
+ghost use Rattle.std.specs.Prelude.{◌≡◌, ◌∷◌, ℕ, List, [], IfOk, None, Some, option_copied};
+ghost use Rattle.depot_base.specs.Writes.{one_change};
+ghost use Rattle.depot_requests.specs.Requests.{IsRequest};
+ghost use Rattle.depot_script.specs.Scripts.{FitsCommand};
+ghost use Rattle.depot_session.specs.Sessions.{AsksTheNode, Session, asked_in, asks_for};
+ghost use Rattle.depot_session.specs.Sessions as sessions;
+
+use depot_base::{Bytes, Changes, Hash32, Ids, Key, Memory, Value};
+use depot_lines::FileName;
+use depot_requests::Request;
+use depot_script::Command;
+use std::alloc::Global;
+
+/// How many bytes of a stream a script hands to a feed at once. What is taken doesn't depend on it.
+pub const TAKEN_PIECE: u32 = 65_536;
+
+/// The one change that gives a key a value, both copied.
+fn one_change(alloc: Global, key: &Key, value: &Value) -> Result<Changes, Memory>
+    ensures { IfOk result (λ changes. changes ≡ one_change key.now value.now) }
+{
+    Changes::one(alloc, key.copy()?, value.copy()?)
+}
+
+/// The list of one id, which is copied.
+fn one_id(alloc: Global, id: &Hash32) -> Result<Ids, Memory>
+    ensures { IfOk result (λ ids. ids ≡ id.now ∷ []) }
+{
+    let mut ids = Ids::new(alloc);
+    ids.push(*id)?;
+    Ok(ids)
+}
+
+/// The file with whose bytes a command asks a node, if there is one.
+pub fn file_asked(command: &Command) -> Option<&FileName>
+    ensures { option_copied result ≡ sessions.file_asked command.now }
+{
+    match command {
+        Command::Bundle { hello, .. } => Some(hello),
+        Command::Take { file } | Command::Sign { file } => Some(file),
+        _ => None,
+    }
+}
+
+/// The request of a command that asks a node with no file. What it names is copied.
+pub fn request_alone(alloc: Global, command: &Command) -> Result<Request, Memory>
+    requires asks { AsksTheNode command.now }
+    requires alone { sessions.file_asked command.now ≡ None }
+    requires fits { FitsCommand command.now }
+    ensures request { IfOk result (λ r. IsRequest r) }
+    ensures asks { IfOk result (λ r. (s : Session) → asked_in s command.now ≡ asks_for r) }
+{
+    match command {
+        Command::Put { key, value } => Ok(Request::Put(one_change(alloc, key, value)?)),
+        Command::Puts { changes } => Ok(Request::Put(changes.copy()?)),
+        Command::Get { key } => Ok(Request::Get(key.copy()?)),
+        Command::Hello { .. } => Ok(Request::Hello),
+        Command::Receipt { id } => Ok(Request::Receipt(one_id(alloc, id)?)),
+        Command::Settled { id, k } => Ok(Request::Settled(*id, *k)),
+        Command::Checkpoint { .. } => Ok(Request::Checkpoint),
+        _ => unreachable!(),
+    }
+}
+
+/// The request of a command that asks a node with these bytes of its file.
+pub fn request_with(command: &Command, bytes: Bytes) -> Request
+    requires { (name : List ℕ) × (sessions.file_asked command.now ≡ Some name) }
+    ensures request { IsRequest result }
+    ensures asks { (s : Session) (name : List ℕ) → sessions.file_asked command.now ≡ Some name → s.files name ≡ Some bytes → asked_in s command.now ≡ asks_for result }
+{
+    match command {
+        Command::Bundle { .. } => Request::Bundle(bytes),
+        Command::Take { .. } => {
+            Request::Take {
+                stream: bytes,
+                piece: TAKEN_PIECE,
+            }
+        }
+        Command::Sign { .. } => Request::Sign(bytes),
+        _ => unreachable!(),
+    }
+}
