@@ -1,0 +1,5 @@
+pub mod Folding
+pub mod SameNodes
+pub mod AnswerCalls
+pub mod Turning
+pub mod RunTurns
