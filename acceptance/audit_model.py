@@ -87,6 +87,21 @@ class Audited(Start):
 # ---- all nodes
 
 
+def found_between(nodes):
+    """What an audit finds in nodes, by rising number, whose records and reads are as they should be: each with the ids that its reads list."""
+    puts = {node.me: {x.id for x in node.own if hasattr(x, "writes")} for node, _ in nodes}
+    for node, reads in nodes:
+        for number, ids in enumerate(reads):
+            writers = [(node.accepted[id].writer, id) for id in ids]
+            if any(writer in puts and id not in puts[writer] for writer, id in writers):
+                return f"no fjc 4 r{node.me}.{number}"
+    for node, _ in nodes:
+        for place, (tag, what) in enumerate(node.records):
+            if tag == "convict" and what.first.statement.writer in puts:
+                return f"no named {node.me} {place}"
+    return "yes"
+
+
 def audited(members, traces):
     """What an audit finds."""
     nodes = [Audited(members, trace) for trace in sorted(traces, key=lambda trace: trace.node)]
@@ -96,18 +111,7 @@ def audited(members, traces):
     for some in nodes:
         if some.bad is not None:
             return f"no answer {some.trace.node} {some.bad}"
-    puts = {some.trace.node: {x.id for x in some.node.own if hasattr(x, "writes")} for some in nodes}
-    for some in nodes:
-        for number, (_, _, answer) in enumerate(some.trace.reads):
-            for id, _, _ in answer:
-                writer = some.node.accepted[id].writer
-                if writer in puts and id not in puts[writer]:
-                    return f"no fjc 4 r{some.trace.node}.{number}"
-    for some in nodes:
-        for place, (tag, what) in enumerate(some.node.records):
-            if tag == "convict" and what.first.statement.writer in puts:
-                return f"no named {some.trace.node} {place}"
-    return "yes"
+    return found_between([(some.node, [[id for id, _, _ in answer] for _, _, answer in some.trace.reads]) for some in nodes])
 
 
 def audit(members, load, names):

@@ -71,30 +71,72 @@ def many_records():
     ]
 
 
+def many_updates():
+    """Who gave receipts is asked of all updates: here of 100,001 of another, and then of the node's own."""
+    count, prev, frames = 100_001, ZEROS, []
+    for seq in range(count):
+        made = signed_update(9, seq, seq + 1, b"a", prev, history=history_of([(9, seq, prev)] if seq else []))
+        frames.append(frame(2, made))
+        prev = id_of(made)
+    return ["depot schedule 1", "scheme plain 17", "node 1", "faulty 9"], [
+        raw("a", b"".join(frames)),
+        ("give 1 a 65536", f"accepted {count} known 0 refused 0 bare"),
+        ("put 1 6b 62", f"0/{count + 1}"),
+        ("settled 1 1.0 1", "no"),
+        ("receipt 1 1.0", f"1/{count + 2}"),
+        ("settled 1 1.0 1", "yes"),
+        ("settled 1 1.0 2", "no"),
+    ]
+
+
+def signed_by_all(most):
+    """The text of a checkpoint of members 1 to this number, over the first update of the last one, and the frames of that update and of all that
+    sign the text but node 1."""
+    first = signed_update(most, 0, 1, b"a")
+    leaf = id_of(first)
+    text = checkpoint(sha(roster(*((node, 12, root_of(node)) for node in range(1, most + 1)))), (most, leaf))
+    past = history_of([(most, 1, leaf)])
+    signing = [(node, 4095, ZEROS, [(most, 1, leaf)]) for node in range(2, most)] + [(most, 1, leaf, [])]
+    made = [first] + [sign(node, seq, update(node, seq, 2, prev, checkpoint_key(text), text, deps, past)) for node, seq, prev, deps in signing]
+    return text, [frame(2, some) for some in made]
+
+
+def wide_reader():
+    """A reader is made under a roster of 256 members, each of which signed."""
+    text, signed = signed_by_all(256)
+    return WIDE + ["node 1"] + [f"faulty {node}" for node in range(2, 257)], [
+        raw("k", text),
+        raw("a", b"".join(signed[:-1])),
+        ("give 1 a", "accepted 255 known 0 refused 0 bare"),
+        ("sign 1 k", "0/3"),
+        ("trim 1 k r", "Unsigned 256"),
+        ("tget r 6b", ""),
+        raw("b", signed[-1]),
+        ("give 1 b", TOOK_ONE),
+        ("trim 1 k t", "kept 257 of 257"),
+        ("tget t 6b", "256/0/1=?"),
+    ]
+
+
 def full_reader(most=131_072):
     """A reader counts the records of its node when it was made, and what it takes but for values: 131,072 at most."""
-    first = signed_update(34, 0, 1, b"a")
-    leaf = id_of(first)
-    text = checkpoint(sha(roster(*((node, 12, root_of(node)) for node in range(1, 35)))), (34, leaf))
-    past = history_of([(34, 1, leaf)])
-    signing = [(node, 4095, ZEROS, [(34, 1, leaf)]) for node in range(2, 34)] + [(34, 1, leaf, [])]
-    signed = [sign(node, seq, update(node, seq, 2, prev, checkpoint_key(text), text, deps, past)) for node, seq, prev, deps in signing]
+    text, signed = signed_by_all(34)
     # The birth, the first update, 34 that sign, and vouchers up to two records less than a journal has.
     count = most - 2 - 36
     vouchers = [frame(2, signed_voucher(2 + at // 4095, at % 4095, ZEROS)) for at in range(count)]
     more = [frame(2, signed_voucher(34, seq, ZEROS)) for seq in range(2, 6)]
     return WIDE + ["node 1"] + [f"faulty {node}" for node in range(2, 35)], [
         raw("k", text),
-        raw("a", frame(2, first) + b"".join(frame(2, made) for made in signed) + b"".join(vouchers)),
+        raw("a", b"".join(signed) + b"".join(vouchers)),
         ("give 1 a", f"accepted {34 + count} known 0 refused 0 bare"),
         ("sign 1 k", "0/3"),
         ("trim 1 k t", "kept 35 of 35"),
-        raw("b", more[0] + frame(3, b"no") + more[1] + frame(2, first) + more[2] + more[3]),
+        raw("b", more[0] + frame(3, b"no") + more[1] + signed[0] + more[2] + more[3]),
         ("tgive t b", f"accepted 2 known 1 refused 1 below 0 full records {most}"),
         raw("c", more[2]),
         ("tgive t c", f"accepted 0 known 0 refused 0 below 0 full records {most}"),
         # What is known, refused or a value still comes to its answer.
-        raw("d", frame(2, first) + frame(3, b"no") + frame(3, b"a") + frame(3, b"a") + more[1] + more[3] + frame(3, b"a")),
+        raw("d", signed[0] + frame(3, b"no") + frame(3, b"a") + frame(3, b"a") + more[1] + more[3] + frame(3, b"a")),
         ("tget t 6b", "34/0/1=?"),
         ("tgive t d", f"accepted 1 known 3 refused 1 below 0 full records {most}"),
         ("tget t 6b", "34/0/1=61"),
@@ -226,7 +268,7 @@ def is_damaged(name, write):
 
 
 def main():
-    cases = (long_values, many_branches, many_records, full_reader, long_bundle, longest_put, many_frames, many_wanted, wide_proof)
+    cases = (long_values, many_branches, many_records, many_updates, wide_reader, full_reader, long_bundle, longest_put, many_frames, many_wanted, wide_proof)
     results = [plays(case.__name__, *case()) for case in cases]
     results += [is_damaged(write.__name__, write) for write in (too_many_records, too_many_bytes)]
     sys.exit(0 if all(results) else 1)

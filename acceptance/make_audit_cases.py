@@ -7,10 +7,10 @@ They are told as those of make_node_cases.py and make_replays.py are. A trace is
 number of records then, the key, and the writes that it listed, each by its update's id and what was shown of it.
 """
 
-from make_cases import ZEROS, frame, sha, u, update
+from make_cases import ZEROS, Signer, frame, roster, sha, u, update
 from make_node_cases import END, LISTED, NINE, ONE, TWO, X, Y, Case, Node, Update, fresh, journal, script, words
 from texts import body_in, whole
-from make_replays import REJOIN, members, play, refuse
+from make_replays import REFUSED_ONE, REJOIN, TOOK_ONE, UNWANTED, members, play, raw, refuse, sign
 
 HELD, LACKS, GONE = b"\1", b"\0", b"\2"
 
@@ -155,6 +155,8 @@ def forks():
     one.convict("SameNumber", x, y)
     audit("a_convicted_node", trace(one, read(one, b"k")), trace(lost), line="no named 1 3", status=11)
     audit("a_conviction_of_no_node_handed_in", trace(one, read(one, b"k")))
+    # A wrong read is told first: it lists what its writer never put.
+    audit("a_wrong_read_before_a_conviction", trace(one, read(one, b"k")), trace(again), line="no fjc 4 r1.0", status=11)
     # A read that lists a write which its writer never put, by the writer's own records.
     two = node()
     two.take(x)
@@ -186,11 +188,35 @@ def files():
     Case("words_audit_with_a_space").run(["audit", "ROSTER", "A B"], ["words"], 1)
 
 
+def many():
+    """As many traces as an audit may have: of each member of a roster of 32."""
+    signers = [Signer(number, bytes([number]) * 32, 2) for number in range(1, 33)]
+    listed = roster(*(signer.entry() for signer in signers))
+    nodes = [Told(signer, listed) for signer in signers]
+    nodes[31].take(nodes[0].put(b"k", b"a"))
+    reads = [[] for _ in nodes]
+    reads[31] = [read(nodes[31], b"k")]
+    names = [f"T{number}" for number in range(1, 33)]
+    for name, last, line, status in [("as_many_traces_as_may_be", reads[31][0], "yes", 0), ("the_last_of_as_many_traces", reads_nothing(nodes[31], b"k"), "no answer 32 0", 11)]:
+        traces = [trace(some, *told) for some, told in zip(nodes, reads[:31] + [[last]])]
+        Case("audit_" + name).data(ROSTER=listed, **dict(zip(names, traces))).run(["audit", "ROSTER", *names], [line], status)
+
+
 def replays():
     play("an_audit_of_a_fork_that_rejoined", members("node 1", "node 2", "faulty 9"), REJOIN + [("audit", "yes")])
     play("audits_between_events", members("node 3", "node 1"), [
         ("audit", "yes"), ("get 1 6b", ""), ("put 3 6b 61", "0/1"), ("get 3 6b", "3/0/1=61"), ("audit", "yes"), ("stop 3 1 1", "armed"), ("audit", "yes"),
         ("put 3 6b 62", "stopped records 2"), ("get 3 6b", "3/0/1=61"), ("restart 3", "records 2"), ("get 3 6b", "3/0/1=61"), ("audit", "yes")])
+    # The plain scheme signs nothing: anybody makes a statement of node 1, with its root.
+    forged = raw("z", frame(2, sign(1, 0, update(1, 0, 1, ZEROS, b"k", b"z"))))
+    play("an_audit_of_what_a_node_never_put", members("node 3", "node 2", "node 1"), [
+        forged, ("get 2 6b", ""), ("give 2 z", TOOK_ONE), ("get 2 6b", "1/0/1=?"), ("audit", "no fjc 4 r2.1"), ("give 3 z", TOOK_ONE), ("get 3 6b", "1/0/1=?"),
+        ("audit", "no fjc 4 r2.1"), ("restart 2", "records 2"), ("audit", "no fjc 4 r2.1")])
+    play("an_audit_of_a_conviction_that_names_a_node", members("node 3", "node 1", "node 2"), [
+        ("put 1 6b 61", "0/1"), ("hello 2 a", "convicted 0 leaves 0 wanted 0"), ("bundle 1 a b", "proofs 0 vouchers 0 updates 1 values 1 whole"),
+        ("give 2 b", "accepted 2 known 0 refused 0 whole"), ("audit", "yes"), forged, ("give 2 z", REFUSED_ONE, "refused 0 11 Forked SameNumber"),
+        ("audit", "no named 2 3"), ("give 3 z", TOOK_ONE), ("give 3 b", "accepted 0 known 0 refused 2 whole", "refused 0 11 Forked SameNumber", UNWANTED),
+        ("get 3 6b", "1/0/1=?"), ("audit", "no fjc 4 r3.0")])
     refuse("an_audit_of_a_node", ["depot schedule 1", "scheme plain 4", "node 1", "audit 1"], 4, "Fields")
 
 
@@ -200,6 +226,7 @@ def main():
     records()
     forks()
     files()
+    many()
     replays()
 
 

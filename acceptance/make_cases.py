@@ -286,7 +286,7 @@ def scans_of_several_keys():
 def words():
     for name, args in {
         "words_none": [],
-        "words_help": ["--help"],
+        "words_help": ["help", "scan"],
         "words_too_few": ["scan", "LOG"],
         "words_too_many": ["scan", "LOG", "6b", "6b"],
         "words_key_in_capitals": ["scan", "LOG", "6B"],

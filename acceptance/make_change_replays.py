@@ -96,7 +96,13 @@ SHARED = [
     # The frames of its statement and of its two values.
     ("cut l x 0 100000", f"{5 + SIGNED_FOUR + 6 + 6} bytes"),
     ("give 2 x", "accepted 2 known 1 refused 0 bare"),
-    ("give 3 x", "accepted 3 known 0 refused 0 bare"),
+    # Each value stands where it is first needed: the front that ends behind one value has that of the first key.
+    ("cut f x 0 %d" % (5 + SIGNED_FOUR + 6), f"{5 + SIGNED_FOUR + 6} bytes"),
+    ("give 3 f", TOOK),
+    ("get 3 6b", "9/0/1=62"),
+    ("get 3 6c", "9/0/1=?"),
+    ("get 3 6d", "9/0/1=62"),
+    ("give 3 x", "accepted 1 known 2 refused 0 bare"),
     ("give 3 x", "accepted 0 known 3 refused 0 bare"),
     ("get 3 6b", "9/0/1=62"),
     ("get 3 6c", "9/0/1=61"),

@@ -786,7 +786,7 @@ def main():
     refuse("a_height_of_one", ["depot schedule 1", "scheme plain 1", "node 1"], 2, "Number")
     refuse("no_node", members(), 3, "Header")
     refuse("an_unknown_event", members("node 1") + ["leave 1"], 4, "Word")
-    play("as_many_correct_nodes_as_may_be", members(*(f"node {n}" for n in range(1, 33))), [("put 32 6b 61", "0/1"), ("get 32 6b", "32/0/1=61")])
+    play("as_many_correct_nodes_as_may_be", members(*(f"node {n}" for n in range(1, 33))), [("put 32 6b 61", "0/1"), ("get 32 6b", "32/0/1=61"), ("audit", "yes")])
     refuse("a_correct_node_too_many", members(*(f"node {n}" for n in range(1, 34))), 35, "Header")
     play("as_many_members_as_may_be", members("node 1", *(f"faulty {n}" for n in range(2, 257))), ONE)
     refuse("a_member_too_many", members("node 1", *(f"faulty {n}" for n in range(2, 258))), 259, "Header")

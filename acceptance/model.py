@@ -584,6 +584,7 @@ class World:
         self.members = Members(scheme, int(height), [int(number) for _, number in nodes])
         self.nodes = {int(number): Node(int(number), self.members) for kind, number in nodes if kind == "node"}
         self.bytes, self.signed, self.plain, self.known, self.readers = {}, {}, set(), {}, {}
+        self.reads = {number: [] for number in self.nodes}
 
     def play(self):
         """The lines of the transcript."""
@@ -616,6 +617,7 @@ class World:
         return self.nodes[int(node)].put(changes_of(writes))
 
     def get(self, node, key):
+        self.reads[int(node)].append([x.id for x in self.nodes[int(node)].latest(bytes.fromhex(key))])
         return self.nodes[int(node)].read(bytes.fromhex(key))
 
     def hello(self, node, label):
@@ -653,8 +655,9 @@ class World:
         return self.readers[name].read(bytes.fromhex(key)) if name in self.readers else ""
 
     def audit(self):
-        """Correct nodes keep the promises, but for texts with one SHA-256."""
-        return "yes"
+        """What is found, but for texts with one SHA-256: correct nodes keep the promises, unless somebody signs with the key of one."""
+        from audit_model import found_between
+        return found_between([(self.nodes[number], self.reads[number]) for number in sorted(self.nodes)])
 
     def restart(self, node):
         self.nodes[int(node)].restart()

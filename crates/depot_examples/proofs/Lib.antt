@@ -1,0 +1,16 @@
+mod FindingExamples
+pub mod TopLeaves
+mod LatestOfEachExamples
+mod ReadExamples
+mod ConvictionExamples
+mod NamedValueExamples
+mod BranchExamples
+mod FirstFoundExamples
+mod TrueReceiptExamples
+mod BelowExamples
+mod RejoinExamples
+mod HollowWorld
+mod SeveralKeysWorld
+pub mod SettledWorld
+pub mod TrimmedWorld
+pub mod ReadersShow
