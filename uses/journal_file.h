@@ -3,7 +3,12 @@
  * It makes the calls on the file that the program's disk makes, in their order (docs/FORMATS.md), so that `depot node` goes on
  * from this file and this from the program's, never both at one time: the lock sees to that. A call that a signal interrupted
  * is made again. Each function gives 0, or -1 where a call failed; errno says why. Then the file is touched no more: use no
- * answer that came since the last journal_keep, end the node, and start again from the file. */
+ * answer that came since the last journal_keep, end the node, and start again from the file.
+ *
+ *     journal_open, journal_read, depot_start of what was read; then journal_keep after the start and each call that may add records
+ *
+ * A file whose records nobody read is never written: journal_keep fails with EINVAL before journal_read. Nothing here knows
+ * whether the file is the node's newest: tools/guard.py does, and the Python caller uses it. */
 #ifndef JOURNAL_FILE_H
 #define JOURNAL_FILE_H
 #include "depot.h"
@@ -19,7 +24,7 @@
 
 struct journal {
     int file;           /* open and locked */
-    int is_stopped;     /* a call failed */
+    int is_read;        /* the records that it has are known, and no call failed since */
     uint64_t gate;      /* where the closed gate stands, behind the records that are kept */
     uint64_t kept;      /* how many these are */
 };
@@ -62,6 +67,18 @@ static int journal_open(struct journal *j, const char *folder)
     return done;
 }
 
+/* Finds the closed gate, and counts the records before it. Whether the file is whole: from a damaged one no node starts. */
+static int journal_is_whole(struct journal *j, const uint8_t *bytes, size_t size)
+{
+    for (j->gate = 0, j->kept = 0; j->gate < size && bytes[j->gate] == 1; j->kept++) {
+        const uint8_t *length = bytes + j->gate + 1;
+        if (size - j->gate < 6)
+            return 0;
+        j->gate += 5 + ((uint64_t)length[0] << 24 | (uint64_t)length[1] << 16 | (uint64_t)length[2] << 8 | length[3]);
+    }
+    return j->gate < size || !size;
+}
+
 /* The bytes that a start takes, which the caller frees. A file of at most one byte has no records, and gets a closed gate. */
 static int journal_read(struct journal *j, uint8_t **bytes, size_t *size)
 {
@@ -80,16 +97,10 @@ static int journal_read(struct journal *j, uint8_t **bytes, size_t *size)
             return -1;
         at += (size_t)n;
     }
-    return *size ? 0 : journal_write(j->file, (const uint8_t *)"", 1, 0) || journal_sync(j->file) ? -1 : 0;
-}
-
-/* Finds the closed gate in bytes that a node was started from: the start said that they are no damaged file. */
-static void journal_started(struct journal *j, const uint8_t *bytes, size_t size)
-{
-    for (j->gate = 0, j->kept = 0; j->gate < size && bytes[j->gate] == 1; j->kept++) {
-        const uint8_t *length = bytes + j->gate + 1;
-        j->gate += 5 + ((uint64_t)length[0] << 24 | (uint64_t)length[1] << 16 | (uint64_t)length[2] << 8 | length[3]);
-    }
+    if (!*size && (journal_write(j->file, (const uint8_t *)"", 1, 0) || journal_sync(j->file)))
+        return -1;
+    j->is_read = journal_is_whole(j, *bytes, *size);
+    return 0;
 }
 
 /* One record: its length, its text and a closed gate behind the closed gate; then that gate is opened. */
@@ -112,8 +123,10 @@ static int journal_append(struct journal *j, void *node)
 /* Appends the records that the node has and the file lacks. It takes the node's last answer: copy out of it before. */
 static int journal_keep(struct journal *j, void *node)
 {
-    for (uint64_t count = depot_count(node); !j->is_stopped && j->kept < count;)
-        j->is_stopped = depot_record(node, j->kept) != DEPOT_DONE || journal_append(j, node);
-    return j->is_stopped ? -1 : 0;
+    if (!j->is_read)
+        return errno = EINVAL, -1;
+    for (uint64_t count = depot_count(node); j->is_read && j->kept < count;)
+        j->is_read = depot_record(node, j->kept) == DEPOT_DONE && !journal_append(j, node);
+    return j->is_read ? 0 : -1;
 }
 #endif

@@ -1,4 +1,5 @@
-/* Two nodes in one process: they put, exchange, meet a fork and judge it. One keeps its journal in a file, the other in memory.
+/* Two nodes in one process: they put, exchange, give a receipt, sign a checkpoint, meet a fork and judge it. One keeps its
+ * journal in a file, the other in memory.
  * usage: two_nodes ROSTER SEED1 SEED2 HEIGHT FOLDER (seeds in hex; the folder has no journal yet) */
 #define _POSIX_C_SOURCE 200809L
 #define _DEFAULT_SOURCE
@@ -61,7 +62,6 @@ static void start(void *node, unsigned number, struct journal *j, const char *fo
     if (journal_open(j, folder) || journal_read(j, &bytes, &size))
         exit(4);
     must(node, depot_start(node, number, bytes, size));
-    journal_started(j, bytes, size);
     free(bytes);
     if (journal_keep(j, node))
         exit(4);
@@ -103,12 +103,30 @@ static void exchange(void *from, struct journal *sent, void *to, struct journal 
     free(bundle.at);
 }
 
+/* The number of some bytes, the highest first. */
+static unsigned long long number(const uint8_t *at, int size)
+{
+    unsigned long long n = 0;
+    while (size--)
+        n = n << 8 | *at++;
+    return n;
+}
+
+/* A write in the words of the program's lines: its writer, number and clock, and its value, if it has one that is held. */
+static void show_write(struct bytes write)
+{
+    printf(" %llu/%llu/%llu%s", number(write.at, 2), number(write.at + 2, 4), number(write.at + 6, 8),
+           write.at[14] == 0 ? "!" : write.at[14] == 2 ? "=?" : "=");
+    for (size_t at = 15; at < write.size; at++)
+        printf("%02x", write.at[at]);
+}
+
 static void show(void *node, const char *key)
 {
     printf("%s", key);
     for (uint64_t place = 0; stands(node, depot_latest(node, key, strlen(key), place)); place++) {
         struct bytes write = answer(node);
-        printf(" %s", (char *)write.at);
+        show_write(write);
         free(write.at);
     }
     printf("\n");
@@ -163,14 +181,25 @@ int main(int argc, char **argv)
     must(two, depot_start(two, 2, NULL, 0));
     told_put("one", one, &j, depot_put(one, "colorblue", 5, 9));
     told_put("two", two, NULL, depot_put(two, "colorgreen", 5, 10));
+    struct bytes green = answer(two); /* the id of that update */
     struct bytes copy = old_copy(one, 2);
-    told_put("one", one, &j, depot_puts(one, "61=31,62=32", 11)); /* a and b, at once */
+    uint8_t changes[32], *end = depot_change(depot_change(changes, "a", 1, "1", 1), "b", 1, "2", 1);
+    told_put("one", one, &j, depot_puts(one, 2, changes, (size_t)(end - changes))); /* a and b, at once */
     exchange(one, &j, two, NULL);
     exchange(two, NULL, one, &j);
     show(one, "color"); /* two: neither had seen the other */
     told_put("two", two, NULL, depot_put(two, "colorred", 5, 8));
-    told_put("two", two, NULL, depot_puts(two, "61!", 3)); /* a is deleted */
+    end = depot_change(changes, "a", 1, NULL, 0);
+    told_put("two", two, NULL, depot_puts(two, 1, changes, (size_t)(end - changes))); /* a is deleted */
     exchange(two, NULL, one, &j);
+    told_put("one", one, &j, depot_receipt(one, 1, green.at)); /* it holds what two put first */
+    must(one, depot_settled(one, 1, green.at));
+    printf("settled %s\n", depot_number(one) ? "yes" : "no");
+    must(one, depot_checkpoint(one));
+    struct bytes checkpoint = answer(one);
+    told_put("one", one, &j, DEPOT_DONE);
+    exchange(one, &j, two, NULL);
+    told_put("two", two, NULL, depot_sign(two, checkpoint.at, checkpoint.size));
     must(one, depot_end(one));
     close(j.file);
     start(one, 1, &j, argv[5]); /* again, from its file: the roster and the key are kept */
@@ -181,6 +210,8 @@ int main(int argc, char **argv)
     exchange(old, NULL, two, NULL);
     judge(two, roster);
     free(copy.at);
+    free(green.at);
+    free(checkpoint.at);
     depot_free(one);
     depot_free(two);
     depot_free(old);

@@ -1,4 +1,5 @@
-"""Two nodes in one process: they put, exchange, meet a fork and judge it. One keeps its records in a file, the other in a database.
+"""Two nodes in one process: they put, exchange, give a receipt, sign a checkpoint, meet a fork and judge it. One
+keeps its records in a file, the other in a database.
 
     python3 two_nodes.py LIBRARY ROSTER SEED1 SEED2 HEIGHT FOLDER
 """
@@ -8,32 +9,21 @@ import sys
 import depot
 
 
-class Table:
-    """Records in a table of a database: each is committed before a call answers."""
+class Table(depot.Journal):
+    """Records in a table of a database: those of a call are committed together before it answers."""
 
     def __init__(self, base, name):
         self.base, self.name = base, name
         with base:
             base.execute("create table if not exists %s (place integer primary key, record blob)" % name)
 
-    def records(self):
-        return [row[0] for row in self.base.execute("select record from %s order by place" % self.name)]
+    def load(self):
+        records = [row[0] for row in self.base.execute("select record from %s order by place" % self.name)]
+        return depot.file_of(records) if records else b""
 
-    def keep(self, record):
+    def keep(self, records):
         with self.base:
-            self.base.execute("insert into %s (record) values (?)" % self.name, (record,))
-
-
-def from_file(lib, folder, *who):
-    """A node whose journal is the file of a folder."""
-    kept = depot.JournalFile(folder)
-    return depot.Node(lib, *who, file=kept.bytes, count=len(kept.records()), keep=kept.keep), kept
-
-
-def from_table(lib, table, *who):
-    """A node whose records stand in a table."""
-    records = table.records()
-    return depot.Node(lib, *who, file=depot.file_of(records) if records else b"", count=len(records), keep=table.keep)
+            self.base.executemany("insert into %s (record) values (?)" % self.name, [(it,) for it in records])
 
 
 def told(who, answer):
@@ -51,31 +41,40 @@ def show(node, key):
 
 def main(library, roster, one_seed, two_seed, height, folder):
     lib = depot.load(library)
-    with open(roster, "rb") as file:
-        roster = file.read()
+    with open(roster, "rb") as text:
+        roster = text.read()
     one_is = roster, bytes.fromhex(one_seed), int(height), 1
     two_is = roster, bytes.fromhex(two_seed), int(height), 2
     table = Table(sqlite3.connect(":memory:"), "two")
-    one, kept = from_file(lib, folder, *one_is)
-    two = from_table(lib, table, *two_is)
+    file = depot.JournalFile(folder, roster, 1, is_first=True)  # a service names its seed's file, too
+    one = depot.Node(lib, *one_is, file)
+    two = depot.Node(lib, *two_is, table)
     told("one", one.put(b"color", b"blue"))
-    told("two", two.put(b"color", b"green"))
+    green = two.put(b"color", b"green")
+    told("two", green)
     copy = one.records()
     told("one", one.puts({b"a": b"1", b"b": b"2"}))
     exchange(one, two)
     exchange(two, one)
     show(one, b"color")  # two: neither had seen the other
     two.close()
-    two = from_table(lib, table, *two_is)  # again, from its records
+    two = depot.Node(lib, *two_is, table)  # again, from its records
     told("two", two.put(b"color", b"red"))
     told("two", two.puts({b"a": None}))  # a is deleted
     exchange(two, one)
+    told("one", one.receipt([green[0]]))  # it holds what two put first
+    print("settled", "yes" if one.settled(green[0], 1) else "no")
+    checkpoint = one.checkpoint()
+    told("one", checkpoint)
+    exchange(one, two)
+    told("two", two.sign(checkpoint[0]))
     one.close()
-    kept.close()
-    one, kept = from_file(lib, folder, *one_is)  # again, from its file
+    file.close()
+    file = depot.JournalFile(folder, roster, 1)
+    one = depot.Node(lib, *one_is, file)  # again, from its file
     show(one, b"color")
     show(one, b"a")
-    old = depot.Node(lib, *one_is, file=depot.file_of(copy))  # node one from an old copy of its journal: a fork
+    old = depot.Node(lib, *one_is, depot.Forgetful(depot.file_of(copy)))  # node one from an old copy of its journal: a fork
     told("old", old.put(b"color", b"black"))
     exchange(old, two)
     for record in two.records():
@@ -83,7 +82,7 @@ def main(library, roster, one_seed, two_seed, height, folder):
             print("judged %d: node %d, kind %d" % depot.judge(lib, roster, record[1:]))
     for node in (one, two, old):
         node.close()
-    kept.close()
+    file.close()
 
 
 main(*sys.argv[1:])

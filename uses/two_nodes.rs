@@ -1,4 +1,5 @@
-//! Two nodes in one process: they put, exchange, meet a fork and judge it. Their records stay in memory.
+//! Two nodes in one process: they put, exchange, give a receipt, sign a checkpoint, meet a fork and judge it. Their
+//! records stay in memory.
 //! usage: two_nodes ROSTER SEED1 SEED2 HEIGHT (seeds in hex)
 mod depot;
 use depot::{Handle, Op, Refused, judge};
@@ -29,10 +30,23 @@ fn node(roster: &[u8], seed: &[u8], height: u64) -> Result<Handle, Refused> {
     Ok(node)
 }
 
-fn put(who: &str, node: &mut Handle, op: Op, number: u64, input: &[u8]) -> Done {
-    node.ask(op, number, input)?;
+/// Asks for what puts an update, and gives the bytes of the answer.
+fn put(who: &str, node: &mut Handle, op: Op, number: u64, input: &[u8]) -> Result<Vec<u8>, Refused> {
+    let told = node.ask(op, number, input)?;
     println!("{who} put {}/{}", node.number(Op::Seq), node.number(Op::Number));
-    Ok(())
+    Ok(told)
+}
+
+/// A change in bytes: a value of a key, or none, which deletes it.
+fn change(key: &str, value: Option<&str>) -> Vec<u8> {
+    let mut bytes = (key.len() as u16).to_be_bytes().to_vec();
+    bytes.extend(key.as_bytes());
+    bytes.push(value.is_some().into());
+    if let Some(value) = value {
+        bytes.extend((value.len() as u32).to_be_bytes());
+        bytes.extend(value.as_bytes());
+    }
+    bytes
 }
 
 fn text(bytes: &[u8]) -> String {
@@ -40,10 +54,10 @@ fn text(bytes: &[u8]) -> String {
 }
 
 /// What stands at the place that was asked for, if something does.
-fn there(asked: Result<Vec<u8>, Refused>) -> Result<Option<String>, Refused> {
+fn there(asked: Result<Vec<u8>, Refused>) -> Result<Option<Vec<u8>>, Refused> {
     const ABSENT: u64 = 13;
     match asked {
-        Ok(bytes) => Ok(Some(text(&bytes))),
+        Ok(bytes) => Ok(Some(bytes)),
         Err(Refused(ABSENT, _)) => Ok(None),
         Err(refused) => Err(refused),
     }
@@ -59,16 +73,32 @@ fn exchange(from: &mut Handle, to: &mut Handle) -> Done {
     println!("{}", text(&to.ask(Op::FeedEnd, 0, &[])?));
     let mut place = 0;
     while let Some(refusal) = there(to.ask(Op::Refusal, place, &[]))? {
-        println!("{refusal}");
+        println!("{}", text(&refusal));
         place += 1;
     }
     Ok(())
 }
 
+/// The number of some bytes, the highest first.
+fn number(bytes: &[u8]) -> u64 {
+    bytes.iter().fold(0, |n, byte| n << 8 | u64::from(*byte))
+}
+
+/// A write in the words of the program's lines: its writer, number and clock, and its value, if it has one that is held.
+fn words(write: &[u8]) -> String {
+    let value: String = write[15..].iter().map(|byte| format!("{byte:02x}")).collect();
+    let told = match write[14] {
+        0 => "!".to_string(),
+        2 => "=?".to_string(),
+        _ => format!("={value}"),
+    };
+    format!("{}/{}/{}{told}", number(&write[..2]), number(&write[2..6]), number(&write[6..14]))
+}
+
 fn show(node: &mut Handle, key: &str) -> Done {
     let mut writes = Vec::new();
     while let Some(write) = there(node.ask(Op::Latest, writes.len() as u64, key.as_bytes()))? {
-        writes.push(write);
+        writes.push(words(&write));
     }
     println!("{key} {}", writes.join(" "));
     Ok(())
@@ -85,15 +115,21 @@ fn main() -> Done {
     one.ask(Op::Start, 1, &[])?;
     two.ask(Op::Start, 2, &[])?;
     put("one", &mut one, Op::Put, 5, b"colorblue")?;
-    put("two", &mut two, Op::Put, 5, b"colorgreen")?;
+    let green = put("two", &mut two, Op::Put, 5, b"colorgreen")?;
     let copy = file_of(&one.records()?);
-    put("one", &mut one, Op::Puts, 0, b"61=31,62=32")?; // a and b, at once
+    put("one", &mut one, Op::Puts, 2, &[change("a", Some("1")), change("b", Some("2"))].concat())?; // at once
     exchange(&mut one, &mut two)?;
     exchange(&mut two, &mut one)?;
     show(&mut one, "color")?; // two: neither had seen the other
     put("two", &mut two, Op::Put, 5, b"colorred")?;
-    put("two", &mut two, Op::Puts, 0, b"61!")?; // a is deleted
+    put("two", &mut two, Op::Puts, 1, &change("a", None))?; // a is deleted
     exchange(&mut two, &mut one)?;
+    put("one", &mut one, Op::Receipt, 1, &green)?; // it holds what two put first
+    one.ask(Op::Settled, 1, &green)?;
+    println!("settled {}", if one.number(Op::Number) == 1 { "yes" } else { "no" });
+    let checkpoint = put("one", &mut one, Op::Checkpoint, 0, &[])?;
+    exchange(&mut one, &mut two)?;
+    put("two", &mut two, Op::Sign, 0, &checkpoint)?;
     let kept = file_of(&one.records()?);
     one.ask(Op::End, 0, &[])?;
     one.ask(Op::Start, 1, &kept)?; // again: the roster and the key are kept

@@ -1,170 +1,27 @@
-"""The runner `tools/node.py`, over a stand-in for the program: which journals it refuses, and how a script goes on."""
+"""The runner `tools/node.py`, over a stand-in for the program: how a script goes on, and what is said of faults."""
 
 import fcntl
 import os
 import shutil
 import subprocess
-import sys
-import tempfile
-import types
+import time
 import unittest
+from unittest import mock
 
-HERE = os.path.dirname(os.path.abspath(__file__))
-TOOLS = os.path.join(HERE, os.pardir)
-sys.path.insert(0, TOOLS)
-import formats as f  # noqa: E402
-import node  # noqa: E402
+from cases import f
+from runs import SCRIPT, TOLD, Runs
 
-SCRIPT = "put 6b 61\nget 6b\nput 6c 62\nput 6d 63\nget 6d\n"
-TOLD = "put 6b -> 0/1\nget 6b -> nothing\nput 6c -> 1/2\nput 6d -> 2/3\nget 6d -> nothing\n"
+import node
+from guard import is_locked
 
 
-class Runs(unittest.TestCase):
-    def setUp(self):
-        room = tempfile.TemporaryDirectory()
-        self.addCleanup(room.cleanup)
-        self.room = room.name
-        self.write("roster", f.roster_text([f.Member(1, 8, bytes(32))]))
-        self.write("seed", b"01" * 32 + b"\n")
-        self.write("script", SCRIPT.encode())
-        os.mkdir(self.path("one"))
-
-    def path(self, *names):
-        return os.path.join(self.room, *names)
-
-    def write(self, name, data):
-        with open(self.path(name), "wb") as file:
-            file.write(data)
-
-    def begin_anew(self):
-        shutil.rmtree(self.path("one"))
-        os.mkdir(self.path("one"))
-        if os.path.exists(self.path("seed.node-1.kept")):
-            os.remove(self.path("seed.node-1.kept"))
-
-    def journal(self):
-        with open(self.path("one", "depot.journal"), "rb") as file:
-            return file.read()
-
-    def words(self, *options, script="script", folder="one", roster="roster", id="1"):
-        words = [sys.executable, "-B", os.path.join(TOOLS, "node.py"), "--folder", self.path(folder)]
-        words += ["--program", os.path.join(HERE, "stand_in.py"), *options]
-        return words + [self.path(roster), self.path("seed"), id, self.path(script)]
-
-    def run_node(self, *options, stop="", **names):
-        """A run of the runner; its status, what it printed, and what it said."""
-        pipes = {"stdout": subprocess.PIPE, "stderr": subprocess.PIPE}
-        ran = subprocess.run(self.words(*options, **names), env=dict(os.environ, STOP=stop), **pipes)
-        return ran.returncode, ran.stdout.decode(), ran.stderr.decode()
-
-    def refused(self, why, *options, **more):
-        status, out, errors = self.run_node(*options, **more)
-        self.assertEqual((status, out), (71, ""))
-        self.assertIn(why, errors)
-        self.assertNotIn("Traceback", errors)
-
-    def puts(self):
-        return [it.seq for it in f.updates_of(f.read_journal(self.journal()).records)]
-
-
-class Journals(Runs):
-    def test_a_first_run_wants_to_be_told(self):
-        self.refused("takes --first")
-        self.assertEqual(self.run_node("--first")[:2], (0, TOLD))
-        self.refused("is there already", "--first")
-
-    def test_a_journal_that_is_gone(self):
-        self.run_node("--first")
-        os.remove(self.path("one", "depot.journal"))
-        for options in ((), ("--first",)):
-            self.refused("a lost journal", *options)
-
-    def test_a_folder_that_is_set_back_whole(self):
-        self.run_node("--first")
-        shutil.copytree(self.path("one"), self.path("backup"))
-        self.run_node()
-        for options in ((), ("--check",)):
-            self.refused("seed.node-1.kept it had", *options, folder="backup")
-        self.assertEqual(self.run_node()[0], 0)
-
-    def test_a_first_run_in_another_folder(self):
-        self.run_node("--first")
-        os.mkdir(self.path("two"))
-        self.refused("seed.node-1.kept the node had one", "--first", folder="two")
-        self.assertEqual(os.listdir(self.path("two")), [])
-
-    def test_a_seed_from_a_pipe_has_nothing_beside_it(self):
-        command = 'cat "$0" | "$@" | cat'
-        words = [it if it != self.path("seed") else "/dev/stdin" for it in self.words("--first")]
-        subprocess.run(["bash", "-c", command, self.path("seed"), *words], stdout=subprocess.PIPE)
-        self.assertEqual((self.puts(), os.path.exists(self.path("seed.node-1.kept"))), ([0, 1, 2], False))
-
-    def test_a_check(self):
-        self.refused("there is no", "--check")
-        self.assertEqual(os.listdir(self.path("one")), [])
-        self.run_node("--first")
-        self.assertEqual(self.run_node("--check")[:2], (0, "the journal is good: %d bytes, 3 own updates\n" % (len(self.journal()) - 1)))
-        told = subprocess.run(self.words("--check")[:-4], stdout=subprocess.PIPE).stdout
-        self.assertIn(b"good by its folder", told)
-        os.remove(self.path("seed.node-1.kept"))
-        os.remove(self.path("one", "depot.journal.kept"))
-        self.assertIn("nothing was kept", self.run_node("--check")[1])
-
-    def test_a_file_that_is_no_journal(self):
-        self.write("one/depot.journal", b"my notes")
-        self.refused("doesn't begin with 01")
-
-    def test_an_old_copy(self):
-        self.run_node("--first")
-        old = self.journal()
-        self.run_node()
-        self.write("one/depot.journal", old)
-        self.refused("an old copy")
-
-    def test_a_closed_gate(self):
-        self.run_node("--first")
-        last = f.read_journal(self.journal()).records[-1].gate
-        self.write("one/depot.journal", self.journal()[:last] + b"\0" + self.journal()[last + 1 :])
-        self.refused("a damaged gate")
-
-    def test_another_journal(self):
-        self.run_node("--first")
-        other = bytearray(self.journal())
-        other[20] ^= 1
-        self.write("one/depot.journal", bytes(other))
-        self.refused("isn't the journal that was here")
-
-    def test_a_damaged_journal(self):
-        self.run_node("--first")
-        self.write("one/depot.journal", self.journal()[:-1])
-        self.refused("no whole record follows")
-
-    def test_a_second_run(self):
-        with open(self.path("one", "depot.journal.lock"), "w") as held:
-            fcntl.flock(held, fcntl.LOCK_EX)
-            self.refused("another run", "--first")
-
-    def test_files_of_the_node_itself(self):
-        os.symlink("depot.journal", self.path("one", "link"))
-        for name in ["depot.journal", "./depot.journal", "../one/depot.journal", "link", "depot.journal.kept", "../seed.node-1.kept"]:
-            self.write("bad", b"put 6b 61\nhello %s\n" % name.encode())
-            self.refused("which is the node's own", "--first", script="bad")
-
-    def test_files_that_nothing_may_store_over(self):
-        os.mkdir(self.path("two"))
-        stores = ["hello ../seed", "bundle ../h ../roster", "export ../bad", "checkpoint ../two/depot.journal"]
-        for line in stores + ["hello ../two/depot.journal.kept"]:
-            self.write("bad", line.encode() + b"\n")
-            self.refused("stores over", "--first", script="bad")
-        self.write("good", b"take ../seed\nbundle ../two/depot.journal ../out\nhello a\0b\n")
-        self.assertEqual(self.run_node("--first", script="good")[0], 0)
-
+class Words(Runs):
     def test_other_words(self):
         for id in ("0", "65536", "x", "\u0661", "01"):
             self.assertEqual(self.run_node("--first", id=id)[0], 1)
 
     def test_a_roster_without_the_node(self):
-        self.refused("has no node 2", "--first", id="2")
+        self.refused("has no node 3", "--first", id="3")
 
     def test_faults_name_their_file(self):
         self.write("bad", b"p")
@@ -223,22 +80,57 @@ class Scripts(Runs):
         for name in kept:
             shutil.copy(self.path(name), self.path(name + ".before"))
         self.write("other", b"put 7a 7a\n")
-        self.run_node(script="other")
+        self.assertEqual(self.run_node("--anew", script="other")[0], 0)
         for name in kept:
             os.replace(self.path(name + ".before"), self.path(name))
         self.refused("isn't the script's next put")
 
     def test_a_script_that_was_mended(self):
-        """It goes on where its first lines are those that were done, and says so where they aren't."""
+        """It goes on behind the lines that were done."""
         self.run_node("--first", stop="limit 3")
-        for mended, said, puts in [("get 6b\nput 6c 62\n", "another script than the one that stopped at line 3", [0, 1]),
-                                   ("put 6b 61\nget 6b\nput 6e 65\n", "goes on with line 3 of 3", [0, 1])]:
-            with self.subTest(mended=mended):
-                self.begin_anew()
-                self.run_node("--first", stop="limit 3")
-                self.write("mended", mended.encode())
-                status, _, errors = self.run_node(script="mended")
-                self.assertEqual((status, self.puts(), said in errors), (0, puts, True), errors)
+        self.write("mended", b"put 6b 61\nget 6b\nput 6e 65\n")
+        status, out, errors = self.run_node(script="mended")
+        self.assertEqual((status, out, self.puts()), (0, "put 6e -> 1/2\n", [0, 1]))
+        self.assertIn("goes on with line 3 of 3", errors)
+
+    def test_a_look_between_a_stop_and_the_next_run(self):
+        """It keeps the place of the script that stopped, so nothing is put twice."""
+        self.run_node("--first", stop="told 3")
+        self.write("look", b"take ../absent\nget 6b\nhello ../hello\nbundle ../hello ../out\n")
+        for _ in range(2):
+            self.assertEqual(len(self.run_node(script="look")[1].splitlines()), 4)
+        self.assertEqual(self.run_node(script="look", stop="told 2")[0], 137)
+        self.assertEqual(self.run_node()[:2], (0, "".join(TOLD.splitlines(True)[3:])))
+        self.assertEqual(self.puts(), [0, 1, 2])
+
+    def test_a_second_script_in_front_of_one_that_stopped(self):
+        """It is refused, whatever it puts, but with --anew."""
+        self.run_node("--first", stop="told 3")
+        for line in ("put 6b 61", "puts 6b=61,6c!", "receipt " + "0a" * 32, "checkpoint ../c", "sign ../c"):
+            self.write("second", line.encode() + b"\n")
+            self.changes_no_note("another script stopped at line 4", script="second")
+        self.write("second", b"put 7a 7a\n")
+        self.assertEqual(self.run_node("--anew", script="second")[:2], (0, "put 7a -> 2/3\n"))
+        self.assertEqual(self.run_node()[1].splitlines()[0], "put 6b -> 3/4")
+
+    def test_a_look_that_an_earlier_version_gave_a_place(self):
+        self.write("look", b"get 6b\nget 6c\n")
+        self.run_node("--first")
+        mark = f.sha256(self.read("look")).hex()
+        for name, text in self.notes().items():
+            self.write(name, text.replace(b"script -", b"script " + mark.encode()).replace(b"done 0", b"done 1"))
+        self.changes_no_note("another script stopped at line 2")
+        self.assertEqual(len(self.run_node(script="look")[1].splitlines()), 2)
+        self.assertEqual(self.run_node()[0], 0)
+
+    def test_a_second_script_behind_one_that_did_nothing(self):
+        self.run_node("--first", stop="told 1", script="script")
+        self.write("faulty", b"put\n")
+        self.run_node("--anew", script="faulty", stop="fault 1")
+        self.assertEqual(self.run_node()[:2], (0, "".join(TOLD.splitlines(True)[1:])))
+        self.write("one script", b"put 61 61\n")
+        self.assertEqual(self.run_node(script="one script", stop="limit 1")[0], 8)
+        self.assertEqual(self.run_node()[:2][0], 0)
 
     def test_a_script_of_nothing_keeps_the_place(self):
         self.run_node("--first", stop="told 3")
@@ -269,6 +161,56 @@ class Scripts(Runs):
         self.assertEqual(self.run_node(stop="fault 2")[1], "input %s line 4 Hex\n" % self.path("script"))
         self.write("bytes", b"put 6b 61\nhello \xff\n")
         self.assertEqual(self.run_node("--anew", script="bytes", stop="fault 2")[:2], (2, "input %s line 2 Hex\n" % self.path("bytes")))
+
+
+class Programs(Runs):
+    def test_one_that_tells_nothing(self):
+        """A program that is none of this repository ends with 0, and did no line."""
+        self.run_node("--first", stop="told 3")
+        before = self.notes()
+        words = self.words("--program", "/bin/true")
+        status, out, errors = self.run_words(words)
+        self.assertEqual((status, out, "told of 3 lines of 5: is it depot?" in errors), (71, "", True), errors)
+        self.assertEqual(self.notes(), before)
+
+    def test_one_that_goes_on_alone(self):
+        """The runner is killed while the program starts: no run begins before that ends, and its put isn't put again."""
+        with subprocess.Popen(self.words("--first"), env=dict(os.environ, STOP="slow 10"), stdout=subprocess.PIPE) as run:
+            self.wait_for(lambda: len(self.notes()) == 2)
+            time.sleep(0.3)
+            run.kill()
+        self.refused("another run works in the folder", "--first")
+        self.wait_for(lambda: not is_locked(self.path("one", "depot.journal.lock")))
+        self.assertEqual(self.puts(), [0])
+        self.assertEqual(self.run_node()[:2], (0, "".join(TOLD.splitlines(True)[1:])))
+        self.assertEqual(self.puts(), [0, 1, 2])
+
+    def wait_for(self, what):
+        """Waits until something holds, 20 seconds at most."""
+        end = time.monotonic() + 20
+        while not what() and time.monotonic() < end:
+            time.sleep(0.01)
+        self.assertTrue(what())
+
+    def test_no_thread(self):
+        """The program, which waits for its script, is ended; nothing was changed."""
+        with mock.patch("threading.Thread.start", side_effect=RuntimeError("can't start new thread")):
+            self.changes_no_note("can't be given its script: can't start new thread", "--first")
+        self.assertEqual(self.run_node("--first")[0], 0)
+
+    def test_no_memory(self):
+        with mock.patch("node.Script", side_effect=MemoryError):
+            self.refused("no memory was found", "--first")
+
+    def test_names_that_the_locale_lacks(self):
+        """A name is its bytes, as for the program."""
+        environ = dict(os.environ, LC_ALL="C", PYTHONUTF8="0", PYTHONCOERCECLOCALE="0")
+        self.write("script", "hello ../gr\u00fcn\nput 6b 61\n".encode())
+        for name, status in (("gr\u00fcn", 71), ("gr\u00fcnlich", 0)):
+            self.write(name, b"my notes")
+            ran = subprocess.run(self.words("--first"), env=environ, stdout=subprocess.PIPE, stderr=subprocess.PIPE)
+            self.assertEqual((ran.returncode, b"Traceback" in ran.stderr), (status, False), ran.stderr)
+            os.remove(self.path(name))
 
 
 class Causes(Runs):
@@ -308,50 +250,6 @@ class Causes(Runs):
         status, out, errors = self.run_node("--first", stop="disk 1")
         self.assertEqual((status, out), (4, "disk\n"))
         self.assertIn("depot.journal: a look at it finds no cause", errors)
-
-
-class Lines(unittest.TestCase):
-    """What a line puts, beside what an own update of the journal holds."""
-
-    def test_lines(self):
-        self.assertEqual(node.key_and_values("put 6b -"), [("6b", "")])
-        self.assertEqual(node.key_and_values("puts 61!,62=32,6c=-"), [("61", None), ("62", "32"), ("6c", "")])
-        self.assertEqual(node.key_and_values("receipt " + "0a" * 32), [((b"receipt:" + b"\n" * 32).hex(), "")])
-        for line in ["get 6b", "hello h", "put 6b", "puts", "", "settled " + "0a" * 32 + " 2"]:
-            self.assertIsNone(node.key_and_values(line))
-
-    def test_receipts_that_were_not_given(self):
-        def own(key):
-            return f.OwnPut(f.Update(1, 0, 1, f.NO_UPDATE, [f.Write(key, f.sha256(b""), 0)], [], f.sha256(), b""), [b""])
-
-        lines = ["receipt " + "0a" * 32, "get 6b", "receipt " + "0b" * 32, "put 6b -", "put 6c -"]
-        for keys, done in [([], 0), ([b"receipt:" + b"\x0b" * 32], 3), ([b"k"], 4), ([b"receipt:" + b"\x0a" * 32, b"k", b"l"], 5)]:
-            journal = types.SimpleNamespace(puts=[own(key) for key in keys])
-            self.assertEqual(node.place_in(lines, types.SimpleNamespace(done=0, puts=0), journal), done)
-        for key in (b"l", b"receipt:" + b"\x0c" * 32):
-            with self.assertRaises(node.Refused):
-                node.place_in(lines, types.SimpleNamespace(done=0, puts=0), types.SimpleNamespace(puts=[own(key)]))
-
-    def test_signatures(self):
-        def own(key, value):
-            return f.OwnPut(f.Update(1, 0, 1, f.NO_UPDATE, [f.Write(key, f.sha256(value), len(value))], [], f.sha256(), b""), [value])
-
-        text = own(f.checkpoint_key(b"text"), b"text")
-        lines = ["sign u", "trim u", "sign v", "put 6b -", "checkpoint w", "get 6b", "put 6c -"]
-        for puts, done in [([], 0), ([text], 1), ([own(b"k", b"")], 4), ([text, own(b"k", b"")], 4), ([text, text, own(b"k", b"")], 4),
-                           # A checkpoint whose line wasn't told of is made again, for its file; not where what follows it was put.
-                           ([own(b"k", b""), text], 4), ([own(b"k", b""), text, own(b"l", b"")], 7)]:
-            journal = types.SimpleNamespace(puts=puts)
-            self.assertEqual(node.place_in(lines, types.SimpleNamespace(done=0, puts=0), journal), done)
-        self.assertEqual(node.place_in(lines, types.SimpleNamespace(done=5, puts=1), types.SimpleNamespace(puts=[text])), 5)
-        for wrong in [own(f.checkpoint_key(b"text"), b"other"), own(b"checkpoint:", b"text"), own(b"l", b"")]:
-            with self.assertRaises(node.Refused):
-                node.place_in(lines[:5], types.SimpleNamespace(done=0, puts=0), types.SimpleNamespace(puts=[wrong]))
-
-    def test_several_writes(self):
-        writes = [f.Write(b"a", None, None), f.Write(b"b", f.sha256(b"2"), 1), f.Write(b"l", f.sha256(b""), 0)]
-        update = f.Update(1, 0, 1, f.NO_UPDATE, writes, [], f.sha256(), b"")
-        self.assertEqual(node.written_by(f.OwnPut(update, [b"2", b""])), node.key_and_values("puts 61!,62=32,6c=-"))
 
 
 if __name__ == "__main__":

@@ -34,7 +34,7 @@ def status_of(call, *words):
 def main(library, roster, seed, height, number):
     with open(roster, "rb") as file:
         roster = file.read()
-    node = depot.Node(depot.load(library), roster, bytes.fromhex(seed), int(height), int(number))
+    node = depot.Node(depot.load(library), roster, bytes.fromhex(seed), int(height), int(number), depot.Forgetful())
     for key, put, read in KEYS:
         count = len(node.records())
         told = status_of(node.put, key, b"v"), status_of(node.puts, {key: b"v"}), status_of(node.lines, key)

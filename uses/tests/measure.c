@@ -99,7 +99,6 @@ int main(int argc, char **argv)
     if (journal_open(&j, argv[3]) || journal_read(&j, &bytes, &size))
         return 4;
     must(depot_start(one, 1, bytes, size));
-    journal_started(&j, bytes, size);
     free(bytes);
     took = puts_of(one, count, &j);
     printf("%d puts on a file, with its syncs: %.3f s, %.0f a second\n", count, took, count / took);

@@ -33,7 +33,6 @@ int main(int argc, char **argv)
         return puts("disk"), 4;
     if (depot_start(node, (unsigned)atoi(argv[4]), bytes, size))
         return refused(node, "start");
-    journal_started(&j, bytes, size);
     free(bytes);
     if (journal_keep(&j, node))
         return puts("disk"), 4;

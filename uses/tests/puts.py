@@ -8,10 +8,8 @@ import depot  # noqa: E402
 library, roster, seed, height, number, folder, count = sys.argv[1:]
 with open(roster, "rb") as file:
     roster = file.read()
-kept = depot.JournalFile(folder)
-who = roster, bytes.fromhex(seed), int(height), int(number)
-node = depot.Node(depot.load(library), *who, file=kept.bytes, count=len(kept.records()), keep=kept.keep)
-for i in range(int(count)):
-    print("%d/%d" % node.put(b"k%d" % (i % 7), b"v%d" % i)[1:], flush=True)
-node.close()
-kept.close()
+is_first = not os.path.exists(os.path.join(folder, "depot.journal"))
+with depot.JournalFile(folder, roster, int(number), is_first=is_first) as journal:
+    with depot.Node(depot.load(library), roster, bytes.fromhex(seed), int(height), int(number), journal) as node:
+        for i in range(int(count)):
+            print("%d/%d" % node.put(b"k%d" % (i % 7), b"v%d" % i)[1:], flush=True)

@@ -40,7 +40,7 @@ class World:
     """Nodes of a roster, by the program in folders and by the library in this process, and the files that both have."""
 
     def __init__(self, lib, draw, room):
-        self.lib, self.draw, self.room, self.files, self.count = lib, draw, room, {}, 0
+        self.lib, self.draw, self.room, self.files, self.ids, self.count = lib, draw, room, {}, [], 0
         self.height = draw.choice([3, 5, 6, 7])
         self.numbers = draw.sample(range(1, 65536), 3)
         self.seeds = {number: draw.randbytes(32) for number in self.numbers}
@@ -59,7 +59,7 @@ class World:
         return os.path.join(self.room, "node%d" % number)
 
     def start(self, number, file):
-        return depot.Node(self.lib, self.roster, self.seeds[number], self.height, number, file=file)
+        return depot.Node(self.lib, self.roster, self.seeds[number], self.height, number, depot.Forgetful(file))
 
     def name(self, kind):
         self.count += 1
@@ -79,9 +79,15 @@ class World:
 
     def put_line(self, put):
         try:
-            return " %d/%d" % put()[1:], 0
+            update, seq, clock = put()
         except depot.Refused as refused:
-            return " " + refused.why, refused.status
+            return self.refusal(refused)
+        self.ids.append(update)
+        return " %d/%d" % (seq, clock), 0
+
+    def refusal(self, refused):
+        """What isn't there ends no script of the program."""
+        return " " + refused.why, 0 if refused.status == depot.ABSENT else refused.status
 
     def get(self, node):
         key = self.draw.choice(KEYS)
@@ -119,6 +125,34 @@ class World:
         told, refusals, why = node.feed(stream, self.draw.choice([1, 7, 1000, 100000]) if len(stream) < 3000 else 1000)
         return " " + told + "".join("\n" + line for line in refusals), why.status if why else 0
 
+    def some_id(self):
+        """The id of a late update, or now and then of none."""
+        return self.draw.choice(self.ids[-12:]) if self.ids and self.draw.random() < 0.95 else self.draw.randbytes(32)
+
+    def receipt(self, node):
+        update = self.some_id()
+        return "receipt " + update.hex(), "receipt %s ->" % update.hex(), lambda: self.put_line(lambda: node.receipt([update]))
+
+    def settled(self, node):
+        update, nodes = self.some_id(), self.draw.randint(1, 4)
+        words = "settled %s %d" % (update.hex(), nodes)
+        return words, words + " ->", lambda: (" yes" if node.settled(update, nodes) else " no", 0)
+
+    def checkpoint(self, node):
+        name = self.name("checkpoint")
+        return "checkpoint " + name, "checkpoint %s ->" % name, lambda: self.checkpoint_line(node, name)
+
+    def checkpoint_line(self, node, name):
+        try:
+            self.files[name], seq, clock = node.checkpoint()
+        except depot.Refused as refused:
+            return self.refusal(refused)
+        return " %d/%d" % (seq, clock), 0
+
+    def sign(self, node):
+        name = self.some_file("checkpoint")
+        return name and ("sign " + name, "sign %s ->" % name, lambda: self.put_line(lambda: node.sign(self.files[name])))
+
     # ---- scripts
 
     def spoil(self):
@@ -138,6 +172,7 @@ class World:
     def asked(self, node):
         """A command by chance: its words, and what the library does for it."""
         kinds = [(self.put, 4), (self.puts, 3), (self.get, 4), (self.hello, 3), (self.bundle, 4), (self.take, 5)]
+        kinds += [(self.receipt, 2), (self.settled, 2), (self.checkpoint, 1), (self.sign, 1)]
         command = None
         while not command:
             command = self.draw.choices([it[0] for it in kinds], [it[1] for it in kinds])[0](node)

@@ -98,23 +98,23 @@ def stops(caller, kind, whole):
 
 
 def calls(run):
-    """The calls on the file, as strace tells them: the lock, the syncs, and what is written where."""
+    """The calls on the file and its folder, as strace tells them: the lock, the syncs, and what is written where."""
     with tempfile.TemporaryDirectory() as room:
         log, folder, names = os.path.join(room, "log"), os.path.join(room, "node"), "flock|fsync|fdatasync|lseek|write|pwrite64"
         os.mkdir(folder)
-        run(folder, PUTS, before=["strace", "-f", "-xx", "-s", "100000", "-e", "trace=" + names.replace("|", ","), "-o", log])
+        run(folder, PUTS, before=["strace", "-f", "-y", "-xx", "-s", "100000", "-e", "trace=" + names.replace("|", ","), "-o", log])
         with open(log, encoding="utf-8") as file:
-            found = re.findall(r" (%s)\((\d+)(?:, )?(.*)\) += " % names, file.read())
-    journal_is, at, told = None, 0, []
-    for name, number, rest in found:
-        words = rest.split(", ")
-        if name == "flock":
-            journal_is = number
+            found = re.findall(r" (%s)\((\d+)<(.*?)>(?:, )?(.*)\) += " % names, file.read())
+    at, told = 0, []
+    for name, _, path, rest in found:
+        path, words = re.sub(r"\\x(..)", lambda byte: chr(int(byte.group(1), 16)), path), rest.split(", ")
+        if os.path.basename(path) not in (JOURNAL, "node"):
+            continue
         if name == "lseek":
             at = int(words[0])
-        elif name in ("write", "pwrite64") and number == journal_is:
+        elif name in ("write", "pwrite64"):
             told.append(("write", words[0], words[1], int(words[2]) if name == "pwrite64" else at))
-        elif name in ("flock", "fsync", "fdatasync"):
+        else:
             told.append((name, *words))
     return told
 
