@@ -5,12 +5,14 @@ says it. Numbers are big-endian. What is read here is in its form; no signature 
 """
 
 import hashlib
+from collections import Counter
 from typing import List, NamedTuple, Optional, Union
 
 MOST_NODES, LEAST_HEIGHT, GREATEST_HEIGHT = 256, 2, 17
 MOST_KEY, MOST_VALUE, MOST_WRITES, MOST_ENTRIES, MOST_IDS = 255, 65536, 16, 1024, 256
 MOST_BODY, MOST_SIGNATURE, MOST_HOLLOW = 47779, 8192, 65536
 MOST_LEAVES, MOST_WANTED = 4097, 1024
+MOST_RECORDS, MOST_JOURNAL = 131072, 1073741824
 MOST_PAYLOAD, MOST_FRAMES = 131072, 524288
 NO_UPDATE = bytes(32)
 PAIR_KINDS = {1: "SameNumber", 2: "SamePrev", 3: "Backward"}
@@ -416,6 +418,15 @@ def checkpoint_key(text: bytes) -> bytes:
     return b"checkpoint:" + sha256(text)
 
 
+def reserved_for(key: bytes) -> Optional[str]:
+    """What a key is reserved for, `receipt` or `checkpoint`: none of its kind is put by hand. None of another key.
+
+    Behind the word and a colon stands the id of the update that a receipt is for, or the hash of a checkpoint's text.
+    """
+    word, colon, digest = key.partition(b":")
+    return word.decode() if colon and word in (b"receipt", b"checkpoint") and len(digest) == 32 else None
+
+
 def answered_in(fields: Fields) -> Answered:
     id, mark = fields.digest("the id of a write"), fields.number(1, 0, 2, "the mark of a write")
     if mark != 1:
@@ -569,23 +580,28 @@ def history_hash(past: List[Update]) -> bytes:
     return sha256(*(number(2, it.writer) + number(8, it.clock) + it.id for it in leaves_of(past)))
 
 
-def past_of(ids: List[bytes], updates: dict) -> set:
-    """The ids of all updates that paths of parents from these ids lead through, these among them; updates by id."""
-    found, waiting = set(), list(ids)
-    while waiting:
-        at = waiting.pop()
-        if at in updates and at not in found:
-            found.add(at)
-            waiting += updates[at].parents
-    return found
+def latest_by_key(updates: List[Update]) -> dict:
+    """Of each key the updates that write it and precede no other that does, rising by clock, writer, seq and id.
 
-
-def latest_writes(key: bytes, updates: List[Update]) -> List[Update]:
-    """The updates that write the key and precede no other that does, rising by clock, writer, seq and id."""
-    by_id = {update.id: update for update in updates}
-    writing = [it for it in updates if any(write.key == key for write in it.writes)]
-    covered = past_of([parent for it in writing for parent in it.parents], by_id)
-    return sorted((it for it in writing if it.id not in covered), key=lambda it: (it.clock, it.writer, it.seq, it.id))
+    Parents stand before their children, as in each lawful journal. The past of an update is a number with a bit for each
+    update of it; it is kept until the last child was looked at, so that a journal of any length is gone through once.
+    """
+    ids = [update.id for update in updates]
+    due = Counter(parent for update in updates for parent in update.parents)
+    pasts, latest = {}, {}
+    for at, (id, update) in enumerate(zip(ids, updates)):
+        past = 0
+        for parent in update.parents:
+            past |= pasts.get(parent, 0)
+            due[parent] -= 1
+            if not due[parent]:
+                pasts.pop(parent, None)
+        for write in update.writes:
+            latest[write.key] = [it for it in latest.get(write.key, []) if not past >> it & 1] + [at]
+        if due[id]:
+            pasts[id] = past | 1 << at
+    order = lambda at: (updates[at].clock, updates[at].writer, updates[at].seq, ids[at])
+    return {key: [updates[at] for at in sorted(found, key=order)] for key, found in latest.items()}
 
 
 # ---- writing
@@ -611,3 +627,7 @@ def shown(data: bytes) -> str:
     if not is_plain_text(data):
         return data.hex()
     return '"%s"' % data.decode("utf-8").replace("\\", "\\\\").replace('"', '\\"')
+
+
+if __name__ == "__main__":
+    print(__doc__)

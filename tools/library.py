@@ -1,7 +1,7 @@
 #!/usr/bin/env python3
 """Builds the static library of `depot_c` over the libraries that a run of `rt ci` left in crates/*/out/rlib.
 
-Usage: library.py OUT
+    python3 tools/library.py OUT
 
 `rt lib` takes no library that `rt ci` made, and so proves them all once more. This proves `depot_c` alone, over those: it is for the gate, which
 has just made them of the same sources. Where one is lacking it ends with status 1, and builds nothing.
@@ -33,25 +33,37 @@ def below(crate, uses):
     return found
 
 
-def words(kit, uses, out):
-    """The compiler's words."""
+def words_over(crate, kit, uses, jobs):
+    """The compiler's words for a crate over the libraries that stand."""
     rlib = lambda name: ROOT / "crates" / name / "out/rlib" / f"{name}.rlib" if name in uses else kit / "rlibs" / f"{name}.rlib"
-    libraries = below(CRATE, uses)
+    libraries = below(crate, uses)
     lacking = [name for name in libraries if not rlib(name).is_dir()]
     if lacking:
-        sys.exit(f"library.py: no library {lacking[0]} stands: run rt ci first, or rt lib in crates/{CRATE}")
-    given = [word for name in ["std", *uses[CRATE]] for word in ("--extern", f"{name}={rlib(name)}")]
+        sys.exit(f"no library {lacking[0]} stands: run rt ci first, or rt lib in crates/{crate}")
+    given = [word for name in ["std", *uses[crate]] for word in ("--extern", f"{name}={rlib(name)}")]
     folders = [word for folder in [kit / "rlibs", *(rlib(name).parent for name in libraries)] for word in ("-L", f"dependency={folder}")]
-    logic = ["--antt-project", kit / "rattle/logic/antt-project.json", "--logic-built", kit / "logic_built", "--jobs", "4"]
-    kind = ["--crate-type", "staticlib", "--toolchain", kit / "toolchain", "--links", f"{CRATE}="]
-    return [kit / "bin/rattle", "build", "--crate-name", CRATE, "src/lib.rt", *given, *folders, *logic, *kind, "-o", out]
+    logic = ["--antt-project", kit / "rattle/logic/antt-project.json", "--logic-built", kit / "logic_built", "--jobs", jobs]
+    return [*given, *folders, *logic, "--links", f"{crate}="]
+
+
+def kit_folder():
+    """Where the kit stands."""
+    page = subprocess.run(["rt", "doc"], stdout=subprocess.PIPE, text=True, check=True).stdout.strip()
+    return Path(page).parent
+
+
+def words(kit, uses, out):
+    """The compiler's words for the static library."""
+    kind = ["--crate-type", "staticlib", "--toolchain", kit / "toolchain"]
+    return [kit / "bin/rattle", "build", "--crate-name", CRATE, "src/lib.rt", *words_over(CRATE, kit, uses, "4"), *kind, "-o", out]
 
 
 def main():
-    if len(sys.argv) != 2:
-        sys.exit(__doc__)
-    page = subprocess.run(["rt", "doc"], stdout=subprocess.PIPE, text=True, check=True).stdout.strip()
-    ran = subprocess.run(words(Path(page).parent, uses_of_crates(), Path(sys.argv[1]).resolve()), cwd=ROOT / "crates" / CRATE)
+    if len(sys.argv) != 2 or sys.argv[1].startswith("-"):
+        asked = sys.argv[1:] in (["-h"], ["--help"])
+        print(__doc__, file=sys.stdout if asked else sys.stderr)
+        sys.exit(0 if asked else 1)
+    ran = subprocess.run(words(kit_folder(), uses_of_crates(), Path(sys.argv[1]).resolve()), cwd=ROOT / "crates" / CRATE)
     sys.exit(ran.returncode)
 
 

@@ -6,26 +6,43 @@
     python3 tools/look.py JOURNAL --roster FILE   and how many statements the node has left
     python3 tools/look.py HELLO --journal FILE    and which of its leaves the journal has
     python3 tools/look.py FILE --proofs FOLDER    puts the proofs of a journal or a stream there, as files for `judge`
+    python3 tools/look.py FILE --id 1/4/5         the id of this update of a journal, stream or log, as `receipt` takes it
+    python3 tools/look.py JOURNAL --puts          the latest writes with whole values, as notes for `text.py script`
+    python3 tools/look.py JOURNAL --brief --roster FILE   what is left, and who is convicted, for a monitor
 
 It reads by docs/FORMATS.md, verifies no signature, and asks no program. Where a text isn't in its form, what stands
-before the fault is shown, then a line that says where and why, and the status is 2; it is 3 where a file can't be read.
+before the fault is shown, then a line that says where and why, and the status is 2; it is 3 where a file can't be read,
+and 1 where the words are wrong, or name an update that isn't there.
+
+Of a key with several latest writes `--puts` gives each as a comment: who knows which shall stand takes its # away. Keys
+whose latest write is a deletion, receipts and signatures of checkpoints are left out. Each put takes one statement.
+
+`--brief` begins with `well`, status 0; with `soon`, 1, where under a tenth of the statements, records or bytes is left, or
+the node wants values; or with `now`, 2, where none is left, the journal isn't whole, or a node is convicted that
+`--known 2,5` doesn't name. 3 is that the file can't be read, is no journal, or the roster isn't its own.
 """
 
 import argparse
 import os
+import re
 import signal
 import sys
 
 import formats as f
+import summary
+from words import NO_WORDS, Parser
 
 KINDS = ["roster", "hello", "journal", "proof", "stream", "trace", "checkpoint", "log"]
-
-
+ILL_FORMED, UNREADABLE = 2, 3
 OLD = "it is an old copy, never run it"
 
 
 class NoKind(Exception):
     """A file is of no kind that is known here; it is said what it looks like most."""
+
+
+def say(line):
+    print("look: %s" % line, file=sys.stderr)
 
 
 class Page:
@@ -42,11 +59,8 @@ class Page:
 
     def key(self, key):
         """A key; that of a receipt by the id of the update that it is for, that of a checkpoint by the hash of its text."""
-        if len(key) == 40 and key.startswith(b"receipt:"):
-            return "receipt:" + self.hash(key[8:])
-        if len(key) == 43 and key.startswith(b"checkpoint:"):
-            return "checkpoint:" + self.hash(key[11:])
-        return f.shown(key)
+        kind = f.reserved_for(key)
+        return "%s:%s" % (kind, self.hash(key[-32:])) if kind else f.shown(key)
 
 
 def writes_line(update, values, page):
@@ -228,8 +242,7 @@ def show_sums(placed, values, page, roster):
     updates = f.updates_of(placed)
     for it in f.leaves_of(updates):
         page.say("leaf of writer %d: %s, %s" % (it.writer, page.hash(it.id), it.name))
-    for key in sorted({write.key for it in updates for write in it.writes}):
-        latest = f.latest_writes(key, updates)
+    for key, latest in sorted(f.latest_by_key(updates).items()):
         page.say("key %s: %s" % (page.key(key), ", ".join(latest_line(key, it, values) for it in latest)))
 
 
@@ -347,6 +360,59 @@ def look(data, options):
     return page
 
 
+# ---- answers to one question
+
+
+def updates_in(data):
+    """The updates of a journal, a stream or a log."""
+    kind = kind_of(data)
+    if kind == "journal":
+        return f.updates_of(f.read_journal(data).records)
+    if kind == "log":
+        return f.read_log(data)
+    if kind == "stream":
+        statements = [f.read_signed(it.payload).statement for it in f.read_stream(data).frames if it.tag == f.STATEMENT]
+        return [it for it in statements if isinstance(it, f.Update)]
+    raise NoKind("a %s has no updates" % kind)
+
+
+def show_ids(data, name, path):
+    """Prints the ids of the updates of this name; they are several where their writer forked."""
+    ids = [it.id.hex() for it in updates_in(data) if it.name == name]
+    if not ids:
+        say("no update %s stands in %s" % (name, path))
+        return NO_WORDS
+    if len(ids) > 1:
+        say("%d updates have the name %s, since node %s forked" % (len(ids), name, name.split("/")[0]))
+    print("\n".join(ids))
+    return 0
+
+
+def show_puts(data):
+    for line in summary.put_lines(f.read_journal(data).records):
+        print(line)
+    return 0
+
+
+def show_brief(data, options):
+    """Prints the brief form of a journal, for a monitor; its state is the status."""
+    roster = None
+    if options.roster:
+        with open(options.roster, "rb") as file:
+            roster = file.read()
+    try:
+        found = summary.summary_of(f.read_journal(data))
+        if found is None:
+            print("now: no birth of a node stands in it up to its first closed gate")
+            return summary.NOW
+        state, lines = summary.brief_lines(found, roster, options.known)
+    except f.IllFormed as fault:
+        print("now: not in its form: %s" % fault)
+        return summary.NOW
+    print("\n".join(lines))
+    return state
+
+
 def cut_out(data, folder):
     """Puts each proof that stands in the file into the folder, and gives their names."""
     os.makedirs(folder, exist_ok=True)
@@ -360,14 +426,31 @@ def cut_out(data, folder):
     return names
 
 
+def update_name(word):
+    if not re.fullmatch("[0-9]+/[0-9]+/[0-9]+", word):
+        raise argparse.ArgumentTypeError("%s is no WRITER/SEQ/CLOCK" % word)
+    return word
+
+
+def nodes(word):
+    if not re.fullmatch("[0-9]+(,[0-9]+)*", word):
+        raise argparse.ArgumentTypeError("%s isn't numbers of nodes with commas between" % word)
+    return [int(it) for it in word.split(",")]
+
+
 def options_of(words):
-    parser = argparse.ArgumentParser(description=__doc__, formatter_class=argparse.RawDescriptionHelpFormatter)
+    parser = Parser(__doc__)
     parser.add_argument("file", metavar="FILE")
     parser.add_argument("--kind", choices=KINDS)
     parser.add_argument("--whole", action="store_true")
     parser.add_argument("--roster", metavar="FILE")
     parser.add_argument("--journal", metavar="FILE")
-    parser.add_argument("--proofs", metavar="FOLDER")
+    questions = parser.add_mutually_exclusive_group()
+    questions.add_argument("--proofs", metavar="FOLDER")
+    questions.add_argument("--id", metavar="WRITER/SEQ/CLOCK", type=update_name)
+    questions.add_argument("--puts", action="store_true")
+    questions.add_argument("--brief", action="store_true")
+    parser.add_argument("--known", metavar="NODE,NODE", type=nodes, default=[])
     return parser.parse_args(words)
 
 
@@ -379,12 +462,20 @@ def shown(options):
         names = cut_out(data, options.proofs)
         print("\n".join(names) if names else "no proof stands in this file")
         return 0
+    if options.id:
+        return show_ids(data, options.id, options.file)
+    if (options.puts or options.brief) and kind_of(data) != "journal":
+        raise NoKind("it is no journal")
+    if options.puts:
+        return show_puts(data)
+    if options.brief:
+        return show_brief(data, options)
     page = look(data, options)
     for line in page.lines:
         print(line)
     if page.fault:
         print("not in its form: %s" % page.fault)
-        return 2
+        return ILL_FORMED
     return 0
 
 
@@ -393,12 +484,14 @@ def main(words):
     signal.signal(signal.SIGPIPE, signal.SIG_DFL)
     try:
         return shown(options)
-    except f.IllFormed as fault:
-        print("look: a proof in %s isn't in its form, %s" % (options.file, fault), file=sys.stderr)
-        return 2
+    except (f.IllFormed, NoKind) as fault:
+        say("%s isn't in its form, %s" % (options.file, fault))
+        return UNREADABLE if options.brief else ILL_FORMED
+    except summary.OtherRoster as why:
+        say("%s: %s" % (options.file, why))
     except OSError as why:
-        print("look: %s: %s" % (why.filename, why.strerror), file=sys.stderr)
-        return 3
+        say("%s: %s" % (why.filename, why.strerror))
+    return UNREADABLE
 
 
 if __name__ == "__main__":

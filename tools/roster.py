@@ -3,11 +3,12 @@
 
     python3 tools/roster.py OUT NUMBER:HEIGHT:ROOT ..
 
-NUMBER is 1 to 65535, each once; HEIGHT is 2 to 17, and ROOT what `depot key SEED HEIGHT` prints. The members are put in
-order. A file that is there already is not written over: journals are bound to the roster that they were begun with.
-`tools/look.py OUT` shows a roster again, with its hash.
+NUMBER is 1 to 65535, each once; HEIGHT is 2 to 17, and ROOT what `depot key SEED HEIGHT` prints, each once: a key is one
+member's. The members are put in order. A file that is there already is not written over: journals are bound to the
+roster that they were begun with. `tools/look.py OUT` shows a roster again, with its hash.
 """
 
+import re
 import sys
 
 import formats as f
@@ -33,14 +34,18 @@ def member_of(word):
 
 
 def members_of(words):
-    """The members of a roster, 1 to 256, each number once."""
+    """The members of a roster, 1 to 256, each number once and each root once."""
     members = [member_of(word) for word in words]
-    numbers = [it.node for it in members]
-    twice = sorted({it for it in numbers if numbers.count(it) > 1})
-    if twice:
-        raise BadWords("member %d stands twice" % twice[0])
     if not 1 <= len(members) <= f.MOST_NODES:
         raise BadWords("a roster has 1 to %d members" % f.MOST_NODES)
+    numbers, having = set(), {}
+    for it in members:
+        if it.node in numbers:
+            raise BadWords("member %d stands twice" % it.node)
+        numbers.add(it.node)
+        other = having.setdefault(it.root, it.node)
+        if other != it.node:
+            raise BadWords("members %d and %d have one root: with one key for both, each can be forged" % (other, it.node))
     return members
 
 
@@ -50,11 +55,21 @@ def read_aloud(digest):
     return " ".join(digits[at : at + 4] for at in range(0, len(digits), 4))
 
 
+def refuse_member(name):
+    """Refuses a name of the roster that has the form of a member: OUT was forgotten then."""
+    if re.match("[0-9]+:[0-9]+:", name):
+        raise BadWords("%s is a member, and the first word names the file: OUT is lacking" % name)
+
+
 def main(words):
+    if words and words[0] in ("-h", "--help"):
+        print(__doc__)
+        return 0
     if len(words) < 2 or words[0].startswith("-"):
         print(__doc__, file=sys.stderr)
         return 1
     try:
+        refuse_member(words[0])
         text = f.roster_text(members_of(words[1:]))
         with open(words[0], "xb") as out:
             out.write(text)

@@ -53,20 +53,20 @@ def short(text, most=18):
     return text if len(text) <= most else text[:most] + ".."
 
 
-def writes_of(update, values):
-    """What an update writes, in short."""
-    parts = []
-    for write in update.writes:
-        held = values.get(write.hash)
-        what = " deleted" if write.hash is None else " = " + ("?" if held is None else short(f.shown(held)))
-        parts.append(short(f.shown(write.key)) + what)
-    return ", ".join(parts)
+def write_of(write, values, names):
+    """A write in short: a receipt by the name of what it is for, and a checkpoint by the front of its hash."""
+    kind, digest = f.reserved_for(write.key), write.key[-32:]
+    if kind:
+        return "receipt for %s" % names.get(digest, digest.hex()[:8]) if kind == "receipt" else "checkpoint %s" % digest.hex()[:8]
+    held = values.get(write.hash)
+    what = " deleted" if write.hash is None else " = " + ("?" if held is None else short(f.shown(held)))
+    return short(f.shown(write.key)) + what
 
 
-def box_of(update, values, note="", is_kept=True):
+def box_of(update, values, names, note="", is_kept=True):
     prev = None if update.prev == f.NO_UPDATE else update.prev
     entries = [entry.id for entry in update.entries]
-    writes = writes_of(update, values)
+    writes = ", ".join(write_of(it, values, names) for it in update.writes)
     return Box(update.id, update.writer, update.name, update.seq, prev, entries, writes, note, is_kept)
 
 
@@ -74,8 +74,8 @@ def of_journal(data):
     """The story of a journal's records."""
     placed = f.read_journal(data).records
     values, updates = f.values_of(placed), f.updates_of(placed)
-    vouched = vouched_in(placed)
-    boxes = [box_of(it, values, vouched.get(it.id, "")) for it in updates]
+    vouched, names = vouched_in(placed), {it.id: it.name for it in updates}
+    boxes = [box_of(it, values, names, vouched.get(it.id, "")) for it in updates]
     known = {box.id for box in boxes}
     quarrels, convicted = [], {}
     for it in placed:
@@ -83,7 +83,7 @@ def of_journal(data):
             continue
         proof = it.record.proof
         convicted[f.convicted_by(proof)] = proof.kind
-        for box in halves_of(proof, values):
+        for box in halves_of(proof, values, names):
             if box.id not in known:
                 known.add(box.id)
                 boxes.append(box)
@@ -106,10 +106,10 @@ def vouched_in(placed):
     return {id: "vouched by %s" % ", ".join(map(str, sorted(nodes))) for id, nodes in by_id.items()}
 
 
-def halves_of(proof, values):
+def halves_of(proof, values, names):
     """The updates among the halves of a proof, as boxes that were not accepted."""
     halves = [] if isinstance(proof, f.Hollow) else [proof.first.statement, proof.second.statement]
-    return [box_of(it, values, "known from a proof", False) for it in halves if isinstance(it, f.Update)]
+    return [box_of(it, values, names, "known from a proof", False) for it in halves if isinstance(it, f.Update)]
 
 
 # ---- off a schedule and its transcript
@@ -350,3 +350,6 @@ def of_schedule(schedule, transcript):
         boxes.append(box._replace(note=note, is_kept=bool(having)))
     return Story("a schedule", boxes, telling.quarrels, convicted, None)
 
+
+if __name__ == "__main__":
+    print(__doc__)

@@ -5,10 +5,13 @@
     python3 tools/text.py answers <ANSWERS          what `depot node` or `depot replay` printed, with text in quotes
 
 In NOTES a key or a value is text in double quotes, or hex as in a script. In quotes \\" and \\\\ stand for " and \\,
-\\n and \\t for a line's end and a tab, and \\x00 to \\xff for a byte. Empty lines and those with # in front fall away.
+\\n and \\t for a line's end and a tab, and \\x00 to \\xff for a byte. A value may also be @FILE, the bytes of a file as
+it is seen from here. Empty lines and those with # in front fall away.
 
     # what node 1 knows of the user
     put "user:1" "Ada"
+    put "picture:1" @ada.png
+    delete "user:4"
     puts "user:2"="Grace", "user:3"!        several keys in one update; ! deletes; they are put in order
     get "user:1"
     take ../for-one
@@ -32,12 +35,13 @@ ESCAPE = re.compile(r'\\(x[0-9a-f]{2}|["\\nt])')
 QUOTED = r'"(?:\\.|[^"\\])*"'
 WORD = re.compile(QUOTED + r"|[^\s\"]+")
 PART = re.compile(QUOTED + r'|[=!,]|[^\s"=!,]+')
-# How many words stand behind each command but `puts`.
+# How many words stand behind each command but `puts`; `delete` is a word of notes alone.
 WORDS = {
-    "put": 2, "get": 1, "tget": 1, "hello": 1, "bundle": 2, "take": 1, "receipt": 1, "settled": 2, "export": 1, "checkpoint": 1,
+    "put": 2, "delete": 1, "get": 1, "tget": 1, "hello": 1, "bundle": 2, "take": 1, "receipt": 1, "settled": 2, "export": 1, "checkpoint": 1,
     "sign": 1, "trim": 1, "tgive": 1,
 }
-WITH_KEYS = ("put", "get", "tget")
+WITH_KEYS = ("get", "tget")
+WITH_IDS = ("receipt", "settled")
 BYTES = {"n": b"\n", "t": b"\t", '"': b'"', "\\": b"\\"}
 
 
@@ -81,9 +85,29 @@ def key_of(word):
     return digits
 
 
+def written_key_of(word):
+    """The same of a key that is written: none that is reserved."""
+    digits = key_of(word)
+    kind = f.reserved_for(bytes.fromhex(digits))
+    if kind:
+        raise BadLine("a key that is `%s:` and 32 bytes is reserved for %ss" % (kind, kind))
+    return digits
+
+
+def digits_at(name):
+    """The bytes of a file, in hex."""
+    try:
+        with open(name, "rb") as file:
+            return file.read(f.MOST_VALUE + 1).hex()
+    except OSError as why:
+        raise BadLine("%s can't be read: %s" % (name, why.strerror))
+
+
 def value_of(word):
     """A value's word as a script has it: `-` where it is empty."""
-    digits = hex_of(word)
+    digits = digits_at(word[1:]) if word.startswith("@") else hex_of(word)
+    if word.startswith("@") and len(digits) // 2 > f.MOST_VALUE:
+        raise BadLine("a value has at most %d bytes, and %s more" % (f.MOST_VALUE, word[1:]))
     if len(digits) // 2 > f.MOST_VALUE:
         raise BadLine("a value has at most %d bytes, and this one %d" % (f.MOST_VALUE, len(digits) // 2))
     return digits or "-"
@@ -107,21 +131,32 @@ def spaced_words(line):
 
 def writes_of(words):
     """The words behind `puts` as one word of a script: KEY=VALUE and KEY! with commas, in the order of the keys."""
-    parts, at = [], 0
+    parts, at = {}, 0
     while at < len(words):
-        key, mark = key_of(words[at]), words[at + 1 : at + 2]
+        key, mark = written_key_of(words[at]), words[at + 1 : at + 2]
+        if key in parts:
+            raise BadLine("the key %s stands twice, and an update writes each once" % words[at])
         if mark == ["!"]:
-            parts.append((key, key + "!"))
+            parts[key] = key + "!"
             at += 2
         elif mark == ["="] and at + 2 < len(words):
-            parts.append((key, key + "=" + value_of(words[at + 2])))
+            parts[key] = key + "=" + value_of(words[at + 2])
             at += 3
         else:
             raise BadLine("a write is KEY=VALUE or KEY!")
         if at < len(words) and words[at] != ",":
             raise BadLine("writes stand apart by commas")
         at += 1
-    return ",".join(word for _, word in sorted(parts))
+    if len(parts) > f.MOST_WRITES:
+        raise BadLine("an update writes at most %d keys, and this one %d" % (f.MOST_WRITES, len(parts)))
+    return ",".join(parts[key] for key in sorted(parts))
+
+
+def id_of(word):
+    """An update's id as a script has it."""
+    if not re.fullmatch("[0-9a-f]{64}", word):
+        raise BadLine("an id is 64 digits of lower-case hex, and %s isn't; look.py JOURNAL --id WRITER/SEQ/CLOCK prints one" % word)
+    return word
 
 
 def script_line(line):
@@ -136,8 +171,14 @@ def script_line(line):
         raise BadLine("%s is no command" % verb)
     if len(words) != WORDS[verb]:
         raise BadLine("%s has %d words behind it, and takes %d; a note has a line of its own" % (verb, len(words), WORDS[verb]))
+    if verb == "delete":
+        return "puts %s!" % written_key_of(words[0])
+    if verb == "put":
+        return "put %s %s" % (written_key_of(words[0]), value_of(words[1]))
     if verb in WITH_KEYS:
-        return " ".join([verb, key_of(words[0])] + [value_of(word) for word in words[1:]])
+        return "%s %s" % (verb, key_of(words[0]))
+    if verb in WITH_IDS:
+        return " ".join([verb, id_of(words[0])] + words[1:])
     if any(word.startswith('"') for word in words):
         raise BadLine("the names of files, and ids, stand without quotes, and have no blanks")
     return " ".join([verb] + words)
@@ -199,6 +240,9 @@ def to_answers(lines, out):
 
 def main(words):
     ways = {"script": to_script, "answers": to_answers}
+    if words in (["-h"], ["--help"]):
+        print(__doc__)
+        return 0
     if len(words) != 1 or words[0] not in ways:
         print(__doc__, file=sys.stderr)
         return 1

@@ -61,3 +61,27 @@ def frame(tag, payload):
 
 def journal(*bodies):
     return b"".join(b"\1" + f.number(4, len(it)) + it for it in bodies) + b"\0"
+
+
+def birth(node=1, roster=bytes(32)):
+    return b"\1" + f.number(2, node) + roster
+
+
+def own_put(body, *values):
+    return b"\2" + f.number(4, len(body)) + body + b"".join(values)
+
+
+def world(writers, rounds, keys):
+    """Updates of several writers, of one key each; now and then one names the last of another as a parent."""
+    updates, tips = [], {}
+    for at in range(rounds):
+        for writer in range(1, writers + 1):
+            prev, other = tips.get(writer), tips.get(writer % writers + 1)
+            names = [other] if other and at % 3 == writer % 3 else []
+            entries = f.number(2, len(names)) + b"".join(f.number(2, it.writer) + f.number(8, it.clock) + it.id for it in names)
+            clock = 1 + max([it.clock for it in names + [prev] * bool(prev)], default=0)
+            key = b"key %d" % ((at * writer) % keys)
+            body = update_body(named(key, b"%d" % at), writer=writer, seq=at, clock=clock, prev=prev.id if prev else f.NO_UPDATE, entries=entries)
+            tips[writer] = f.read_update(body)
+            updates.append(tips[writer])
+    return updates

@@ -3,12 +3,16 @@
 
 STOP in the environment says where it ends as if it were killed: `told 3` behind the third line that it tells of,
 `put 3` once the third put stands in the journal and before it is told of, `limit 3` at the third line by a limit,
-`shelf 3` there by a file, `disk 3` by the journal's; `fault 3` says at once that this line is faulty.
+`shelf 3` there by a file, `disk 3` by the journal's; `fault 3` says at once that this line is faulty; `identity 0` says that
+the key is another's, and touches nothing; `slow 3` waits 3 tenths of a second before it does anything.
+
+`take NAME` tells what stands in the file NAME.told, and appends the record in the file NAME.record, if they are there.
 """
 
 import os
 import signal
 import sys
+import time
 
 sys.path.insert(0, os.path.join(os.path.dirname(os.path.abspath(__file__)), os.pardir))
 import formats as f  # noqa: E402
@@ -41,16 +45,37 @@ def put(node, key, value):
     return "%d/%d" % (seq, clock)
 
 
+def contents(name):
+    """What stands in a file, or no bytes where there is none."""
+    if not os.path.exists(name):
+        return b""
+    with open(name, "rb") as file:
+        return file.read()
+
+
+def take(name):
+    """What is told of a take."""
+    if contents(name + ".record"):
+        append(contents(name + ".record"))
+    return contents(name + ".told").decode() or "accepted 0 known 0 refused 0 whole"
+
+
 def main(words):
     _, roster, _, _, node, script = words
     mood, place = (os.environ.get("STOP") or "none 0").split()
+    if mood == "identity":
+        print("identity OtherKey", flush=True)
+        return 10
+    if mood == "slow":
+        time.sleep(int(place) / 10)
     if not os.path.exists(JOURNAL) or os.path.getsize(JOURNAL) < 2:
         with open(JOURNAL, "wb") as file:
             file.write(b"\0")
         with open(roster, "rb") as file:
             append(b"\1" + f.number(2, int(node)) + f.sha256(file.read()))
     puts = 0
-    with open(script, errors="replace") as file:
+    sys.stdout.reconfigure(encoding="utf-8", errors="surrogateescape")
+    with open(script, encoding="utf-8", errors="surrogateescape") as file:
         lines = file.read().splitlines()
     if mood == "fault":
         print("input %s line %s Hex" % (script, place), flush=True)
@@ -63,7 +88,7 @@ def main(words):
         if mood == "limit" and told == int(place):
             print("%s -> Spent 4" % " ".join([verb] + rest[:1]), flush=True)
             return 8
-        answer = "nothing"
+        answer = take(*rest) if verb == "take" else "nothing"
         if verb == "put":
             answer = put(int(node), bytes.fromhex(rest[0]), bytes.fromhex(rest[1]))
             puts += 1

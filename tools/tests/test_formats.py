@@ -5,11 +5,22 @@ import os
 import re
 import unittest
 
-from cases import data_of, f, frame, journal, marked, named, path_of, signed, update_body, voucher_body
+from cases import data_of, f, frame, journal, marked, named, path_of, signed, update_body, voucher_body, world
 
 ONE = update_body(named(b"k", b"abc"))
 SEVERAL = update_body(b"\2" + marked(b"k", b"abc") + marked(b"l", None), version=2)
 LONE = update_body(b"\1" + marked(b"k", None), version=2)
+
+
+def past_of(ids, updates):
+    """The ids of all updates that paths of parents from these ids lead through, these among them; updates by id."""
+    found, waiting = set(), list(ids)
+    while waiting:
+        at = waiting.pop()
+        if at in updates and at not in found:
+            found.add(at)
+            waiting += updates[at].parents
+    return found
 
 
 def offset_of(read, data):
@@ -144,13 +155,26 @@ class Histories(unittest.TestCase):
     def test_each_history(self):
         by_id = {it.id: it for it in self.updates}
         for update in self.updates:
-            past = f.past_of(update.parents, by_id)
+            past = past_of(update.parents, by_id)
             self.assertEqual(update.history, f.history_hash([by_id[it] for it in past]))
 
     def test_latest_writes(self):
-        names = [it.name for it in f.latest_writes(b"note", self.updates)]
-        self.assertEqual(names, ["1/1/2"])
-        self.assertEqual([it.name for it in f.latest_writes(b"list", self.updates)], ["2/1/2", "1/2/3"])
+        latest = f.latest_by_key(self.updates)
+        names = {key: [it.name for it in found] for key, found in latest.items()}
+        self.assertEqual((names[b"note"], names[b"list"]), (["1/1/2"], ["2/1/2", "1/2/3"]))
+
+    def test_latest_writes_of_a_world(self):
+        """Writers who name some of what was written: of each key those are the latest that are in no other's past."""
+        updates = world(writers=4, rounds=40, keys=5)
+        by_id = {it.id: it for it in updates}
+        latest = f.latest_by_key(updates)
+        self.assertEqual(set(latest), {write.key for it in updates for write in it.writes})
+        for key, found in latest.items():
+            writing = [it for it in updates if it.writes[0].key == key]
+            covered = past_of([parent for it in writing for parent in it.parents], by_id)
+            self.assertEqual({it.id for it in found}, {it.id for it in writing} - covered)
+            self.assertEqual(found, sorted(found, key=lambda it: (it.clock, it.writer, it.seq, it.id)))
+        self.assertGreater(max(map(len, latest.values())), 1)
 
 
 class Acceptance(unittest.TestCase):

@@ -1,11 +1,13 @@
 """The tools that people call: a roster, a look into files, text both ways, and pictures."""
 
 import os
+import re
 import tempfile
+import time
 import unittest
 import xml.dom.minidom
 
-from cases import data_of, f, frame, journal, marked, path_of, run_tool, signed, update_body, voucher_body
+from cases import birth, data_of, f, frame, journal, marked, named, own_put, path_of, run_tool, signed, update_body, voucher_body, world
 import story  # noqa: E402
 
 BRANCHED = path_of("acceptance", "node_convicts_a_fork", "after", "two", "depot.journal")
@@ -64,10 +66,22 @@ class Roster(InARoom):
     def test_refusals(self):
         root = "11" * 32
         bad = [[it + root] for it in ("0:2:", "65536:2:", "1:1:", "1:18:", "x:2:", "\u00b2:8:", "\u0661:8:")] + [["1:2:11"], ["1:2:" + "AA" * 32]]
-        bad += [["1:2:" + root, "1:3:" + root], ["1:2"], [], ["%d:2:%s" % (it, root) for it in range(1, 258)]]
+        bad += [["1:2:" + root, "1:3:" + "22" * 32], ["1:2"], [], ["%d:2:%064x" % (it, it) for it in range(1, 258)]]
+        bad += [["1:2:" + root, "3:2:" + "22" * 32, "2:2:" + root], ["1:2:" + root, "2:3:" + root]]
         for words in bad:
             self.assertEqual(run_tool("roster.py", self.path("R"), *words)[0], 1)
             self.assertFalse(os.path.exists(self.path("R")))
+
+    def test_what_is_said(self):
+        root = "11" * 32
+        cases = [
+            (["R", "1:2:" + root, "2:2:" + root], "members 1 and 2 have one root"), (["1:2:" + root, "2:2:" + "22" * 32], "OUT is lacking"),
+            (["R", "7:2:" + root, "7:2:" + "22" * 32], "member 7 stands twice"),
+        ]
+        for words, said in cases:
+            status, out, why = run_tool("roster.py", *words)
+            self.assertEqual((status, out, said in why, why.count("\n")), (1, "", True, 1), why)
+        self.assertFalse(os.path.exists("1:2:" + root))
 
     def test_a_roster_that_stands(self):
         self.put("R", b"as it was")
@@ -193,6 +207,28 @@ class Text(unittest.TestCase):
             "put 757365723a31 c3842078", "put 6b -", "put 6b -", "put 6b 61225c0a00", "get 757365723a31",
             "take ../for-one", "puts 61!,62=32,6c=-", "bundle ../hello ../out"]))
 
+    def test_files_and_deletions(self):
+        """A value may be the bytes of a file, as it is seen from here, and a deletion has a word of its own."""
+        with tempfile.NamedTemporaryFile() as file:
+            file.write(b"\0\xff")
+            file.flush()
+            notes = 'put "k" @%s\ndelete "k"\nputs "l"=@%s\nput "k" "@x"\nput "e" @/dev/null\n' % (file.name, file.name)
+            status, out, _ = run_tool("text.py", "script", data=notes.encode())
+        self.assertEqual((status, out.splitlines()), (0, ["put 6b 00ff", "puts 6b!", "puts 6c=00ff", "put 6b 4078", "put 65 -"]))
+
+    def test_a_file_that_is_too_long(self):
+        with tempfile.NamedTemporaryFile() as file:
+            file.write(bytes(65537))
+            file.flush()
+            status, out, why = run_tool("text.py", "script", data=b'put "k" @%s\n' % file.name.encode())
+        self.assertEqual((status, out, "at most 65536 bytes, and %s more" % file.name in why), (1, "", True), why)
+
+    def test_the_most(self):
+        puts = "puts " + ", ".join('"%d"="v"' % it for it in range(16))
+        notes = 'put "k" "%s"\nreceipt %s\nsettled %s 2\n%s\n' % ("v" * 65536, "ab" * 32, "cd" * 32, puts)
+        status, out, _ = run_tool("text.py", "script", data=notes.encode())
+        self.assertEqual((status, [it.split(" ")[0] for it in out.splitlines()]), (0, ["put", "receipt", "settled", "puts"]))
+
     def test_bad_notes(self):
         """A faulty line is told with its number, and nothing comes out, so that no front of the script is carried out."""
         cases = [
@@ -201,7 +237,12 @@ class Text(unittest.TestCase):
             ('put "" "a"', "a key has 1 to 255"), ("put - 61", "a key has 1 to 255"), ('put "%s" "a"' % ("k" * 256), "and this one 256"),
             ('put "k" "%s"' % ("v" * 65537), "at most 65536"), ("put user 61", "neither text"), ("put 6B 61", "neither text"), ("get", "takes 1;"),
             ('take "../my file"', "without quotes"), ("say hello", "no command"), ('puts "a"="b", ""!', "a key has"),
-            (b'put "k" "\xff"', "UTF-8"),
+            (b'put "k" "\xff"', "UTF-8"), ('puts "b"="1", "a"="2", 62!', "the key 62 stands twice"), ('puts "a"="b", "a"!', 'the key "a" stands twice'),
+            ('put "receipt:%s" "a"' % ("i" * 32), "reserved for receipts"), ('puts "checkpoint:%s"!' % ("i" * 32), "reserved for checkpoints"),
+            ('delete "receipt:%s"' % ("i" * 32), "reserved for receipts"), ("receipt %s" % ("ab" * 31), "an id is 64 digits"),
+            ("settled %s 2" % ("AB" * 32), "an id is 64 digits"), ("puts " + ",".join("%02x!" % it for it in range(17)), "at most 16 keys"),
+            ('put "k" @/absent', "/absent can't be read: No such file"),
+            ('put @/dev/null "k"', "neither text"), ("delete", "takes 1;"),
         ]
         for line, said in cases:
             line = line if isinstance(line, bytes) else line.encode()
@@ -221,6 +262,24 @@ class Text(unittest.TestCase):
             " refused 0 5 Missing", "shelf h"]))
 
 
+def points_of(path):
+    """Points of a path of a picture, close together: of a curve by its four points, else of the lines that it is made of."""
+    if "C" in path:
+        (x0, y0), (x1, y1), (x2, y2), (x3, y3) = [tuple(map(int, it)) for it in re.findall(r"(\d+) (\d+)", path)]
+        for at in range(101):
+            t = at / 100
+            parts = [(1 - t) ** 3, 3 * t * (1 - t) ** 2, 3 * t * t * (1 - t), t**3]
+            yield sum(a * b for a, b in zip(parts, (x0, x1, x2, x3))), sum(a * b for a, b in zip(parts, (y0, y1, y2, y3)))
+        return
+    words = path.split()
+    x, y = int(words[1]), int(words[2])
+    for way, number in zip(words[3::2], map(int, words[4::2])):
+        here = x if way == "H" else y
+        for at in range(min(here, number), max(here, number) + 1):
+            yield (at, y) if way == "H" else (x, at)
+        x, y = (number, y) if way == "H" else (x, number)
+
+
 class Picture(InARoom):
     def drawn(self, *words):
         """The texts that a picture shows, and how many boxes and arrows it has."""
@@ -233,14 +292,14 @@ class Picture(InARoom):
     def test_a_journal_with_a_fork(self):
         texts, boxes, arrows = self.drawn(BRANCHED)
         self.assertEqual((boxes, arrows), (2, 0))
-        for said in ["the journal of node 2", "node 9 is convicted: SamePrev", "9/0/1", "9/1/2", "branch 2", "SamePrev",
+        for said in ["node 9 is convicted: SamePrev", "9/0/1", "9/1/2", "branch 2", "SamePrev",
                      "vouched by 1", "known from a proof"]:
             self.assertIn(said, texts)
 
     def test_a_schedule(self):
         texts, boxes, arrows = self.drawn("--schedule", SCHEDULE, self.put("T", TRANSCRIPT))
         self.assertEqual((boxes, arrows), (3, 2))
-        for said in ["node 9 is convicted: SamePrev at 1", "1/0/3", '"k" = "c"', "at 1, 2", "SamePrev"]:
+        for said in ["the schedule fork.schedule", "node 9 is convicted: SamePrev at 1", "1/0/3", '"k" = "c"', "at 1, 2", "SamePrev"]:
             self.assertIn(said, texts)
 
     def test_the_picture_of_the_tutorial(self):
@@ -277,7 +336,59 @@ class Picture(InARoom):
         self.assertGreater(hellos, 5)
 
     def test_the_last_ones(self):
-        self.assertEqual(self.drawn("--last", "1", BRANCHED)[1], 1)
+        texts, boxes, _ = self.drawn("--last", "1", BRANCHED)
+        self.assertEqual((boxes, texts[0].endswith(": the last 1 updates")), (1, True))
+
+    def test_titles(self):
+        path = self.put("depot.journal", data_of(BRANCHED))
+        os.utime(path, (0, time.mktime((2026, 12, 1, 8, 30, 0, 0, 0, -1))))
+        told = "the journal of node 2 (%s/depot.journal, of 2026-12-01 08:30)" % os.path.basename(self.room)
+        self.assertEqual(self.drawn(path)[0][0], told)
+        self.assertEqual(self.drawn("--title", "before <the> fall", path)[0][0], "before <the> fall")
+
+    def test_receipts_and_checkpoints(self):
+        """They are told in words: a receipt by the name of the update that it is for, if that stands in the journal."""
+        put = update_body(named(b"k", b"v"))
+        id = f.sha256(put)
+        keys = [b"receipt:" + id, b"receipt:" + b"\xab" * 32, b"checkpoint:" + b"\xcd" * 32]
+        bodies, prev = [put], id
+        for seq, key in enumerate(keys, 1):
+            bodies.append(update_body(named(key, b"v"), seq=seq, clock=seq + 1, prev=prev))
+            prev = f.sha256(bodies[-1])
+        texts = self.drawn(self.put("J", journal(birth(), *(own_put(it, b"v") for it in bodies))))[0]
+        for said in ["receipt for 1/0/1", "receipt for abababab", "checkpoint cdcdcdcd"]:
+            self.assertIn(said, texts)
+
+    def joining(self, writer, *parents):
+        """The first update of a writer, who names these."""
+        entries = f.number(2, len(parents)) + b"".join(f.number(2, it.writer) + f.number(8, it.clock) + it.id for it in parents)
+        clock = 1 + max(it.clock for it in parents)
+        return f.read_update(update_body(named(b"k", b"v"), writer=writer, clock=clock, entries=entries))
+
+    def test_no_line_behind_a_box(self):
+        """Where updates name others of long before, and a writer has many branches, no line leads through a box."""
+        updates = [it for it in world(writers=3, rounds=6, keys=3) if it.writer != 3]
+        one, two = ([it for it in updates if it.writer == writer] for writer in (1, 2))
+        three = self.joining(3, one[5], two[0])
+        updates += [three, self.joining(4, one[1], three), self.joining(5, two[2], three)]
+        forked = [update_body(named(b"k", value), writer=9) for value in (b"a", b"b", b"c", b"d")]
+        pairs = [sorted([forked[0], it]) for it in forked[1:]]
+        records = [b"\4" + signed(it.body) for it in updates] + [b"\4" + signed(it) for it in forked]
+        records += [b"\5\1\1" + signed(first) + signed(second) for first, second in pairs]
+        out = run_tool("picture.py", self.put("J", journal(birth(), *records)))[1]
+        svg = xml.dom.minidom.parseString(out)
+        boxes = [tuple(int(it.getAttribute(name)) for name in ("x", "y", "width", "height"))
+                 for group in svg.getElementsByTagName("g") for it in group.getElementsByTagName("rect")]
+        paths = [it.getAttribute("d") for it in svg.getElementsByTagName("path") if it.getAttribute("fill") == "none"]
+        self.assertEqual((len(boxes), sum("V" in it for it in paths) >= 4), (19, True), paths)
+        for path in paths:
+            through = [box for box in boxes for x, y in points_of(path) if box[0] < x < box[0] + box[2] and box[1] < y < box[1] + box[3]]
+            self.assertEqual(through, [], path)
+        for line in svg.getElementsByTagName("line"):
+            (x1, y1), (x2, y2) = ((int(line.getAttribute("x%d" % it)), int(line.getAttribute("y%d" % it))) for it in (1, 2))
+            met = {box for box in boxes for at in range(101) for x, y in [(x1 + (x2 - x1) * at / 100, y1 + (y2 - y1) * at / 100)]
+                   if box[0] < x < box[0] + box[2] and box[1] < y < box[1] + box[3]}
+            self.assertEqual(len(met), 2, "a line from one box to another one, which meets no third")
 
     def test_a_damaged_journal(self):
         damaged = path_of("acceptance", "node_over_a_cut_record", "data", "depot.journal")

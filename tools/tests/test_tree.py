@@ -7,6 +7,7 @@ import unittest
 
 from cases import ROOT, path_of
 from test_pages import pages
+import lists  # noqa: E402
 
 TOP = os.path.normpath(ROOT)
 FOLDERS = ["crates", "examples", "tools", "uses", "include", "acceptance", "docs"]
@@ -65,17 +66,7 @@ def paths_in(text):
 
 def crates():
     """Each crate, and those of here that it stands on."""
-    lines = [line.split(":") for line in text_of("crates.txt").splitlines() if not line.startswith("#")]
-    return {name.split()[0]: [it for it in uses.split() if it.startswith("depot_")] for name, uses in lines}
-
-
-def below(name, uses):
-    """All crates that one stands on."""
-    return set(uses[name]).union(*(below(it, uses) for it in uses[name]))
-
-
-def height(name, uses):
-    return 1 + max([height(it, uses) for it in uses[name]], default=0)
+    return lists.crates(text_of("crates.txt"))
 
 
 def section(page, title):
@@ -134,28 +125,21 @@ class Sections(unittest.TestCase):
                     self.assertIn(name, self.names(by_name.get(where, where)))
 
 
-class Proofs(unittest.TestCase):
-    def cited(self):
-        """The families that PROOFS names: files of the folder that was named last, or of the crate behind `of`."""
-        folder = None
-        for text, crate in re.findall(r"`([^`\n]+)`(?: of `(depot_\w+)`)?", text_of("docs", "PROOFS.md")):
-            if re.fullmatch(r"depot_\w+/(proofs|specs)", text):
-                folder = text
-            elif re.fullmatch(r"depot_\w+/(proofs|specs)/\w+", text):
-                yield text
-            elif folder and re.fullmatch(r"[A-Z]\w+", text):
-                yield "%s/%s" % (crate + "/proofs" if crate else folder, text)
+class Lists(unittest.TestCase):
+    def test_each_is_that_of_the_tree(self):
+        for name, page in lists.made():
+            self.assertEqual(text_of(name), page, "tools/lists.py --write")
 
-    def test_each_family_is_cited_and_there(self):
-        cited = {it for it in self.cited() if "/proofs/" in it}
-        there = {os.path.relpath(it, path_of("crates"))[:-5] for it in glob.glob(path_of("crates", "*", "proofs", "*.antt"))}
-        self.assertEqual(cited ^ {it for it in there if not it.endswith("/Lib")}, set())
+    def test_each_family_has_a_title(self):
+        rows = re.split(r"\n(?=- )", lists.families(lists.crates(text_of("crates.txt"))).split("### ", 1)[1])
+        heads = [" ".join(it.split("\n\n")[0].split()) for it in rows[1:]]
+        self.assertEqual([it for it in heads if not re.fullmatch(r"- `\w+`: \S.{8,}\.", it)], [])
 
 
 class Crates(unittest.TestCase):
     def test_how_many_stand_above(self):
         uses = crates()
-        stands_on = [below(it, uses) for it in uses]
+        stands_on = [lists.below(it, uses) for it in uses]
         for row in re.findall(r"^\| (`depot_.*?) \|$", section("CONTRIBUTING.md", "What a change proves anew"), re.M):
             names, counts = row.split(" | ")[:2]
             found = [sum(name in it for it in stands_on) for name in re.findall(r"`(\w+)`", names)]
@@ -163,7 +147,7 @@ class Crates(unittest.TestCase):
 
     def test_the_longest_chain(self):
         uses = crates()
-        longest = NUMBERS[max(height(it, uses) for it in uses)]
+        longest = NUMBERS[max(lists.height(it, uses) for it in uses)]
         self.assertIn("longest chain has %s crates" % longest, text_of("docs", "ARCHITECTURE.md"))
 
     def test_none_stands_on_a_higher_layer(self):
@@ -173,11 +157,24 @@ class Crates(unittest.TestCase):
         self.assertEqual(set(layers), set(uses))
         self.assertEqual([(it, other) for it in uses for other in uses[it] if layers[other] > layers[it]], [])
 
+    def test_they_stand_by_layers(self):
+        """Under the heading of a layer stand its crates, and the layers have the order of the page."""
+        parts = re.split(r"(?m)^# (?=.*\n(?:depot_|\Z))", text_of("crates.txt"))[1:]
+        told = [(it.splitlines()[0], set(re.findall(r"(?m)^(depot_\w+)", it))) for it in parts]
+        layers = items(section("docs/ARCHITECTURE.md", "The layers"))
+        self.assertEqual(told, [(re.match(r"\*\*(.+?)\*\*", it).group(1), set(re.findall(r"`(depot_\w+)`", it))) for it in layers])
+
     def test_each_is_in_the_list(self):
         there = set(os.listdir(path_of("crates")))
         heads = re.findall(r"(?m)^(?:- \**|\| )((?:`depot_\w+`(?:, | and )?)+)", section("docs/ARCHITECTURE.md", "The crates"))
         self.assertEqual({name for it in heads for name in re.findall(r"depot_\w+", it)}, there)
         self.assertEqual(set(crates()), there)
+
+    def test_the_launcher_knows_the_time_of_each(self):
+        """Each crate of the program has its share of the time that a build takes, and no other has one."""
+        lines = [it.split() for it in text_of("tools", "times.txt").splitlines() if not it.startswith("#")]
+        self.assertEqual(sorted(name for name, _ in lines), sorted({*lists.below("depot_tool", crates()), "depot_tool"}))
+        self.assertGreater(min(int(share) for _, share in lines), 0)
 
     def test_each_edit_can_be_made(self):
         """Each old line stands once in its file, and another takes its place."""

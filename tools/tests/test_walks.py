@@ -26,7 +26,9 @@ def blocks_of(page, title):
 
 
 @unittest.skipUnless(PROGRAM, "DEPOT_PROGRAM names no program")
-class Walks(InARoom):
+class Checkout(InARoom):
+    """A room that has what a checkout has, and the program."""
+
     def setUp(self):
         super().setUp()
         os.symlink(os.path.abspath(PROGRAM), self.path("depot"))
@@ -39,19 +41,28 @@ class Walks(InARoom):
         ran = subprocess.run(["bash"], input="\n".join(blocks).encode(), cwd=self.room, capture_output=True)
         return ran.stdout.decode().splitlines(), ran.stderr.decode()
 
+
+class Walks(Checkout):
+    def test_the_first_look_of_the_readme(self):
+        """What the program that isn't proved prints there is what the proved one does, and ends so."""
+        unproved, end, proved = blocks_of("README.md", "See it run")
+        self.assertEqual(unproved.replace(" --unproved", ""), proved)
+        out, why = self.typed(proved)
+        self.assertEqual((out[-5:], why), (end.splitlines(), ""))
+
     def test_the_first_node_of_the_readme(self):
         out, why = self.typed(blocks_of("README.md", "A first node")[0])
         self.assertEqual((out[1:3], why), (["put 6b -> 0/1", "get 6b -> 1/0/1=61"], ""))
         self.assertIn("own statements: 1, 255 of 256 left", out)
         made = self.made()
-        self.assertEqual(os.stat(self.path("seed")).st_mode & 0o77, 0)
+        self.assertEqual(os.stat(self.path("mine/seed")).st_mode & 0o77, 0)
         self.typed(blocks_of("README.md", "A first node")[0])
         self.assertEqual(self.made(), made)
 
     def made(self):
         """What a second walk must not write over."""
         found = []
-        for name in ("seed", "roster", "one/depot.journal"):
+        for name in ("mine/seed", "mine/roster", "mine/one/depot.journal"):
             with open(self.path(name), "rb") as file:
                 found.append(file.read())
         return found

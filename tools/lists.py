@@ -1,0 +1,116 @@
+#!/usr/bin/env python3
+"""lists.py --write, lists.py --print: what pages have that is made of the tree: the drawing of the crates in docs/ARCHITECTURE.md, and the families
+of proofs in docs/PROOFS.md.
+
+A crate has in its row of the drawing those that it stands on, but for those that others in the row stand on already. A family of
+proofs is a file of proofs/, and is told by the first sentence of its head. With --write both are put into their pages, between
+the lines that begin and end them; with --print they are printed.
+"""
+
+import glob
+import os
+import re
+import sys
+import textwrap
+
+TOP = os.path.normpath(os.path.join(os.path.dirname(os.path.abspath(__file__)), ".."))
+FRONT = "depot_"
+
+
+def read(*names):
+    with open(os.path.join(TOP, *names), encoding="utf-8") as file:
+        return file.read()
+
+
+def crates(text):
+    """Each crate of crates.txt in its order, and those of this repository that it stands on."""
+    rows = [line.split("#")[0].split(":") for line in text.splitlines()]
+    listed = {row[0].split()[0]: row[1].split() for row in rows if len(row) == 2}
+    return {name: [it for it in uses if it in listed] for name, uses in listed.items()}
+
+
+def below(name, uses):
+    """All crates that one stands on."""
+    return set(uses[name]).union(*(below(it, uses) for it in uses[name]))
+
+
+def edges(name, uses):
+    """Those that a crate stands on, and that no other of these stands on."""
+    return [it for it in uses[name] if not any(it in below(other, uses) for other in uses[name])]
+
+
+def height(name, uses):
+    """How many crates stand in the longest chain down from one, itself among them."""
+    return 1 + max((height(it, uses) for it in uses[name]), default=0)
+
+
+def drawing(uses):
+    """A line a crate, by heights, and by names where these are alike."""
+    wide = max(len(name) - len(FRONT) for name in uses)
+    lines, last = ["```"], 0
+    for name in sorted(uses, key=lambda it: (height(it, uses), it)):
+        level = height(name, uses)
+        rests = " ".join(it[len(FRONT):] for it in edges(name, uses))
+        row = "%2s  %-*s  %s" % (level if level != last else "", wide, name[len(FRONT):], "<- " + rests if rests else "")
+        lines.append(row.rstrip())
+        last = level
+    return "\n".join(lines + ["```"]) + "\n"
+
+
+def titled(path):
+    """A family's name, and what it is: the comment at its head, up to its first full stop."""
+    with open(path, encoding="utf-8") as file:
+        head = re.match(r"(?:--.*\n)*", file.read()).group()
+    words = " ".join(line.lstrip("- ") for line in head.splitlines())
+    row = "- `%s`: %s" % (os.path.basename(path)[: -len(".antt")], re.split(r"(?<=\.) ", words.strip())[0])
+    return "\n".join(textwrap.wrap(row, 118, subsequent_indent="  ", break_long_words=False, break_on_hyphens=False))
+
+
+def families(uses):
+    """The families of each crate that has some, lowest crate first."""
+    parts = []
+    for name in sorted(uses, key=lambda it: (height(it, uses), it)):
+        paths = sorted(glob.glob(os.path.join(TOP, "crates", name, "proofs", "**", "[A-Z]*.antt"), recursive=True))
+        lists = ("Lib", "Answers", "Invariants", "Proof")
+        found = [titled(it) for it in paths if os.path.basename(it)[: -len(".antt")] not in lists]
+        if found:
+            parts.append("### %s\n\n%s\n" % (name, "\n".join(found)))
+    return "\n".join(parts)
+
+
+def marks(what):
+    """The lines of a page between which stands what is made."""
+    return "<!-- %s: made by tools/lists.py -->\n" % what, "<!-- end -->\n"
+
+
+def with_list(page, what, text):
+    """The page with this text between its marks."""
+    begin, end = marks(what)
+    front, rest = page.split(begin)
+    return front + begin + text + end + rest.split(end, 1)[1]
+
+
+def made():
+    """Each page that has something made, and how it is to read."""
+    uses = crates(read("crates.txt"))
+    for name, what, text in (("ARCHITECTURE.md", "the drawing", drawing(uses)), ("PROOFS.md", "families", families(uses))):
+        yield os.path.join("docs", name), with_list(read("docs", name), what, text)
+
+
+def main(words):
+    if words == ["--write"]:
+        for name, page in list(made()):
+            with open(os.path.join(TOP, name), "w", encoding="utf-8") as file:
+                file.write(page)
+        return 0
+    if words != ["--print"]:
+        asked = words in (["-h"], ["--help"])
+        print(__doc__.strip(), file=sys.stdout if asked else sys.stderr)
+        return 0 if asked else 1
+    uses = crates(read("crates.txt"))
+    print(drawing(uses) + "\n" + families(uses), end="")
+    return 0
+
+
+if __name__ == "__main__":
+    sys.exit(main(sys.argv[1:]))
