@@ -22,10 +22,10 @@ use Rattle.depot_c.specs.declared.refused.Refused.TheVariants as refused
 a_number_asks : asked_by 11 ≡ Some (ask.Node (node_ask.Request kind.Puts))
 a_number_asks = refl
 
-the_last_number : asked_by 24 ≡ Some (ask.Node node_ask.Record)
+the_last_number : asked_by 25 ≡ Some (ask.Node node_ask.Message)
 the_last_number = refl
 
-a_number_too_high : asked_by 25 ≡ None
+a_number_too_high : asked_by 26 ≡ None
 a_number_too_high = refl
 
 a_request_fails : for_disk (refused.Halted halt.Disk) ≡ true

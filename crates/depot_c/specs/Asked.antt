@@ -9,7 +9,7 @@ use Rattle.depot_c.specs.declared.ask.RequestKind.TheVariants as kind
 abbrev pub asks_request : RequestKind → Option Ask
 asks_request k = Some (ask.Node (node_ask.Request k))
 
--- what the numbers from 0 on ask, as include/depot.h has them
+-- what the numbers from 0 on ask, as bindings/depot.h has them
 abbrev pub asked_operations : List (Option Ask)
 asked_operations =
     Some ask.Length
@@ -37,6 +37,7 @@ asked_operations =
     ∷ Some (ask.Node node_ask.Value)
     ∷ Some (ask.Node node_ask.Count)
     ∷ Some (ask.Node node_ask.Record)
+    ∷ Some (ask.Node node_ask.Message)
     ∷ []
 
 abbrev pub asked_by : ℕ → Option Ask

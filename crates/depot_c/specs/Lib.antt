@@ -4,6 +4,7 @@ pub mod ByteForms
 pub mod Calls
 pub mod Handles
 pub mod Judgements
+pub mod MessageAnswers
 pub mod Refusals
 pub mod NodeViews
 pub mod Requested

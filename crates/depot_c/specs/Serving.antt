@@ -3,6 +3,7 @@ use Rattle.std.specs.Prelude.{◌≡◌, ℕ, List, Bool, true, false, Err}
 use Rattle.depot_base.specs.Sized.{IsKey}
 use Rattle.depot_requests.specs.declared.reply.Halt.TheVariants as halt
 use Rattle.depot_requests.specs.declared.request.Request.{Request}
+use Rattle.depot_c.specs.MessageAnswers.{Messaging}
 use Rattle.depot_c.specs.NodeViews.{Counting, Reading, Recording, Replying, NodeView, CallAnswer, Valuing}
 use Rattle.depot_c.specs.Requested.{IsAskedBy, IsUnasked}
 use Rattle.depot_c.specs.declared.ask.NodeAsk.{NodeAsk}
@@ -40,3 +41,4 @@ AsksNode ask.Latest n input s told t = (t ≡ s) × WhereRunning s.stopped told 
 AsksNode ask.Value n input s told t = (t ≡ s) × WhereRunning s.stopped told (OfKey Valuing s input n told)
 AsksNode ask.Count n input s told t = (t ≡ s) × Counting s told
 AsksNode ask.Record n input s told t = (t ≡ s) × Recording s n told
+AsksNode ask.Message n input s told t = Messaging s input told t

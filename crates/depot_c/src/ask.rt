@@ -36,6 +36,8 @@ pub enum NodeAsk {
     Count,
     /// For the text of a record: the number is its place.
     Record,
+    /// To do or tell what a message asks: the input is its body.
+    Message,
 }
 
 /// What a handle is asked.
@@ -71,8 +73,8 @@ pub enum Ask {
     Node(NodeAsk),
 }
 
-/// What each number asks, as include/depot.h has them.
-const OPERATIONS: [Option<Ask>; 25] = [
+/// What each number asks, as bindings/depot.h has them.
+const OPERATIONS: [Option<Ask>; 26] = [
     Some(Ask::Length),
     Some(Ask::Copy),
     Some(Ask::Number),
@@ -98,6 +100,7 @@ const OPERATIONS: [Option<Ask>; 25] = [
     Some(Ask::Node(NodeAsk::Value)),
     Some(Ask::Node(NodeAsk::Count)),
     Some(Ask::Node(NodeAsk::Record)),
+    Some(Ask::Node(NodeAsk::Message)),
 ];
 
 impl Ask {

@@ -14,7 +14,7 @@ use crate::serving::serve;
 use std::alloc::Global;
 use std::mem::{align_of, size_of};
 
-/// Which operations there are, their numbers and the forms of their bytes, as include/depot.h has them.
+/// Which operations there are, their numbers and the forms of their bytes, as bindings/depot.h has them.
 #[unsafe(no_mangle)]
 pub extern "C" fn depot_c_abi() -> u32
     ensures { result ≡ 1 }

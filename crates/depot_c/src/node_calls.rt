@@ -9,6 +9,7 @@ ghost use Rattle.depot_c.specs.Serving.{AsksNode, OfKey, Requesting};
 
 use crate::answer::Answer;
 use crate::ask::{NodeAsk, RequestKind};
+use crate::message_calls::message;
 use crate::node_view::{HasNodeView, Over};
 use crate::refused::Refused;
 use crate::requests::{key_of, request_of};
@@ -211,6 +212,7 @@ pub fn ask(
         NodeAsk::Request(kind) => do_request(alloc, node, kind, number, input),
         NodeAsk::Count => Ok(Answer::Number(u64::from(node.record_count()))),
         NodeAsk::Record => record(alloc, node, number),
+        NodeAsk::Message => message(alloc, node, input),
         NodeAsk::Latest | NodeAsk::Value if node.is_stopped() => Err(Refused::Halted(
             Halt::Stopped,
         )),

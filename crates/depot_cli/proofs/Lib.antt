@@ -5,4 +5,5 @@ pub mod Endings
 pub mod Completing
 pub mod PrintedLines
 pub mod NodeRuns
+pub mod ServerRuns
 pub mod AuditRuns

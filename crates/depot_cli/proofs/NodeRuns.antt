@@ -205,7 +205,7 @@ no_fault_of_inputs shelf loads sink n listed commands answer text well has has_s
 no_fault_of_inputs shelf loads sink n listed commands answer text well has has_script (inr (inr (inr (loaded, (is, (some, broken)))))) = no_script shelf n.script text commands has_script (broken well.tells)
 
 -- a text is one roster's
-one_roster : (bytes : List ℕ) (a b : List RosterEntry) → IsRosterText bytes a → IsRosterText bytes b → a ≡ b
+pub one_roster : (bytes : List ℕ) (a b : List RosterEntry) → IsRosterText bytes a → IsRosterText bytes b → a ≡ b
 one_roster bytes a b is other = (in_one_way roster _ roster_lawful).value a b is.fits other.fits (sym is.is ∙ other.is)
 
 ok_is_one : {A E : Type 0} (a b : A) → ◌≡◌ {A = Result A E} (Ok a) (Ok b) → a ≡ b

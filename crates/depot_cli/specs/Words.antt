@@ -9,6 +9,7 @@ use Rattle.depot_lines.specs.FileNames.{is_file_name}
 use Rattle.depot_traces.specs.declared.trace.TheConstants.{MOST_TRACES}
 use Rattle.depot_cli.specs.declared.invocation.Invocation.{Invocation}
 use Rattle.depot_cli.specs.declared.invocation.Invocation.TheVariants.{Scan, Key, Judge, Load, Replay, Node, Audit}
+use Rattle.depot_cli.specs.declared.invocation.ServerWords.{ServerWords}
 
 -- ---- commands
 
@@ -46,6 +47,11 @@ abbrev pub node_command : List ℕ → List ℕ → List ℕ → List ℕ → Li
 node_command roster seed height id script =
     option_and_then (λ r. option_and_then (λ s. option_and_then (λ h. option_and_then (λ i. option_map (λ c. Node (record { roster = r; seed = s; height = h; id = i; script = c })) (name_word script)) (number_word 1 65535 id)) (number_word LEAST_HEIGHT GREATEST_HEIGHT height)) (sized (is_within 32 32) (hex_word seed))) (name_word roster)
 
+-- ROSTER SEED HEIGHT ID, which `serve` takes
+abbrev pub server_words : List ℕ → List ℕ → List ℕ → List ℕ → Option ServerWords
+server_words roster seed height id =
+    option_and_then (λ r. option_and_then (λ s. option_and_then (λ h. option_map (λ i. record { roster = r; seed = s; height = h; id = i }) (number_word 1 65535 id)) (number_word LEAST_HEIGHT GREATEST_HEIGHT height)) (sized (is_within 32 32) (hex_word seed))) (name_word roster)
+
 -- the names of 1 to 32 trace files
 abbrev pub trace_names : List (List ℕ) → Option (List (List ℕ))
 trace_names words = when (is_within 1 MOST_TRACES (length words) && list_all is_file_name words) words
@@ -78,7 +84,12 @@ command_by_number (verb ∷ a ∷ b ∷ []) = command_by verb a b
 command_by_number (verb ∷ a ∷ b ∷ c ∷ d ∷ e ∷ []) = command_for verb a b c d e
 command_by_number words = None
 
--- the command that the words are, if they are one
+-- the command that the words are, if they are one and it isn't `serve`
 abbrev pub command_of : List (List ℕ) → Option Invocation
 command_of (verb ∷ roster ∷ traces) = if bytes_eq verb (codes "audit") then audit_command roster traces else command_by_number (verb ∷ roster ∷ traces)
 command_of words = None
+
+-- what is asked for by `serve ROSTER SEED HEIGHT ID`, if the words are that
+unfoldable pub served_words : List (List ℕ) → Option ServerWords
+served_words (verb ∷ a ∷ b ∷ c ∷ d ∷ []) = if bytes_eq verb (codes "serve") then server_words a b c d else None
+served_words words = None

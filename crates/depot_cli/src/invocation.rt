@@ -3,7 +3,7 @@ ghost use Rattle.std.specs.Prelude.{◌≡◌, IfOk, None, Some};
 ghost use Rattle.std.specs.List.{list_all};
 ghost use Rattle.depot_model.specs.Lists.{when};
 ghost use Rattle.depot_lines.specs.FileNames.{is_file_name};
-ghost use Rattle.depot_cli.specs.Words.{audit_command, trace_names, command_of, command_by_number, command_by, command_for, command_with, scan_command, key_command, judge_command, load_command, node_command, replay_command};
+ghost use Rattle.depot_cli.specs.Words.{audit_command, trace_names, command_of, command_by_number, command_by, command_for, command_with, scan_command, key_command, judge_command, load_command, node_command, replay_command, served_words, server_words};
 
 use crate::given_words::{hash_word, height_word, id_word, key_word, load_word, name_word};
 use crate::height::Height;
@@ -41,6 +41,15 @@ pub struct NodeWords {
     pub height: Height,
     pub id: NodeId,
     pub script: Word,
+}
+
+/// What `serve` is asked for: the name of the roster, and the node's seed, height and number.
+#[derive(Debug, Drop)]
+pub struct ServerWords {
+    pub roster: Word,
+    pub seed: Hash32,
+    pub height: Height,
+    pub id: NodeId,
 }
 
 /// The command of `scan`'s two words.
@@ -256,6 +265,49 @@ fn by_number(alloc: Global, words: &[Word]) -> Result<Option<Invocation>, Memory
         [verb, first, second] => three_words(alloc, verb, first, second),
         [verb, roster, seed, height, id, script] => {
             six_words(alloc, verb, roster, seed, height, id, script)
+        }
+        _ => Ok(None),
+    }
+}
+
+/// What `serve`'s four words ask for.
+fn server_words(
+    alloc: Global,
+    roster: &Word,
+    seed: &Word,
+    height: &Word,
+    id: &Word,
+) -> Result<Option<ServerWords>, Memory>
+    ensures { IfOk result (λ n. n ≡ server_words roster.now seed.now height.now id.now) }
+{
+    let Some(roster) = name_word(roster)? else {
+        return Ok(None);
+    };
+    let Some(seed) = hash_word(alloc, seed)? else {
+        return Ok(None);
+    };
+    let Some(height) = height_word(height) else {
+        return Ok(None);
+    };
+    let Some(id) = id_word(id) else {
+        return Ok(None);
+    };
+    Ok(Some(ServerWords {
+        roster,
+        seed,
+        height,
+        id,
+    }))
+}
+
+/// What the words ask for of `serve`, or None where they aren't `serve ROSTER SEED HEIGHT ID`.
+#[tactic(auto, unfolding(crate::specs::Words::served_words))]
+pub fn parse_served(alloc: Global, words: &[Word]) -> Result<Option<ServerWords>, Memory>
+    ensures { IfOk result (λ n. n ≡ served_words words.now) }
+{
+    match words {
+        [verb, roster, seed, height, id] if verb.is("serve") => {
+            server_words(alloc, roster, seed, height, id)
         }
         _ => Ok(None),
     }

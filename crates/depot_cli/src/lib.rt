@@ -24,6 +24,7 @@ mod node_command;
 mod outcome;
 mod replay_command;
 mod scan_command;
+mod serve_command;
 mod status;
 mod top;
 mod trace_names;

@@ -1,7 +1,8 @@
 //! How a run ends.
 ghost use Rattle.std.specs.Prelude.{◌≡◌};
-ghost use Rattle.depot_cli.specs.Statuses.{number_of_status, status_of};
+ghost use Rattle.depot_cli.specs.Statuses.{number_of_status, status_of, status_of_server};
 
+use depot_server::ServerEnding;
 use depot_session::ScriptEnding;
 
 /// How a run ends.
@@ -11,7 +12,8 @@ pub enum Status {
     Done,
     /// The words are no command.
     Words,
-    /// A file that the words name, or one that a script opens, signs, trims by or takes, isn't in its grammar.
+    /// A file that the words name, or one that a script opens, signs, trims by or takes, isn't in its grammar; or what came over the source is no
+    /// request.
     Input,
     /// A file isn't on the shelf, or the shelf failed.
     Shelf,
@@ -31,6 +33,8 @@ pub enum Status {
     Identity,
     /// What nodes did doesn't keep the headline: an audit found what fails first.
     Broken,
+    /// The source failed.
+    Source,
 }
 
 impl Status {
@@ -51,6 +55,22 @@ impl Status {
         }
     }
 
+    /// How the run of a server ends, as a status.
+    pub fn of_server(ending: ServerEnding) -> Status
+        ensures { result ≡ status_of_server ending }
+    {
+        match ending {
+            ServerEnding::Done => Status::Done,
+            ServerEnding::Memory => Status::Memory,
+            ServerEnding::Source => Status::Source,
+            ServerEnding::Disk => Status::Disk,
+            ServerEnding::Sink => Status::Sink,
+            ServerEnding::Input { .. } => Status::Input,
+            ServerEnding::NotLawful => Status::NotLawful,
+            ServerEnding::Identity => Status::Identity,
+        }
+    }
+
     /// The exit status of the program.
     pub fn number(self) -> u8
         ensures { result ≡ number_of_status self }
@@ -68,6 +88,7 @@ impl Status {
             Status::NotLawful => 9,
             Status::Identity => 10,
             Status::Broken => 11,
+            Status::Source => 13,
         }
     }
 }

@@ -1,4 +1,5 @@
 mod FindingExamples
+pub mod ChangeLists
 pub mod TopLeaves
 mod LatestOfEachExamples
 mod ReadExamples

@@ -17,7 +17,7 @@ use Rattle.depot_model.specs.Journal.{accepted, accepted_by, update_in, is_forei
 use Rattle.depot_model.specs.Checks.{Setting}
 use Rattle.depot_model.specs.Lawful.{IsLawful}
 use Rattle.depot_model.specs.Vouching.{is_mine_vouched}
-use Rattle.depot_model.specs.Bundle.{Signs, Parcel, has_candidate, candidates, sent_for, sent_foreign, unvouched}
+use Rattle.depot_model.specs.Bundle.{Signs, Parcel, has_candidate, candidates, parcels, sent_foreign, unvouched}
 use Rattle.depot_model.proofs.Orders.{fresh, causal_behind}
 use Rattle.depot_model.proofs.Members.{in_left, in_right, in_parts, in_map, from_map, all_from, any_from, from_filter}
 use Rattle.depot_laws.specs.Rejoin.{updates_of}
@@ -25,7 +25,7 @@ use Rattle.depot_laws.proofs.Splits.{given_by, flat_gives}
 use Rattle.depot_laws.proofs.Tests.{fails_from_not}
 use Rattle.depot_laws.proofs.Causes.{lawful_is_causal}
 use Rattle.depot_laws.proofs.Worlds.{giver_in}
-use Rattle.depot_laws.proofs.Parcels.{candidates_for, sent_in_front, told_of_parcels}
+use Rattle.depot_laws.proofs.Parcels.{IsFront, candidates_for, told_of_parcels}
 
 -- ---- lists of which no element stands twice
 
@@ -82,35 +82,31 @@ ids_apart ids (u ∷ us) c =
     (λ on. let m = from_map id_of_update (id_of_update u) us on in fresh (id_of_update u ∷ ids) us m.0 behind m.1.0 (inl (sym m.1.1)), ids_apart (id_of_update u ∷ ids) us behind)
 
 -- what is sent stands in front of what the candidates accept
-sent_front : (sign : Signs) (J : List Record) (h : Hello) → (more : List Update) × (accepted (candidates_for J h) ≡ updates_of (sent_for sign J h) ++ more)
-sent_front sign J h =
-    let f = sent_in_front sign J h in
-    (updates_of f.left, sym (told_of_parcels sign J h) ∙ ap updates_of f.is ∙ flat_map-append (λ (x : Parcel). flat_map (λ (s : Signed). update_in s.statement) x.told) (sent_for sign J h) f.left)
+sent_front : (sign : Signs) (J : List Record) (h : Hello) (xs : List Parcel) → IsFront (parcels sign J h) xs → (more : List Update) × (accepted (candidates_for J h) ≡ updates_of xs ++ more)
+sent_front sign J h xs f =
+    (updates_of f.left, sym (told_of_parcels sign J h) ∙ ap updates_of f.is ∙ flat_map-append (λ (x : Parcel). flat_map (λ (s : Signed). update_in s.statement) x.told) xs f.left)
 
-pub unvouched_apart : (here : Setting) (sign : Signs) (J : List Record) (h : Hello) → IsLawful here J → AreApart (unvouched here.me J (sent_for sign J h))
+pub unvouched_apart : (here : Setting) (sign : Signs) (J : List Record) (h : Hello) (xs : List Parcel) → IsFront (parcels sign J h) xs → IsLawful here J → AreApart (unvouched here.me J xs)
 unfolding unvouched sent_foreign candidates
-unvouched_apart here sign J h l =
-    let s = sent_front sign J h in
+unvouched_apart here sign J h xs f l =
+    let s = sent_front sign J h xs f in
     let all = given_filter id_of_update accepted_by (has_candidate J (map (λ l. l.id) h.leaves) h.node) J (ids_apart [] (accepted J) (lawful_is_causal here J l)) in
-    let parts : map id_of_update (accepted (candidates_for J h)) ≡ map id_of_update (updates_of (sent_for sign J h)) ++ map id_of_update s.0 = ap (map id_of_update) s.1 ∙ map-append id_of_update (updates_of (sent_for sign J h)) s.0 in
-    let sent = apart_front (map id_of_update (updates_of (sent_for sign J h))) (map id_of_update s.0) (subst (λ (hs : List (List ℕ)). AreApart hs) parts all) in
-    apart_filter (λ (i : List ℕ). not (is_mine_vouched J i)) _ (mapped_filter id_of_update (λ (u : Update). not (eqb u.writer here.me)) (updates_of (sent_for sign J h)) sent)
+    let parts : map id_of_update (accepted (candidates_for J h)) ≡ map id_of_update (updates_of xs) ++ map id_of_update s.0 = ap (map id_of_update) s.1 ∙ map-append id_of_update (updates_of xs) s.0 in
+    let sent = apart_front (map id_of_update (updates_of xs)) (map id_of_update s.0) (subst (λ (hs : List (List ℕ)). AreApart hs) parts all) in
+    apart_filter (λ (i : List ℕ). not (is_mine_vouched J i)) _ (mapped_filter id_of_update (λ (u : Update). not (eqb u.writer here.me)) (updates_of xs) sent)
 
-pub foreign_one : (here : Setting) (sign : Signs) (J : List Record) (h : Hello) (i : List ℕ) → IsIn i (unvouched here.me J (sent_for sign J h)) → is_foreign here.me (accepted J) i ≡ true
+pub foreign_one : (here : Setting) (sign : Signs) (J : List Record) (h : Hello) (xs : List Parcel) → IsFront (parcels sign J h) xs → (i : List ℕ) → IsIn i (unvouched here.me J xs) → is_foreign here.me (accepted J) i ≡ true
 unfolding unvouched sent_foreign candidates
-foreign_one here sign J h i on =
+foreign_one here sign J h xs front i on =
     let other = λ (u : Update). not (eqb u.writer here.me) in
-    let f = from_filter (λ (k : List ℕ). not (is_mine_vouched J k)) i (map id_of_update (filter other (updates_of (sent_for sign J h)))) on in
-    let m = from_map id_of_update i (filter other (updates_of (sent_for sign J h))) f.0 in
-    let u = from_filter other m.0 (updates_of (sent_for sign J h)) m.1.0 in
-    let s = sent_front sign J h in
-    let given : IsIn m.0 (accepted (candidates_for J h)) = subst (λ (us : List Update). IsIn m.0 us) (sym s.1) (in_left m.0 (updates_of (sent_for sign J h)) s.0 u.0) in
+    let f = from_filter (λ (k : List ℕ). not (is_mine_vouched J k)) i (map id_of_update (filter other (updates_of xs))) on in
+    let m = from_map id_of_update i (filter other (updates_of xs)) f.0 in
+    let u = from_filter other m.0 (updates_of xs) m.1.0 in
+    let s = sent_front sign J h xs front in
+    let given : IsIn m.0 (accepted (candidates_for J h)) = subst (λ (us : List Update). IsIn m.0 us) (sym s.1) (in_left m.0 (updates_of xs) s.0 u.0) in
     let g = given_by accepted_by m.0 (candidates_for J h) given in
     let accepts : IsIn m.0 (accepted J) = flat_gives accepted_by m.0 g.by J (from_filter (has_candidate J (map (λ l. l.id) h.leaves) h.node) g.by J (giver_in accepted_by m.0 (candidates_for J h) g)).0 g.given in
     any_from (λ (t : Update). bytes_eq (id_of_update t) i && not (eqb t.writer here.me)) m.0 (accepted J) accepts (and_from _ _ ((bytes_eq-Decides (id_of_update m.0) i).1 m.1.1) u.1)
-
-pub unvouched_foreign : (here : Setting) (sign : Signs) (J : List Record) (h : Hello) → AllByRecursion (λ i. is_foreign here.me (accepted J) i ≡ true) (unvouched here.me J (sent_for sign J h))
-unvouched_foreign here sign J h = all_from (λ i. is_foreign here.me (accepted J) i ≡ true) (unvouched here.me J (sent_for sign J h)) (foreign_one here sign J h)
 
 fresh_one : (me : ℕ) (J : List Record) (xs : List Parcel) (i : List ℕ) → IsIn i (unvouched me J xs) → is_mine_vouched J i ≡ false
 unfolding unvouched

@@ -111,13 +111,13 @@ pub record IsParcel (x : Parcel) (texts behind : List (List ℕ)) : Type 0 where
 parcel_is : (x : Parcel) (told values : List (List ℕ)) → IsParcel x told values → frames_of x ≡ parcel_frames told values
 parcel_is x told values p = rw (told_frames x.told, p.told, p.values) refl
 
-holds_short : (me : ℕ) (xs : List Parcel) (s : Sending) → Holds me xs s → length s.frames ≡ bytes_in xs
+pub holds_short : (me : ℕ) (xs : List Parcel) (s : Sending) → Holds me xs s → length s.frames ≡ bytes_in xs
 holds_short me xs s h = ap length h.frames ∙ frames_long (flat_map frames_of xs)
 
 one_count : (x : Parcel) → length (frames_of x) ≡ length x.told + length x.values
 one_count x = length-append (map statement_frame x.told) _ ∙ omega (arith, length-map x.told statement_frame, length-map x.values value_frame)
 
-counts_all : (xs : List Parcel) → count_in xs ≡ sum_by (λ (x : Parcel). length x.told) xs + sum_by (λ (x : Parcel). length x.values) xs
+pub counts_all : (xs : List Parcel) → count_in xs ≡ sum_by (λ (x : Parcel). length x.told) xs + sum_by (λ (x : Parcel). length x.values) xs
 counts_all [] = refl
 counts_all (x ∷ xs) = omega (arith, count_more x xs, one_count x, counts_all xs, sum_by-append (λ (y : Parcel). length y.told) (x ∷ []) xs, sum_by-append (λ (y : Parcel). length y.values) (x ∷ []) xs)
 
@@ -125,13 +125,13 @@ counts_all (x ∷ xs) = omega (arith, count_more x xs, one_count x, counts_all x
 pub is_short : (me : ℕ) (xs : List Parcel) (s : Sending) → Holds me xs s → IsShort s
 is_short me xs s h = record { within = omega (arith, holds_short me xs s h, h.fit.within); few = omega (arith, counts_all xs, h.updates, h.values, h.fit.few) }
 
-bytes_push : (xs : List Parcel) (x : Parcel) → bytes_in (xs ++ x ∷ []) ≡ bytes_in xs + bytes_of_frames (frames_of x)
+pub bytes_push : (xs : List Parcel) (x : Parcel) → bytes_in (xs ++ x ∷ []) ≡ bytes_in xs + bytes_of_frames (frames_of x)
 bytes_push xs x = ap bytes_of_frames (flat_push frames_of xs x) ∙ bytes_both (flat_map frames_of xs) (frames_of x)
 
-count_push : (xs : List Parcel) (x : Parcel) → count_in (xs ++ x ∷ []) ≡ count_in xs + length (frames_of x)
+pub count_push : (xs : List Parcel) (x : Parcel) → count_in (xs ++ x ∷ []) ≡ count_in xs + length (frames_of x)
 count_push xs x = ap length (flat_push frames_of xs x) ∙ length-append (flat_map frames_of xs) (frames_of x)
 
-foreign_push : (me : ℕ) (xs : List Parcel) (x : Parcel) → sent_foreign me (xs ++ x ∷ []) ≡ sent_foreign me xs ++ sent_foreign me (x ∷ [])
+pub foreign_push : (me : ℕ) (xs : List Parcel) (x : Parcel) → sent_foreign me (xs ++ x ∷ []) ≡ sent_foreign me xs ++ sent_foreign me (x ∷ [])
 unfolding sent_foreign
 foreign_push me xs x =
     let told = λ (y : Parcel). flat_map (λ (s : Signed). update_in s.statement) y.told in

@@ -1,5 +1,5 @@
 -- The stream of a bundle, and what is answered once its vouchers are journaled.
-use Rattle.std.proofs.Common.{◌≡◌, ◌↔◌, ℕ, List, [], ◌∷◌, ◌++◌, length, map, Bool, true, ltb, Option, Some, None, Result, Ok, Err, refl, sym, ap, subst, ◌∙◌, inl, inr}
+use Rattle.std.proofs.Common.{◌≡◌, ◌↔◌, ℕ, List, [], ◌∷◌, ◌++◌, length, map, Bool, true, Option, Some, None, Result, Ok, Err, refl, sym, ap, subst, ◌∙◌, inl, inr}
 use Rattle.std.specs.Prelude.{IsErrOf}
 use Rattle.std.specs.List.{flat_map}
 use Rattle.std.proofs.lemmas.Grind.{flat_map-append}
@@ -9,10 +9,12 @@ use Rattle.depot_model.specs.declared.bundle.VoucherError.{VoucherError}
 use Rattle.depot_model.specs.declared.bundle.VoucherError.TheVariants as refused
 use Rattle.depot_model.specs.Checks.{Setting}
 use Rattle.depot_model.specs.Frames.{Frame, text_of_frame}
+use Rattle.depot_model.specs.Lawful.{IsLawful}
+use Rattle.depot_laws.proofs.Parcels.{sent_in_front}
 use Rattle.depot_model.specs.Limits.{Limit}
 use Rattle.depot_model.proofs.JournalCallLaws.{never_stopped}
 use Rattle.depot_model.specs.Vouching.{Vouches, new_vouchers, limit_of_vouchers}
-use Rattle.depot_model.specs.Bundle.{Signs, Parcel, frames_of, proof_frame, end_frame, proofs_for, vouchers_for, sent_foreign, sent_for, parcels, unvouched, with_vouchers, bundled_within, bundle_of, bundle_frames, bundle_answer, voucher_frame}
+use Rattle.depot_model.specs.Bundle.{Signs, Parcel, frames_of, proof_frame, end_frame, proofs_for, vouchers_for, sent_foreign, sent_for, unvouched, with_vouchers, Bundle, BundleAnswer, bundled_within, bundle_of, bundle_frames, bundle_answer, voucher_frame}
 use Rattle.depot_base.proofs.GeneralLaws.{flat_push}
 use Rattle.depot_frames.specs.declared.sending.Sending.{Sending}
 use Rattle.depot_gossip.specs.declared.bundle_stream.Bundled.{Bundled}
@@ -22,8 +24,9 @@ use Rattle.depot_gossip.specs.declared.bundle_error.BundleError.TheVariants as e
 use Rattle.depot_gossip.specs.Errors.{from_vouching}
 use Rattle.depot_frames.specs.Sendings.{Holds}
 use Rattle.depot_gossip.specs.BundleStreams.{IsStream}
-use Rattle.depot_gossip.specs.Preparing.{IsPrepared, Prepares}
-use Rattle.depot_gossip.specs.Bundling.{Bundles}
+use Rattle.depot_gossip.specs.Preparing.{IsPrepared, IsReady, Prepares, answer_with, bundle_with}
+use Rattle.depot_gossip.specs.Bundling.{Bundles, BundlesBy}
+use Rattle.depot_gossip.proofs.ApartLaws.{foreign_one, unvouched_apart}
 
 -- ---- the stream
 
@@ -77,53 +80,65 @@ module _ (here : Setting) (sign : Signs) (J : List Record) (stopped : Bool) (tex
   no_disk (error.Spent n) p is = p
   no_disk (error.Full what) p is = p
 
-  -- ---- once the vouchers are made
+-- what is prepared for a hello is ready
+pub prepared_is_ready : (here : Setting) (sign : Signs) (J : List Record) (stopped : Bool) (text : List ℕ) (p : Prepared) → IsLawful here J → IsPrepared here sign J stopped text p → IsReady here sign J (bundle_answer here sign J text) (sent_for sign J p.hello) p
+unfolding bundle_of
+prepared_is_ready here sign J stopped text p l is =
+    let xs = sent_for sign J p.hello in
+    record {
+      is = is.heard ∙ ap (answer_with here sign J p.hello xs) (sym is.more);
+      holds = is.holds;
+      ids = is.ids;
+      apart = unvouched_apart here sign J p.hello xs (sent_in_front sign J p.hello) l;
+      foreign = foreign_one here sign J p.hello xs (sent_in_front sign J p.hello);
+    }
 
+-- ---- once the vouchers are made
+
+module _ (here : Setting) (sign : Signs) (J : List Record) (stopped : Bool) (answer : BundleAnswer) (xs : List Parcel) (p : Prepared) (is : IsReady here sign J answer xs p) where
   -- the vouchers for the ids of what was prepared
-  vouched_for : (p : Prepared) (r : Result (Unit {0}) VoucherError) (then : List Record) → IsPrepared here sign J stopped text p → Vouches here J p.unvouched r then → Vouches here J (unvouched here.me J (sent_for sign J p.hello)) r then
-  vouched_for p r then is v = subst (λ (ids : List (List ℕ)). Vouches here J ids r then) is.ids v
+  vouched_for : (r : Result (Unit {0}) VoucherError) (then : List Record) → Vouches here J p.unvouched r then → Vouches here J (unvouched here.me J xs) r then
+  vouched_for r then v = subst (λ (ids : List (List ℕ)). Vouches here J ids r then) is.ids v
 
-  within : (p : Prepared) (o : Option Limit) → IsPrepared here sign J stopped text p → limit_of_vouchers here J (unvouched here.me J (sent_for sign J p.hello)) ≡ o → bundle_answer here sign J text ≡ bundled_within o (bundle_of here.me sign J p.hello)
-  within p o is e = is.heard ∙ ap (λ (l : Option Limit). bundled_within l (bundle_of here.me sign J p.hello)) e
+  abbrev ready : Bundle
+  ready = bundle_with here.me sign J p.hello xs p.sending.more
+
+  within : (o : Option Limit) → limit_of_vouchers here J (unvouched here.me J xs) ≡ o → answer ≡ bundled_within o ready
+  within o e = is.is ∙ ap (λ (l : Option Limit). bundled_within l ready) e
 
   -- they aren't made
-  pub not_vouched : (p : Prepared) (e : VoucherError) (then : List Record) → IsPrepared here sign J stopped text p → (e ≡ refused.Stopped → stopped ≡ true) → Vouches here J p.unvouched (Err e) then → Bundles here sign J stopped text (Err (from_vouching e)) then
-  unfolding bundle_of
-  not_vouched p refused.Memory then is stops v = inl v
-  not_vouched p refused.Stopped then is stops v = (stops refl, v)
-  not_vouched p refused.Disk then is stops v =
-      let w = vouched_for p (Err refused.Disk) then is v in
-      record { bundle = bundle_of here.me sign J p.hello; is = within p None is w.0; cut = w.1 }
-  not_vouched p (refused.Spent n) then is stops v = let w = vouched_for p (Err (refused.Spent n)) then is v in (within p (Some _) is w.0, w.1)
-  not_vouched p (refused.Full what) then is stops v = let w = vouched_for p (Err (refused.Full what)) then is v in (within p (Some _) is w.0, w.1)
+  pub not_vouched : (e : VoucherError) (then : List Record) → (e ≡ refused.Stopped → stopped ≡ true) → Vouches here J p.unvouched (Err e) then → BundlesBy here J stopped answer (Err (from_vouching e)) then
+  not_vouched refused.Memory then stops v = inl v
+  not_vouched refused.Stopped then stops v = (stops refl, v)
+  not_vouched refused.Disk then stops v =
+      let w = vouched_for (Err refused.Disk) then v in
+      record { bundle = ready; is = within None w.0; cut = w.1 }
+  not_vouched (refused.Spent n) then stops v = let w = vouched_for (Err (refused.Spent n)) then v in (within (Some _) w.0, w.1)
+  not_vouched (refused.Full what) then stops v = let w = vouched_for (Err (refused.Full what)) then v in (within (Some _) w.0, w.1)
 
   -- they are made, and memory is wanting for the stream
-  pub only_vouched : (p : Prepared) (then : List Record) → IsPrepared here sign J stopped text p → Vouches here J p.unvouched (Ok tt) then → Bundles here sign J stopped text (Err error.Memory) then
-  unfolding bundle_of
-  only_vouched p then is v =
-      let w = vouched_for p (Ok tt) then is v in
-      inr (record { bundle = bundle_of here.me sign J p.hello; is = within p None is w.0; grown = w.1 })
+  pub only_vouched : (then : List Record) → Vouches here J p.unvouched (Ok tt) then → BundlesBy here J stopped answer (Err error.Memory) then
+  only_vouched then v =
+      let w = vouched_for (Ok tt) then v in
+      inr (record { bundle = ready; is = within None w.0; grown = w.1 })
 
   -- the bundle is made
-  pub all_bundled : (p : Prepared) (b : Bundled) (then : List Record) → IsPrepared here sign J stopped text p → Vouches here J p.unvouched (Ok tt) then → IsStream sign then p.hello p.sending b → Bundles here sign J stopped text (Ok b) then
-  unfolding bundle_of
-  all_bundled p b then is v stream =
-      let w = vouched_for p (Ok tt) then is v in
-      let xs = sent_for sign J p.hello in
-      let more = ltb (length xs) (length (parcels sign J p.hello)) in
+  pub all_bundled : (b : Bundled) (then : List Record) → Vouches here J p.unvouched (Ok tt) then → IsStream sign then p.hello p.sending b → BundlesBy here J stopped answer (Ok b) then
+  all_bundled b then v stream =
+      let w = vouched_for (Ok tt) then v in
       let K = with_vouchers J (new_vouchers here.me J (unvouched here.me J xs)) in
       let st : IsStream sign K p.hello p.sending b = subst (λ (T : List Record). IsStream sign T p.hello p.sending b) w.1 stream in
       record {
-        bundle = bundle_of here.me sign J p.hello;
-        is = within p None is w.0;
-        bytes = bytes_are here.me sign K p.hello xs p.sending b more is.holds is.more st;
+        bundle = ready;
+        is = within None w.0;
+        bytes = bytes_are here.me sign K p.hello xs p.sending b p.sending.more is.holds refl st;
         counts = λ i. record {
           proofs = st.proofs i;
           vouchers = (st.vouchers ∙ ap (λ (hs : List (List ℕ)). length (vouchers_for K hs)) is.holds.ids) i;
           updates = (st.updates ∙ is.holds.updates) i;
           values = (st.values ∙ is.holds.values) i;
         };
-        more = st.more ∙ is.more;
+        more = st.more;
         grown = w.1;
       }
 

@@ -173,7 +173,7 @@ is_answered here sign J text b is = answered here sign J b (whole hello (record 
 -- with the vouchers of a bundle the journal is lawful
 pub bundle_is_lawful : (here : Setting) (sign : Signs) (J : List Record) (h : Hello) → IsLawful here J → is_empty J ≡ false → limit_of_vouchers here J (unvouched here.me J (sent_for sign J h)) ≡ None → IsLawful here (with_vouchers J (bundle_of here.me sign J h).vouchers)
 unfolding bundle_of
-bundle_is_lawful here sign J h l some none = new_are_lawful here J (unvouched here.me J (sent_for sign J h)) l some (foreign_one here sign J h) none
+bundle_is_lawful here sign J h l some none = new_are_lawful here J (unvouched here.me J (sent_for sign J h)) l some (foreign_one here sign J h (sent_for sign J h) (sent_in_front sign J h)) none
 
 -- each own statement in a bundle stands in the journal with the bundle's vouchers, signed by the signer
 pub bundle_tells_own : (here : Setting) (sign : Signs) (J : List Record) (text : List ℕ) (b : Bundle) (s : Signed) → IsLawful here J → is_empty J ≡ false → SignsShort sign → bundle_answer here sign J text ≡ bundled b → IsSigned s → IsIn (statement_frame s) b.frames → writer_of s.statement ≡ here.me

@@ -15,7 +15,7 @@ use depot_model::{Hello, HelloLeaves, Peer};
 use std::alloc::Global;
 
 /// The ids of leaves, in their order.
-fn ids_of(alloc: Global, leaves: &HelloLeaves) -> Result<Ids, Memory>
+pub fn ids_of(alloc: Global, leaves: &HelloLeaves) -> Result<Ids, Memory>
     ensures { IfOk result (λ ids. ids ≡ map (λ l. l.id) leaves.now) }
 {
     let mut ids = Ids::new(alloc);
@@ -58,7 +58,7 @@ fn add_found(
 
 /// Chooses the candidate of a place, with the held values that it names, but for those whose hashes are among these. Says whether
 /// it has room.
-fn add_candidate<R: Peer>(
+pub fn add_candidate<R: Peer>(
     alloc: Global,
     sending: &mut Sending,
     hashes: &mut Hashes,
@@ -118,7 +118,7 @@ fn wanted_value<'n, R: Peer>(node: &'n R, hashes: &Hashes, hash: &Hash32) -> Opt
 }
 
 /// Chooses the value of a wanted hash, if it is held and its hash isn't among these. Says whether it has room.
-fn add_wanted_value<R: Peer>(
+pub fn add_wanted_value<R: Peer>(
     sending: &mut Sending,
     hashes: &Hashes,
     node: &R,

@@ -6,7 +6,7 @@ use depot_base::{Hash32, Memory};
 use indexmap::IndexSet;
 
 /// A set of digests. Each that is put in is SHA-256 of something, so nobody can choose ones that fall together.
-pub(crate) type Hashes = IndexSet<Hash32>;
+pub type Hashes = IndexSet<Hash32>;
 
 /// Whether the set has a digest. It takes no memory.
 pub(crate) fn has_hash(hashes: &Hashes, hash: &Hash32) -> bool

@@ -26,6 +26,7 @@ mod preparing;
 
 pub use bundle_error::BundleError;
 pub use bundle_stream::{Bundled, bundle_for};
+pub use choose::{add_candidate, add_wanted_value, ids_of};
 pub use depot_base::DecodeError;
 pub use depot_feeds::{Feed, FeedError, pieces_are_one, streams_tell_all};
 pub use depot_frames::{
@@ -34,6 +35,7 @@ pub use depot_frames::{
 };
 pub use depot_model::{Counts, Ending, Refusal, Refusals, Report};
 pub use gossip_laws::bundles_tell_own_statements;
-pub use own_bundle::bundle;
+pub use hashes::Hashes;
+pub use own_bundle::{bundle, send_prepared};
 pub use own_hello::{hello, node_hello};
-pub use preparing::{Prepared, prepare};
+pub use preparing::{Prepared, heard, prepare, unvouched_of};

@@ -1,5 +1,6 @@
 //! What a node sends for a hello.
-ghost use Rattle.depot_gossip.specs.Bundling.{Bundles, IsBundleCall};
+ghost use Rattle.std.specs.Prelude.{◌≡◌, false};
+ghost use Rattle.depot_gossip.specs.Bundling.{Bundles, HasReady, IsBundleCall, IsReadySent};
 
 use crate::bundle_error::BundleError;
 use crate::bundle_stream::{Bundled, bundle_for};
@@ -21,6 +22,20 @@ pub fn bundle<R: Peer>(alloc: Global, node: &mut R, hello: &[u8]) -> Result<Bund
     ensures call { IsBundleCall R.NodeState node.old node.new hello.now result }
 {
     let chosen = prepare(alloc, node, hello)?;
+    send_prepared(alloc, node, chosen)
+}
+
+/// The bundle of what was prepared, once its vouchers are journaled. The errors are those that a bundle has for its vouchers, and what they leave is
+/// what `bundle` says.
+pub fn send_prepared<R: Peer>(
+    alloc: Global,
+    node: &mut R,
+    chosen: Prepared,
+) -> Result<Bundled, BundleError>
+    requires runs { R.stopped node.old ≡ false }
+    requires ready { HasReady R.NodeState node.old chosen }
+    ensures { IsReadySent R.NodeState node.old node.new chosen result }
+{
     node.own_vouchers(&chosen.unvouched)?;
     let Prepared { hello, sending, .. } = chosen;
     Ok(bundle_for(alloc, node, &hello, sending)?)

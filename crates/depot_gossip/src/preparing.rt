@@ -1,7 +1,9 @@
 //! What is chosen for the text of a hello, before any voucher is made.
 ghost use Rattle.std.specs.Prelude.{◌≡◌, ◌++◌, [], ◌∷◌, false, not, OnOk, IfOk};
 ghost use Rattle.std.specs.List.{filter};
+ghost use Rattle.depot_model.specs.Bundle.{BundleAnswer};
 ghost use Rattle.depot_model.specs.JournalCalls.{IsStable};
+ghost use Rattle.depot_model.specs.declared.hello.Hello.{Hello};
 ghost use Rattle.depot_model.specs.Replicas.{journal_of};
 ghost use Rattle.depot_model.specs.Vouching.{is_mine_vouched};
 ghost use Rattle.depot_gossip.specs.Preparing.{ReadsHello, Prepares};
@@ -25,8 +27,8 @@ pub struct Prepared {
 }
 
 /// The hello of a text, if it goes by the node's roster.
-fn heard<R: Peer>(alloc: Global, node: &R, text: &[u8]) -> Result<Hello, BundleError>
-    ensures { ReadsHello (R.stands node.now) (R.signature_of node.now) (R.records node.now) text.now result }
+pub fn heard<R: Peer>(alloc: Global, node: &R, text: &[u8]) -> Result<Hello, BundleError>
+    ensures { (answer : Hello → BundleAnswer) → ReadsHello (R.stands node.now) answer text.now result }
 {
     let hello = decode_hello(alloc, text)?;
     if hello.roster != *node.roster_hash() {
@@ -53,7 +55,7 @@ fn add_unvouched<R: Peer>(left: &mut Ids, node: &R, id: &Hash32) -> Result<(), M
 }
 
 /// Those of these ids that no own voucher names, in their order.
-fn unvouched_of<R: Peer>(alloc: Global, node: &R, ids: &Ids) -> Result<Ids, Memory>
+pub fn unvouched_of<R: Peer>(alloc: Global, node: &R, ids: &Ids) -> Result<Ids, Memory>
     requires { R.stopped node.now ≡ false }
     ensures { IfOk result (λ left. left ≡ filter (λ id. not (is_mine_vouched (R.records node.now) id)) ids.now) }
 {

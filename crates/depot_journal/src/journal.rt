@@ -3,7 +3,7 @@ ghost use Rattle.std.specs.Prelude.{◌≡◌, ◌≢◌, ◌↔◌, ◌++◌, �
 ghost use Rattle.depot_base.specs.Calls.{FailsAmong, calls_to_start, made};
 ghost use Rattle.depot_base.specs.Faults.{HasCause};
 ghost use Rattle.depot_base.specs.Disk.{LeavesOnly, Only, Within};
-ghost use Rattle.depot_base.specs.File.{AreWithinLimits, HasBodyFront, AreBodiesCutShort, IsFileOf, StartLeavesFile, blocks};
+ghost use Rattle.depot_base.specs.File.{AreWithinLimits, HasBodyFront, AreBodiesCutShort, FitsFile, IsFileOf, PassesLimit, StartLeavesFile, blocks};
 ghost use Rattle.depot_journal.specs.JournalView.{HasMemoryFor};
 ghost use Rattle.depot_journal.specs.JournalAnswers.{HasRoomLeft, IsDamage, IsJournalUnchanged, KeepsLimits, LeavesRunning, MakesCalls, SaysDamaged, UnlessDisk, disk_of};
 ghost use Rattle.depot_journal.specs.Stable.{IsStarted, LeavesAllBodies};
@@ -14,7 +14,7 @@ use crate::journal_error::{AppendError, JournalError};
 use crate::journal_room::{Room, bytes_of, find_room, room_for};
 use crate::journal_start::{FoundFile, start_on};
 use crate::mirror::{Mirror, append_each};
-use depot_base::{Bytes, Memory};
+use depot_base::{Bytes, Full, Memory};
 use depot_outside::{Back, Disk};
 use std::alloc::Global;
 use std::marker::Model;
@@ -106,6 +106,22 @@ impl<D: Disk> Journal<D> {
         ensures faultless { D.is_faultless self.old.disk → D.is_faultless self.new.disk }
     {
         find_room(&mut self.mirror, &mut self.room, records, bytes)
+    }
+}
+
+impl<D: Disk> Journal<D> {
+    /// Whether so many records more, which take so many bytes in the file, keep to the limits of a journal: a record takes
+    /// its text and five bytes. `Full` has which limit they pass, and how many records or bytes the file has.
+    pub fn room(&self, records: u32, bytes: u32) -> Result<(), Full>
+        ensures room { OnOk result (FitsFile self.now.records records bytes) }
+        ensures full { IfErr result (λ full. PassesLimit self.now.records records bytes full.what full.number) }
+    {
+        room_for(
+            self.count(),
+            self.mirror.bytes.len() as u64,
+            records as u64,
+            bytes as u64,
+        )
     }
 }
 

@@ -6,7 +6,8 @@ ghost use Rattle.depot_base.specs.Writes.{one_change};
 ghost use Rattle.depot_base.specs.declared.update.Update.{Update};
 ghost use Rattle.depot_base.specs.declared.limits.TheConstants.{MOST_WRITES};
 ghost use Rattle.depot_model.specs.Contents.{Writes};
-ghost use Rattle.depot_model.specs.Journal.{accepted, held_as};
+ghost use Rattle.depot_model.specs.Journal.{accepted, held_as, own};
+ghost use Rattle.depot_model.specs.Own.{leaf_count};
 ghost use Rattle.depot_model.specs.Putting.{IsPutCall, Puts};
 ghost use Rattle.depot_readings.specs.Counts.{AreCountsOf};
 ghost use Rattle.depot_local.specs.ShownValues.{IsWrittenAt};
@@ -56,4 +57,13 @@ pub trait LocalNode: Peer {
     fn counts(&self) -> JournalCounts
         requires { Self.stopped self.now ≡ false }
         ensures { AreCountsOf (Self.stands self.now).me (Self.records self.now) result };
+
+    /// How many statements it has made, its own updates and vouchers: each spends a leaf of its key. It takes no memory.
+    fn statement_count(&self) -> u32
+        requires { Self.stopped self.now ≡ false }
+        ensures { result ≡ length (own (Self.records self.now)) };
+
+    /// How many statements its key signs, which is how many leaves its tree has. It takes no memory.
+    fn leaf_count(&self) -> u32
+        ensures { result ≡ leaf_count (Self.stands self.now).listed (Self.stands self.now).me };
 }

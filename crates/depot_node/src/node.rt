@@ -1,5 +1,5 @@
 //! The node.
-ghost use Rattle.std.specs.Prelude.{◌≡◌, ◌<◌, length, false, refl, Some, All, slice_get};
+ghost use Rattle.std.specs.Prelude.{◌≡◌, ◌<◌, ◌≤◌, ◌^◌, length, false, refl, Some, All, slice_get};
 ghost use Rattle.depot_model.specs.Journal.{accepted};
 ghost use Rattle.depot_model.specs.Items.{updates_at};
 ghost use Rattle.depot_model.specs.Order.{AreLatestIn};
@@ -172,6 +172,14 @@ impl<D: Disk, S: Scheme, G: Signer<Of = S>> Replica for Node<D, S, G> {
     ghost short = { λ n seq body. G.is_short n.signer seq body };
 }
 
+/// How many leaves a tree of this height has.
+fn leaves_of_tree(height: u8) -> u32
+    requires { height ≤ 17 }
+    ensures { result ≡ 2 ^ height }
+{
+    1 << height
+}
+
 impl<D: Disk, S: Scheme, G: Signer<Of = S>> LocalNode for Node<D, S, G> {
     fn put(&mut self, key: Key, value: Value) -> Result<PutDone, PutError> {
         put(self.alloc, &mut self.store, key, value)
@@ -201,5 +209,17 @@ impl<D: Disk, S: Scheme, G: Signer<Of = S>> LocalNode for Node<D, S, G> {
 
     fn counts(&self) -> JournalCounts {
         self.store.readings().counts()
+    }
+
+    fn statement_count(&self) -> u32 {
+        self.store.readings().totals().own
+    }
+
+    #[tactic(auto, unfolding(depot_model::specs::Own::leaf_count))]
+    fn leaf_count(&self) -> u32 {
+        match self.store.roster().key_of(self.store.me()) {
+            Some(key) => leaves_of_tree(key.height),
+            None => 0,
+        }
     }
 }

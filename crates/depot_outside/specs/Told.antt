@@ -1,5 +1,6 @@
 -- What a shelf, a disk and a sink tell before and after a run.
 use Rattle.std.specs.Prelude.{◌≡◌, ◌<◌, ◌⊎◌, ℕ, List, [], ◌∷◌, ◌++◌, take, Bool, IsTrue, Option, Some, None}
+use Rattle.depot_base.specs.Calls.{Made}
 use Rattle.depot_base.specs.Disk.{Elapses}
 use Rattle.depot_outside.specs.declared.disk.Disk as disk_of
 use Rattle.depot_outside.specs.declared.shelf.Shelf as shelf_of
@@ -70,6 +71,12 @@ pub record Disks : Type 1 where
   pub may_leave_after : List ℕ → Type 0
   -- what a stop might have left at some moment of the run, or leaves after it
   pub left_in_run : List ℕ → Type 0
+  -- the first and the last moment of the run, and what a stop might have left at some moment from one on
+  pub moment_before : ℕ
+  pub moment_after : ℕ
+  pub left_since : ℕ → List ℕ → Type 0
+  -- whether these are the calls that the run made on the file
+  pub after : List Made → Type 0
   pub faults_before : ℕ
   pub faults_after : ℕ
 
@@ -81,6 +88,10 @@ disks g old new = record {
   may_leave = g.may_leave old;
   may_leave_after = g.may_leave new;
   left_in_run = g.left_since new (g.moment old);
+  moment_before = g.moment old;
+  moment_after = g.moment new;
+  left_since = g.left_since new;
+  after = λ calls. g.after old calls new;
   faults_before = g.faults old;
   faults_after = g.faults new;
 }

@@ -15,11 +15,12 @@ use Rattle.depot_laws.proofs.TrueReceipts.{keys_rise}
 use Rattle.depot_lines.specs.PutKeys.{WriteNoReceipts}
 use Rattle.std.proofs.lemmas.Bool.{eqb-true}
 use Rattle.depot_model.specs.Lists.{when}
+use Rattle.depot_model.specs.Checkpoints.{is_checkpoint_key}
 use Rattle.depot_model.specs.Receipts.{receipt_changes, receipt_key, receipt_of}
 use Rattle.depot_requests.specs.Requests.{AreIds, IsRequest, ArePlainChanges}
 use Rattle.depot_requests.specs.declared.request.Request.{Request}
 use Rattle.depot_requests.specs.declared.request.Request.TheVariants as request
-use Rattle.depot_request_texts.specs.ChangeTexts.{change_behind, change_follows, change_mark, change_text, changes_text, given_value, ids_text}
+use Rattle.depot_request_texts.specs.ChangeTexts.{change_behind, change_follows, change_mark, change_text, changes_text, given_value, ids_text, may_be_put}
 use Rattle.depot_request_texts.specs.RequestTexts.{asked_behind, request_text}
 use Rattle.depot_request_texts.specs.declared.request_reader.TheConstants.{STREAM_PIECE}
 use Rattle.depot_request_texts.proofs.ChangeTextLaws.{all_rise}
@@ -34,12 +35,15 @@ front_of : (a b : Bool) → (a && b) ≡ true → (a ≡ true) × (b ≡ true)
 front_of true b is = (refl, is)
 front_of false b is = absurd cc
 
+free_is_plain : (key : List ℕ) → may_be_put key ≡ true → receipt_of key ≡ None
+free_is_plain key is = none_of (receipt_of key) (front_of (not (is_some (receipt_of key))) (not (is_checkpoint_key key)) is).0
+
 plain : (before : Option Change) (c : Change) → change_follows before c ≡ true → receipt_of c.key ≡ None
-plain None c is = none_of (receipt_of c.key) is
-plain (Some d) c is = none_of (receipt_of c.key) (front_of (not (is_some (receipt_of c.key))) (is_below d.key c.key) is).0
+plain None c is = free_is_plain c.key is
+plain (Some d) c is = free_is_plain c.key (front_of (may_be_put c.key) (is_below d.key c.key) is).0
 
 rises : (d c : Change) → change_follows (Some d) c ≡ true → is_below d.key c.key ≡ true
-rises d c is = (front_of (not (is_some (receipt_of c.key))) (is_below d.key c.key) is).1
+rises d c is = (front_of (may_be_put c.key) (is_below d.key c.key) is).1
 
 no_receipts : (front cs : List Change) → Follows change_text change_follows front cs → WriteNoReceipts cs
 no_receipts front [] follows = tt

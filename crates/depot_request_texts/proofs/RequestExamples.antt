@@ -4,6 +4,7 @@ use Rattle.std.specs.Prelude.{codes}
 use Rattle.depot_base.specs.Closed.{rest_of}
 use Rattle.depot_base.specs.Format.{number, bytes_of, list_of}
 use Rattle.depot_base.specs.declared.write.Change.{Change}
+use Rattle.depot_model.specs.Checkpoints.{is_checkpoint_key}
 use Rattle.depot_model.specs.Receipts.{receipt_of}
 use Rattle.depot_requests.specs.declared.request.Request.{Request}
 use Rattle.depot_requests.specs.declared.request.Request.TheVariants as request
@@ -34,7 +35,7 @@ record RequestsRead : Type 0 where
   pub sign : request_of_body (9 ∷ 9 ∷ []) ≡ Some (request.Sign (9 ∷ []))
 
 the_requests : RequestsRead
-unfolding number bytes_of list_of rest_of receipt_of key_text change_behind change_text changes_text ids_text settled_text asked_behind request_text
+unfolding number bytes_of list_of rest_of receipt_of is_checkpoint_key key_text change_behind change_text changes_text ids_text settled_text asked_behind request_text
 the_requests = record { put = refl; get = refl; hello = refl; bundle = refl; take = refl; receipt = refl; settled = refl; checkpoint = refl; sign = refl }
 
 record WhereTheyGoWrong : Type 0 where
@@ -55,7 +56,7 @@ record WhereTheyGoWrong : Type 0 where
   pub short : reads (7 ∷ replicate 31 5) ≡ Err 1
 
 where_they_go_wrong : WhereTheyGoWrong
-unfolding number bytes_of list_of rest_of receipt_of key_text change_behind change_text changes_text ids_text settled_text asked_behind request_text
+unfolding number bytes_of list_of rest_of receipt_of is_checkpoint_key key_text change_behind change_text changes_text ids_text settled_text asked_behind request_text
 where_they_go_wrong = record {
   nothing = refl;
   unknown = refl;

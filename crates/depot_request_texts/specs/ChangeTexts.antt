@@ -5,6 +5,7 @@ use Rattle.depot_base.specs.declared.limits.TheConstants.{MOST_KEY, MOST_VALUE, 
 use Rattle.depot_base.specs.declared.write.Change.{Change}
 use Rattle.depot_base.specs.Format.{Format, number, bytes_of, field, made_of_fields, choose, list_of}
 use Rattle.depot_base.specs.Parts.{digests, is_below}
+use Rattle.depot_model.specs.Checkpoints.{is_checkpoint_key}
 use Rattle.depot_model.specs.Receipts.{receipt_of}
 
 -- a key, behind its length
@@ -40,10 +41,14 @@ change_text =
     field (number w8 0 1) (λ c. change_mark c.value) λ mark.
     change_behind key mark
 
--- A change may stand behind another, or first: its key isn't in the form of a receipt's, and is above the other's.
+-- a key that a put may write: it hasn't the form of a receipt's, nor that of a checkpoint's, which other requests write
+abbrev pub may_be_put : List ℕ → Bool
+may_be_put key = not (is_some (receipt_of key)) && not (is_checkpoint_key key)
+
+-- A change may stand behind another, or first: a put may write its key, which is above the other's.
 abbrev pub change_follows : Option Change → Change → Bool
-change_follows None c = not (is_some (receipt_of c.key))
-change_follows (Some before) c = not (is_some (receipt_of c.key)) && is_below before.key c.key
+change_follows None c = may_be_put c.key
+change_follows (Some before) c = may_be_put c.key && is_below before.key c.key
 
 -- 1 to 16 changes, rising strictly by key, behind their count
 unfoldable pub changes_text : Format (List Change)

@@ -10,7 +10,7 @@ use depot_base::fault::Fault;
 use depot_base::limits::{MOST_KEY, MOST_VALUE, MOST_WRITES};
 use depot_base::reading::{at_end, bytes_in, u8_in, u32_in};
 use depot_base::{Change, Changes, Fields, Key, Value};
-use depot_lines::spelling::is_receipt_key;
+use depot_lines::spelling::{is_checkpoint_key, is_receipt_key};
 use std::alloc::Global;
 
 /// A key behind its length.
@@ -56,7 +56,7 @@ fn may_follow(before: Option<&Change>, change: &Change) -> bool
     ensures { result ≡ change_follows (option_copied before.entry) change.now }
 {
     let key = change.key.bytes();
-    if is_receipt_key(key) {
+    if is_receipt_key(key) || is_checkpoint_key(key) {
         return false;
     }
     match before {

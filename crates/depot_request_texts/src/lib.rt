@@ -11,7 +11,9 @@ mod request_laws;
 mod request_reader;
 mod telling_writer;
 
+pub use changes::whole_key;
 pub use reply_laws::replies_are_read_in_one_way;
 pub use reply_writer::encode_reply;
 pub use request_laws::requests_are_read_in_one_way;
-pub use request_reader::{STREAM_PIECE, decode_request};
+pub use request_reader::{STREAM_PIECE, decode_request, whole_ids};
+pub use telling_writer::put_flag;

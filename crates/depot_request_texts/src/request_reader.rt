@@ -49,7 +49,7 @@ fn ids_in(alloc: Global, fields: &mut Fields<'_>, count: u8) -> Result<Ids, Faul
 
 /// Ids behind their count, of all the bytes that are left.
 #[tactic(auto, unfolding(crate::specs::ChangeTexts::ids_text))]
-fn whole_ids(alloc: Global, fields: &mut Fields<'_>) -> Result<Ids, Fault>
+pub fn whole_ids(alloc: Global, fields: &mut Fields<'_>) -> Result<Ids, Fault>
     ensures { Gives result (whole ids_text fields.old) }
 {
     let count = u8_in(fields, 1, MOST_WRITES)?;

@@ -1,5 +1,6 @@
 pub mod Folding
 pub mod SameNodes
-pub mod AnswerCalls
 pub mod Turning
 pub mod RunTurns
+mod ServerEndings
+mod NodesOnDisks

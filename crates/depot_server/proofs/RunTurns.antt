@@ -17,8 +17,9 @@ use Rattle.depot_model.proofs.StopLaws.{front_longer, lasts_joined, so_many_more
 use Rattle.depot_outside.specs.Told.{Sinks, Wrote}
 use Rattle.depot_source.specs.Inputs.{Inputs}
 use Rattle.depot_source.specs.Messages.{Message, text_of_message}
-use Rattle.depot_server.specs.Answering.{IsServing, ServesBody, came_of}
-use Rattle.depot_server.specs.Serving.{AllStayKept, AreAnswered, FaultsRisen, GrowsToward, HasAnswered, IsCutOff, IsTurnShort, ServesShort, ServesWhole, StaysKept, TurnsRequest, bodies_of, came_at, faults_risen, place_after}
+use Rattle.depot_asking.specs.Answering.{IsServing}
+use Rattle.depot_server.specs.Answering.{ServesBody, came_of}
+use Rattle.depot_server.specs.Serving.{AllStayKept, AreAnswered, FaultsRisen, GrowsToward, HasAnswered, IsCutOff, IsTurnShort, RunsWith, ServesShort, ServesWhole, StaysKept, TurnsRequest, bodies_of, came_at, faults_risen, place_after}
 use Rattle.depot_server.specs.declared.ending.ServeEnding.{ServeEnding}
 use Rattle.depot_server.specs.declared.ending.ServeEnding.TheVariants as ending
 use Rattle.depot_server.proofs.SameNodes.{same_before, same_behind}
@@ -42,8 +43,8 @@ brings_joined g old mid new J K ran runs at one two = record {
 }
 
 -- what was kept is kept on
-pub kept_on : {N : Type 0} (g : Ghosts N) (mid new : N) (J K then : List Record) → g.stopped mid ≡ false → g.records mid ≡ K → StaysKept g mid J K → GrowsToward g mid new then → StaysKept g new J then
-kept_on g mid new J K then runs at kept brings =
+pub kept_on : {N : Type 0} (g : Ghosts N) (first mid new : N) (J K then : List Record) → g.stopped mid ≡ false → g.records mid ≡ K → StaysKept g first mid J K → GrowsToward g mid new then → StaysKept g first new J then
+kept_on g first mid new J K then runs at kept brings =
     let grown : g.records mid ≡ J ++ kept.more = at ∙ kept.is in
     record {
       moment = kept.moment;
@@ -54,6 +55,7 @@ kept_on g mid new J K then runs at kept brings =
           let since = kept.left told_mid in
           let only = brings.lasts.any_moment told_mid runs in
           record {
+            began = since.began;
             past = omega (arith, since.past, only.later);
             left = λ image left. ⊎_elim (λ was. front_longer J kept.more brings.grown image (since.left image was)) (λ now. front_of_second J (g.records mid) kept.more brings.grown image grown now) (only.before kept.moment image since.past left);
           };
@@ -67,12 +69,12 @@ front_of_all J file all = record {
 }
 
 -- a node that runs is kept from now on
-pub kept_now : {N : Type 0} (g : Ghosts N) → ((n : N) (file : List ℕ) → g.left_since n (g.moment n) file → g.may_leave n file) → (new : N) (J : List Record) → IsServing g new → g.records new ≡ J → StaysKept g new J J
-kept_now g only_now new J running at = record {
+pub kept_now : {N : Type 0} (g : Ghosts N) → ((n : N) (file : List ℕ) → g.left_since n (g.moment n) file → g.may_leave n file) → (first new : N) (J : List Record) → g.stopped first ≡ false → IsServing g new → g.records new ≡ J → GrowsToward g first new J → StaysKept g first new J J
+kept_now g only_now first new J ran running at brings = record {
   moment = g.moment new;
   more = [];
   is = sym (append-nil J);
-  left = λ told. record { past = omega arith; left = λ image left. subst (λ (x : List Record). HasFront x [] image) at (front_of_all (g.records new) image (running.stable told image (only_now new image left))) };
+  left = λ told. record { began = (brings.lasts.any_moment (subst (λ (b : Bool). IsTrue b) brings.lasts.told told) ran).later; past = omega arith; left = λ image left. subst (λ (x : List Record). HasFront x [] image) at (front_of_all (g.records new) image (running.stable told image (only_now new image left))) };
 }
 
 -- ---- texts behind one another
@@ -95,7 +97,7 @@ module _ {N : Type 0} (g : Ghosts N) (only_now : (n : N) (file : List ℕ) → g
     running = running;
     brings = brings;
     lawful = lawful;
-    kept = λ k le. subst (λ (ms : List Message). StaysKept g n (came_at g f n ms).journal (g.records n)) (sym (take_all k [] (omega arith))) (kept_now g only_now n (g.records n) running refl);
+    kept = λ k le. subst (λ (ms : List Message). StaysKept g n n (came_at g f n ms).journal (g.records n)) (sym (take_all k [] (omega arith))) (kept_now g only_now n n (g.records n) running.runs running refl brings);
   }
 
   module _ (first mid new : N) (input_mid input_turn input : Inputs) (sink_mid sink_turn sink : Sinks) (done : List Message) (so_far : AreAnswered g f first mid input_mid sink_mid done) (ran : g.stopped first ≡ false)
@@ -119,6 +121,7 @@ module _ {N : Type 0} (g : Ghosts N) (only_now : (n : N) (file : List ℕ) → g
         let bodies_are : bodies_of (done ++ t.message ∷ []) ≡ bs ++ b ∷ [] = bodies_more done t.message in
         let journal_is : (came_at g f first (done ++ t.message ∷ [])).journal ≡ (f (g.records mid) b).journal = ap (λ (x : List (List ℕ)). (came_of f J x).journal) bodies_are ∙ journal_more f J bs b ∙ ap (λ (x : List Record). (f x b).journal) (sym so_far.journal) in
         let text_is : (came_at g f first (done ++ t.message ∷ [])).text ≡ texts ++ (f (g.records mid) b).text = ap (λ (x : List (List ℕ)). (came_of f J x).text) bodies_are ∙ text_more f J bs b ∙ ap (λ (x : List Record). texts ++ (f x b).text) (sym so_far.journal) in
+        let grown : GrowsToward g first new (came_at g f first (done ++ t.message ∷ [])).journal = subst (GrowsToward g first new) (sym journal_is) (brings_joined g first mid new _ _ ran so_far.running.runs so_far.journal so_far.brings t.brings) in
         record {
           each = each_more done t.message so_far.each t.asks;
           given = given_more (text_of_message t.message) t.given ∙ ap (λ (x : List ℕ). input.before ++ x) (sym (texts_more done t.message));
@@ -127,13 +130,13 @@ module _ {N : Type 0} (g : Ghosts N) (only_now : (n : N) (file : List ℕ) → g
           same = same_behind g first mid new so_far.same t.same;
           running = t.running;
           lawful = joined_in g ⊥ ⊥ first mid new (λ never. never) so_far.same.stands ran so_far.running.runs so_far.lawful t.lawful;
-          brings = subst (GrowsToward g first new) (sym journal_is) (brings_joined g first mid new _ _ ran so_far.running.runs so_far.journal so_far.brings t.brings);
+          brings = grown;
           kept = λ k le. elim (eq-or-lt_of_le le) [
-            | inl all ↦ subst (λ (ms : List Message). StaysKept g new (came_at g f first ms).journal (came_at g f first (done ++ t.message ∷ [])).journal) (sym (take_all k (done ++ t.message ∷ []) (omega (arith, all)))) (kept_now g only_now new _ t.running (t.journal ∙ sym journal_is))
+            | inl all ↦ subst (λ (ms : List Message). StaysKept g first new (came_at g f first ms).journal (came_at g f first (done ++ t.message ∷ [])).journal) (sym (take_all k (done ++ t.message ∷ []) (omega (arith, all)))) (kept_now g only_now first new _ ran t.running (t.journal ∙ sym journal_is) grown)
             | inr less ↦
                 let within : k ≤ length done = omega (arith, less, length-append done (t.message ∷ [])) in
-                subst (λ (ms : List Message). StaysKept g new (came_at g f first ms).journal (came_at g f first (done ++ t.message ∷ [])).journal) (sym (take-append-le k done (t.message ∷ []) within))
-                (kept_on g mid new _ _ _ so_far.running.runs so_far.journal (so_far.kept k within) (subst (GrowsToward g mid new) (sym journal_is) t.brings))
+                subst (λ (ms : List Message). StaysKept g first new (came_at g f first ms).journal (came_at g f first (done ++ t.message ∷ [])).journal) (sym (take-append-le k done (t.message ∷ []) within))
+                (kept_on g first mid new _ _ _ so_far.running.runs so_far.journal (so_far.kept k within) (subst (GrowsToward g mid new) (sym journal_is) t.brings))
           ];
         }
 
@@ -171,16 +174,16 @@ module _ {N : Type 0} (g : Ghosts N) (only_now : (n : N) (file : List ℕ) → g
             next_is = t.breaks.next_is;
             given = given_new ∙ t.breaks.given ∙ ap (λ (s : List ℕ). s ++ t.breaks.behind) before_is;
             last = t.breaks.last;
-            cut = subst (λ (o : Bool). IsCutOff g new K (came_of f K (bodies_of t.breaks.next)) t.breaks.next t.breaks.behind t.breaks.last o (faults_risen (g.faults first) (g.faults new) input sink) (place_after done) e) (sym over)
-                (subst (λ (x : FaultsRisen). IsCutOff g new K (came_of f K (bodies_of t.breaks.next)) t.breaks.next t.breaks.behind t.breaks.last input_turn.over x (place_after done) e) fails
-                (subst (λ (J : List Record). IsCutOff g new J (came_of f J (bodies_of t.breaks.next)) t.breaks.next t.breaks.behind t.breaks.last input_turn.over (faults_risen (g.faults mid) (g.faults new) input_turn sink_turn) (place_after done) e) at
-                (subst (λ (x : ℕ). IsCutOff g new (g.records mid) (came_of f (g.records mid) (bodies_of t.breaks.next)) t.breaks.next t.breaks.behind t.breaks.last input_turn.over (faults_risen (g.faults mid) (g.faults new) input_turn sink_turn) x e) at_place t.breaks.cut)));
+            cut = subst (λ (o : Bool). IsCutOff (RunsWith g new) K (came_of f K (bodies_of t.breaks.next)) t.breaks.next t.breaks.behind t.breaks.last o (faults_risen (g.faults first) (g.faults new) input sink) (place_after done) e) (sym over)
+                (subst (λ (x : FaultsRisen). IsCutOff (RunsWith g new) K (came_of f K (bodies_of t.breaks.next)) t.breaks.next t.breaks.behind t.breaks.last input_turn.over x (place_after done) e) fails
+                (subst (λ (J : List Record). IsCutOff (RunsWith g new) J (came_of f J (bodies_of t.breaks.next)) t.breaks.next t.breaks.behind t.breaks.last input_turn.over (faults_risen (g.faults mid) (g.faults new) input_turn sink_turn) (place_after done) e) at
+                (subst (λ (x : ℕ). IsCutOff (RunsWith g new) (g.records mid) (came_of f (g.records mid) (bodies_of t.breaks.next)) t.breaks.next t.breaks.behind t.breaks.last input_turn.over (faults_risen (g.faults mid) (g.faults new) input_turn sink_turn) x e) at_place t.breaks.cut)));
           };
           wrote = wrote_more t.breaks.last t.wrote;
           same = same_behind g first mid new so_far.same t.same;
           lawful = joined_in g ⊥ (e ≡ ending.Disk) first mid new (λ never. never) so_far.same.stands ran so_far.running.runs so_far.lawful t.lawful;
           brings = brings_joined g first mid new K _ ran so_far.running.runs at so_far.brings brings;
-          kept = λ k le. kept_on g mid new _ K _ so_far.running.runs at (so_far.kept k le) brings;
+          kept = λ k le. kept_on g first mid new _ K _ so_far.running.runs at (so_far.kept k le) brings;
         }
 
 -- what failed in a turn failed in the run, where nothing had failed before it

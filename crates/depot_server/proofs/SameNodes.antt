@@ -4,8 +4,7 @@ use Rattle.depot_model.specs.Bundle.{Signs}
 use Rattle.depot_model.specs.Checks.{Setting}
 use Rattle.depot_model.specs.Replicas.{IsSameNode}
 use Rattle.depot_model.specs.declared.node_state.NodeState.{Ghosts}
-use Rattle.depot_request_texts.specs.RequestTexts.{request_of_body}
-use Rattle.depot_server.specs.Answering.{ServesBody, came_of_found, serves_of}
+use Rattle.depot_server.specs.Answering.{serves_at, serves_of}
 
 pub same_before : {N : Type 0} (g : Ghosts N) (n : N) → IsSameNode g n n
 same_before g n = record { stands = refl; key = refl; signs = refl }
@@ -15,7 +14,4 @@ same_behind g old mid new one two = record { stands = two.stands ∙ one.stands;
 
 pub serves_so : {N : Type 0} (g : Ghosts N) (old new : N) → IsSameNode g old new → serves_of g new ≡ serves_of g old
 serves_so g old new same =
-    ap (λ (here : Setting). by here (g.signature_of new)) same.stands ∙ ap (λ (sign : Signs). by (g.stands old) sign) same.signs
-  where
-    by : Setting → Signs → ServesBody
-    by here sign J body = came_of_found here sign J (request_of_body body)
+    ap (λ (here : Setting). serves_at here (g.signature_of new)) same.stands ∙ ap (λ (sign : Signs). serves_at (g.stands old) sign) same.signs

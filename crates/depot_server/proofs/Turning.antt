@@ -1,23 +1,22 @@
 -- One turn, from what was heard, replied and written.
-use Rattle.std.proofs.Common.{◌≡◌, ◌<◌, ◌⊎◌, ℕ, Bool, true, false, IsTrue, List, [], ◌∷◌, ◌++◌, append-nil, length, take, Option, Some, Err, Result, refl, sym, ap, subst, ◌∙◌, inl, inr}
+use Rattle.std.proofs.Common.{◌≡◌, ◌<◌, ℕ, Bool, true, false, IsTrue, List, [], ◌∷◌, ◌++◌, append-nil, length, take, Option, Some, Err, refl, sym, ap, subst, ◌∙◌}
 use Rattle.std.specs.Prelude.{is_some}
 use Rattle.depot_base.specs.declared.record.Record.{Record}
 use Rattle.depot_feeds.specs.Lasting.{LastsIn}
 use Rattle.depot_feeds.proofs.LastingStreams.{lasts_so, nothing_in}
-use Rattle.depot_model.specs.Bundle.{Signs}
-use Rattle.depot_model.specs.Checks.{Setting}
 use Rattle.depot_model.specs.Lawful.{IsLawful}
-use Rattle.depot_model.specs.Replicas.{IsSameNode, journal_of}
+use Rattle.depot_model.specs.Replicas.{journal_of}
 use Rattle.depot_model.specs.Stops.{LeavesAll}
 use Rattle.depot_model.specs.declared.node_state.NodeState.{Ghosts}
 use Rattle.depot_model.proofs.StopLaws.{idle_lasts}
 use Rattle.depot_outside.specs.Told.{Sinks, Wrote}
-use Rattle.depot_requests.specs.declared.request.Request.{Request}
-use Rattle.depot_request_texts.specs.RequestTexts.{request_of_body}
+use Rattle.depot_asking.specs.declared.asked.Asked.{Asked}
+use Rattle.depot_asking.specs.Bodies.{asked_of_body}
 use Rattle.depot_source.specs.Inputs.{Inputs}
 use Rattle.depot_source.specs.Messages.{text_of_message}
 use Rattle.depot_source.specs.Pieces.{GivesMore}
-use Rattle.depot_server.specs.Answering.{Came, IsAnswerCall, IsServing, ServesBody, came_by, came_of_found, serves_of}
+use Rattle.depot_asking.specs.Answering.{Came, IsAskedCall, IsServing, came_by}
+use Rattle.depot_server.specs.Answering.{ServesBody, came_of_found, serves_of}
 use Rattle.depot_server.specs.Hearing.{FailsWithin, HasHeardRequest, HearsRequest, NoRequestCame}
 use Rattle.depot_server.specs.Serving.{GrowsToward, HasAnswered, IsAsking, IsTurnShort}
 use Rattle.depot_server.specs.declared.ending.ServeEnding.{ServeEnding}
@@ -43,20 +42,20 @@ module _ {N : Type 0} (g : Ghosts N) (only_now : (n : N) (file : List ℕ) → g
 
 -- ---- a node that was asked
 
-pub grows_asked : {N : Type 0} (g : Ghosts N) (old new : N) (then : List Record) (failed : Type 0) → IsAnswerCall g old new then failed → GrowsToward g old new then
+pub grows_asked : {N : Type 0} (g : Ghosts N) (old new : N) (then : List Record) (failed : Type 0) → IsAskedCall g old new then failed → GrowsToward g old new then
 grows_asked g old new then failed call = record { grown = call.appends; is = call.brings; lasts = call.lasts }
 
-pub serves_on : {N : Type 0} (g : Ghosts N) (old new : N) (then : List Record) (failed : Type 0) → IsAnswerCall g old new then failed → (failed → ⊥) → IsServing g new
+pub serves_on : {N : Type 0} (g : Ghosts N) (old new : N) (then : List Record) (failed : Type 0) → IsAskedCall g old new then failed → (failed → ⊥) → IsServing g new
 serves_on g old new then failed call well =
     let runs = call.runs well in
     record { runs = runs; stable = λ told. subst (λ (b : Bool). LeavesAll (g.records new) b (g.may_leave new)) runs (call.lasts.stable told) }
 
 -- what a found request comes to at a node
-pub comes_to : {N : Type 0} (g : Ghosts N) (old : N) (body : List ℕ) (r : Request) → request_of_body body ≡ Some r → serves_of g old (g.records old) body ≡ came_by (g.stands old) (g.signature_of old) (g.records old) r
-comes_to g old body r found = ap (λ (o : Option Request). came_of_found (g.stands old) (g.signature_of old) (g.records old) o) found
+pub comes_to : {N : Type 0} (g : Ghosts N) (old : N) (body : List ℕ) (a : Asked) → asked_of_body body ≡ Some a → serves_of g old (g.records old) body ≡ came_by (g.stands old) (g.signature_of old) (g.records old) a
+comes_to g old body a found = ap (λ (o : Option Asked). came_of_found (g.stands old) (g.signature_of old) (g.records old) o) found
 
 pub asking : (input : Inputs) (heard : Heard) (h : HasHeardRequest input heard) → IsAsking h.message
-asking input heard h = record { is = h.is; asks = ap is_some h.request }
+asking input heard h = record { is = h.is; asks = ap is_some h.asked }
 
 -- where nothing was written
 pub none_written : (sink : Sinks) → sink.after ≡ sink.before → Wrote sink []
@@ -78,7 +77,7 @@ module _ {N : Type 0} (g : Ghosts N) (only_now : (n : N) (file : List ℕ) → g
   -- the source failed
   source_failed : FailsWithin input → IsTurnShort g f n n input sink place ending.Source
   source_failed failed = record {
-    breaks = record { next = []; behind = failed.behind; next_is = tt; given = failed.given; last = []; cut = (refl, (refl, (failed.rose, failed.part))) };
+    breaks = record { next = []; behind = failed.behind; next_is = tt; given = failed.given; last = []; cut = (failed.rose, record { unbegun = refl; untold = refl; stands = record { running = running; journal = refl }; part = failed.part }) };
     wrote = none_written sink same;
     same = same_before g n;
     brings = grows_by_nothing g only_now lawful n running;
@@ -94,7 +93,7 @@ module _ {N : Type 0} (g : Ghosts N) (only_now : (n : N) (file : List ℕ) → g
       next_is = tt;
       given = came.1.0;
       last = [];
-      cut = record { at_place = here; unbegun = refl; untold = refl; running = running; journal = refl; came = came.1.1 };
+      cut = record { at_place = here; unbegun = refl; untold = refl; stands = record { running = running; journal = refl }; came = came.1.1 };
     };
     wrote = none_written sink same;
     same = same_before g n;
@@ -113,15 +112,15 @@ module _ {N : Type 0} (g : Ghosts N) (only_now : (n : N) (file : List ℕ) → g
 -- ---- a request was begun
 
 module _ {N : Type 0} (g : Ghosts N) (old new : N) (input : Inputs) (sink : Sinks) (place : ℕ) (heard : Heard) (h : HasHeardRequest input heard) (failed : Type 0)
-    (call : IsAnswerCall g old new (came_by (g.stands old) (g.signature_of old) (g.records old) heard.request).journal failed) where
+    (call : IsAskedCall g old new (came_by (g.stands old) (g.signature_of old) (g.records old) heard.asked).journal failed) where
   abbrev f : ServesBody
   f = serves_of g old
 
   abbrev came : Came
-  came = came_by (g.stands old) (g.signature_of old) (g.records old) heard.request
+  came = came_by (g.stands old) (g.signature_of old) (g.records old) heard.asked
 
   is : f (g.records old) h.message.body ≡ came
-  is = comes_to g old h.message.body heard.request h.request
+  is = comes_to g old h.message.body heard.asked h.asked
 
   grows : GrowsToward g old new (f (g.records old) h.message.body).journal
   grows = subst (λ (c : Came). GrowsToward g old new c.journal) (sym is) (grows_asked g old new _ failed call)
@@ -169,8 +168,7 @@ module _ {N : Type 0} (g : Ghosts N) (old new : N) (input : Inputs) (sink : Sink
           record {
             message = h.message;
             begun = refl;
-            running = serves_on g old new _ failed call well;
-            journal = journal_is;
+            stands = record { running = serves_on g old new _ failed call well; journal = journal_is };
             count = n;
             front = ap (take n) (text_is ∙ sym (append-nil (f (g.records old) h.message.body).text));
           },

@@ -3,7 +3,7 @@ use Rattle.std.specs.Prelude.{◌≡◌, ◌<◌, ◌⊎◌, ℕ, List, ◌++◌
 use Rattle.depot_source.specs.Inputs.{Inputs}
 use Rattle.depot_source.specs.Messages.{IsMessage, IsNoMessage, IsPartOfMessage, Message, text_of_message}
 use Rattle.depot_source.specs.Pieces.{GivesMore}
-use Rattle.depot_request_texts.specs.RequestTexts.{request_of_body, request_text}
+use Rattle.depot_asking.specs.Bodies.{IsAskedFault, asked_of_body}
 use Rattle.depot_server.specs.declared.ending.ServeEnding.{ServeEnding}
 use Rattle.depot_server.specs.declared.ending.ServeEnding.TheVariants as ending
 use Rattle.depot_server.specs.declared.request_hearing.Heard.{Heard}
@@ -12,14 +12,14 @@ use Rattle.depot_server.specs.declared.request_hearing.Heard.{Heard}
 pub record HasHeardRequest (input : Inputs) (heard : Heard) : Type 0 where
   pub message : Message
   pub is : IsMessage message
-  pub request : request_of_body message.body ≡ Some heard.request
+  pub asked : asked_of_body message.body ≡ Some heard.asked
   pub given : input.after ≡ input.before ++ text_of_message message
   pub long : heard.long ≡ length (text_of_message message)
 
 -- What is wrong with what came: it is no message; or its body is no request's text, and its first fault is there.
 abbrev pub NoRequestCame : Bool → List ℕ → ℕ → Type 0
 NoRequestCame over behind within =
-    (IsNoMessage over behind × (within ≡ 0)) ⊎ ((m : Message) × (IsMessage m × (request_text.fault m.body within × (behind ≡ text_of_message m))))
+    (IsNoMessage over behind × (within ≡ 0)) ⊎ ((m : Message) × (IsMessage m × (IsAskedFault m.body within × (behind ≡ text_of_message m))))
 
 -- The source failed within a message, or before it.
 pub record FailsWithin (input : Inputs) : Type 0 where

@@ -10,8 +10,9 @@ use Rattle.depot_model.specs.declared.node_state.NodeState.{Ghosts}
 use Rattle.depot_outside.specs.Told.{Sinks, Wrote}
 use Rattle.depot_source.specs.Inputs.{Inputs}
 use Rattle.depot_source.specs.Messages.{IsMessage, IsPartOfMessage, Message, text_of_message}
-use Rattle.depot_request_texts.specs.RequestTexts.{is_request}
-use Rattle.depot_server.specs.Answering.{Came, IsServing, ServesBody, came_of}
+use Rattle.depot_asking.specs.Bodies.{is_asked}
+use Rattle.depot_asking.specs.Answering.{Came, IsServing}
+use Rattle.depot_server.specs.Answering.{ServesBody, came_of}
 use Rattle.depot_server.specs.Hearing.{NoRequestCame}
 use Rattle.depot_server.specs.declared.ending.ServeEnding.{ServeEnding}
 use Rattle.depot_server.specs.declared.ending.ServeEnding.TheVariants as ending
@@ -23,7 +24,7 @@ bodies_of messages = map (λ m. m.body) messages
 -- a message, whose body is a request's text
 pub record IsAsking (m : Message) : Type 0 where
   pub is : IsMessage m
-  pub asks : is_request m.body ≡ true
+  pub asks : is_asked m.body ≡ true
 
 abbrev pub AreAsking : List Message → Type 0
 AreAsking [] = Unit {0}
@@ -41,22 +42,23 @@ pub record GrowsToward {N : Type 0} (g : Ghosts N) (old new : N) (then : List Re
   pub is : then ≡ g.records old ++ grown
   pub lasts : Lasts (journal_of g) old new grown
 
--- Since this moment each stop leaves these records, and behind them a front of these.
-pub record LeavesSince {N : Type 0} (g : Ghosts N) (new : N) (moment : ℕ) (J more : List Record) : Type 0 where
+-- Since this moment of the run each stop leaves these records, and behind them a front of these.
+pub record LeavesSince {N : Type 0} (g : Ghosts N) (old new : N) (moment : ℕ) (J more : List Record) : Type 0 where
+  pub began : g.moment old ≤ moment
   pub past : moment ≤ g.moment new
   pub left : (image : List ℕ) → g.left_since new moment image → HasFront J more image
 
 -- From some moment of the run on, each stop leaves these records, and behind them a front of what later requests bring.
-pub record StaysKept {N : Type 0} (g : Ghosts N) (new : N) (J then : List Record) : Type 0 where
+pub record StaysKept {N : Type 0} (g : Ghosts N) (old new : N) (J then : List Record) : Type 0 where
   pub moment : ℕ
   pub more : List Record
   pub is : then ≡ J ++ more
-  pub left : IsTrue (g.tells new) → LeavesSince g new moment J more
+  pub left : IsTrue (g.tells new) → LeavesSince g old new moment J more
 
--- What the first requests brought, however many, is kept from some moment on: that at which the last of these had been carried out. Its reply was
--- made then, and not before.
+-- What the first requests brought, however many, is kept from some moment of the run on, and so after it: also where the disk failed in a later one, or
+-- no memory was found. So after the run no stop leaves less than what was replied.
 abbrev pub AllStayKept : {N : Type 0} → Ghosts N → ServesBody → N → N → List Message → List Record → Type 0
-AllStayKept g f old new done then = (k : ℕ) → k ≤ length done → StaysKept g new (came_at g f old (take k done)).journal then
+AllStayKept g f old new done then = (k : ℕ) → k ≤ length done → StaysKept g old new (came_at g f old (take k done)).journal then
 
 -- ---- a run to the end of its input
 
@@ -91,42 +93,52 @@ pub record FaultsRisen : Type 1 where
   pub source : Type 0
   pub sink : Type 0
 
--- The sink failed in a reply: its request was carried out, the node runs on, and a front of the reply is written.
-pub record IsHalfTold {N : Type 0} (g : Ghosts N) (new : N) (comes : Came) (next : List Message) (last : List ℕ) : Type 0 where
+-- a node runs, with this journal
+pub record RunsWith {N : Type 0} (g : Ghosts N) (node : N) (J : List Record) : Type 0 where
+  pub running : IsServing g node
+  pub journal : g.records node ≡ J
+
+-- The sink failed in a reply: its request was carried out, the journal after it stands, and a front of the reply is written.
+pub record IsHalfTold (Stands : List Record → Type 0) (comes : Came) (next : List Message) (last : List ℕ) : Type 0 where
   pub message : Message
   pub begun : next ≡ message ∷ []
-  pub running : IsServing g new
-  pub journal : g.records new ≡ comes.journal
+  pub stands : Stands comes.journal
   pub count : ℕ
   pub front : last ≡ take count comes.text
 
--- What came is no request: nothing of it was begun or replied, and the node stands as after those before it.
-pub record IsNotAsked {N : Type 0} (g : Ghosts N) (new : N) (J : List Record) (next : List Message) (behind last : List ℕ) (over : Bool) (place at within : ℕ) : Type 0 where
+-- What came is no request: nothing of it was begun or replied, and the journal after those before it stands.
+pub record IsNotAsked (Stands : List Record → Type 0) (J : List Record) (next : List Message) (behind last : List ℕ) (over : Bool) (place at within : ℕ) : Type 0 where
   pub at_place : at ≡ place
   pub unbegun : next ≡ []
   pub untold : last ≡ []
-  pub running : IsServing g new
-  pub journal : g.records new ≡ J
+  pub stands : Stands J
   pub came : NoRequestCame over behind within
 
--- Why it was cut short, and what stands then behind the replies: no memory was found; the source failed, within a message or before it; the disk or
--- the sink failed; or what came is no request, and then all before it was answered. A front of the next reply is written only where the node has
--- carried its request out.
-abbrev pub IsCutOff : {N : Type 0} → Ghosts N → N → List Record → Came → List Message → List ℕ → List ℕ → Bool → FaultsRisen → ℕ → ServeEnding → Type 0
-IsCutOff g new J comes next behind last over risen place ending.Memory = last ≡ []
-IsCutOff g new J comes next behind last over risen place ending.Source = (last ≡ []) × ((next ≡ []) × (risen.source × IsPartOfMessage behind))
-IsCutOff g new J comes next behind last over risen place ending.Disk = ((m : Message) × (next ≡ m ∷ [])) × ((last ≡ []) × risen.disk)
-IsCutOff g new J comes next behind last over risen place ending.Sink = risen.sink × IsHalfTold g new comes next last
-IsCutOff g new J comes next behind last over risen place (ending.Input at within) = IsNotAsked g new J next behind last over place at within
+-- The source failed, within a message or before it: nothing of it was begun or replied, and the journal after those before it stands.
+pub record IsUnheard (Stands : List Record → Type 0) (J : List Record) (next : List Message) (behind last : List ℕ) : Type 0 where
+  pub unbegun : next ≡ []
+  pub untold : last ≡ []
+  pub stands : Stands J
+  pub part : IsPartOfMessage behind
+
+-- Why it was cut short, and what stands then behind the replies, where `Stands` says what is known where a journal stands: no memory was found; the
+-- source failed, within a message or before it; the disk or the sink failed; or what came is no request, and then all before it was answered. A front
+-- of the next reply is written only where its request was carried out.
+abbrev pub IsCutOff : (List Record → Type 0) → List Record → Came → List Message → List ℕ → List ℕ → Bool → FaultsRisen → ℕ → ServeEnding → Type 0
+IsCutOff Stands J comes next behind last over risen place ending.Memory = last ≡ []
+IsCutOff Stands J comes next behind last over risen place ending.Source = risen.source × IsUnheard Stands J next behind last
+IsCutOff Stands J comes next behind last over risen place ending.Disk = ((m : Message) × (next ≡ m ∷ [])) × ((last ≡ []) × risen.disk)
+IsCutOff Stands J comes next behind last over risen place ending.Sink = risen.sink × IsHalfTold Stands comes next last
+IsCutOff Stands J comes next behind last over risen place (ending.Input at within) = IsNotAsked Stands J next behind last over place at within
 
 -- Behind a journal and what was given before, the next request may have been begun, and the run was cut short.
-pub record BreaksOff {N : Type 0} (g : Ghosts N) (f : ServesBody) (new : N) (J : List Record) (before after : List ℕ) (over : Bool) (risen : FaultsRisen) (place : ℕ) (ends : ServeEnding) : Type 0 where
+pub record BreaksOff (f : ServesBody) (Stands : List Record → Type 0) (J : List Record) (before after : List ℕ) (over : Bool) (risen : FaultsRisen) (place : ℕ) (ends : ServeEnding) : Type 0 where
   pub next : List Message
   pub behind : List ℕ
   pub next_is : IsNextAsked next behind
   pub given : after ≡ before ++ behind
   pub last : List ℕ
-  pub cut : IsCutOff g new J (came_of f J (bodies_of next)) next behind last over risen place ends
+  pub cut : IsCutOff Stands J (came_of f J (bodies_of next)) next behind last over risen place ends
 
 -- how many bytes the messages before a place have, as far as a number of 64 bits tells it
 abbrev pub place_after : List Message → ℕ
@@ -145,7 +157,7 @@ faults_risen disk_before disk_after input sink = record {
 pub record ServesShort {N : Type 0} (g : Ghosts N) (f : ServesBody) (old new : N) (input : Inputs) (sink : Sinks) (ends : ServeEnding) : Type 0 where
   pub done : List Message
   pub each : AreAsking done
-  pub breaks : BreaksOff g f new (came_at g f old done).journal (input.before ++ flat_map text_of_message done) input.after input.over (faults_risen (g.faults old) (g.faults new) input sink) (place_after done) ends
+  pub breaks : BreaksOff f (RunsWith g new) (came_at g f old done).journal (input.before ++ flat_map text_of_message done) input.after input.over (faults_risen (g.faults old) (g.faults new) input sink) (place_after done) ends
   pub wrote : Wrote sink ((came_at g f old done).text ++ breaks.last)
   pub same : IsSameNode g old new
   pub brings : GrowsToward g old new (came_of f (came_at g f old done).journal (bodies_of breaks.next)).journal
@@ -173,7 +185,7 @@ pub record HasAnswered {N : Type 0} (g : Ghosts N) (f : ServesBody) (old new : N
 
 -- A turn was cut short.
 pub record IsTurnShort {N : Type 0} (g : Ghosts N) (f : ServesBody) (old new : N) (input : Inputs) (sink : Sinks) (place : ℕ) (ends : ServeEnding) : Type 0 where
-  pub breaks : BreaksOff g f new (g.records old) input.before input.after input.over (faults_risen (g.faults old) (g.faults new) input sink) place ends
+  pub breaks : BreaksOff f (RunsWith g new) (g.records old) input.before input.after input.over (faults_risen (g.faults old) (g.faults new) input sink) place ends
   pub wrote : Wrote sink breaks.last
   pub same : IsSameNode g old new
   pub brings : GrowsToward g old new (came_of f (g.records old) (bodies_of breaks.next)).journal

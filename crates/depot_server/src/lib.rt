@@ -2,12 +2,18 @@
 //!
 //! `serve_all` hears a message, has its request carried out on a `LocalNode`, writes the reply, and so on to the end of the input. A reply is written
 //! only once a stop leaves what it tells, and no byte behind a request is read before its reply is written.
+//!
+//! `run_server` starts the node from its disk, says by one message whether it was started (`start_telling`), and serves it then. `running` alone
+//! starts a node.
 #![tactic(auto)]
 
 mod ending;
-mod replying_to;
 mod request_hearing;
+mod running;
 mod serving;
+mod start_telling;
 
-pub use ending::ServeEnding;
+pub use ending::{ServeEnding, ServerEnding};
+pub use running::run_server;
 pub use serving::serve_all;
+pub use start_telling::MESSAGE_VERSION;

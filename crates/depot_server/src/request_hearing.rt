@@ -1,32 +1,31 @@
 //! Hears requests.
 ghost use Rattle.std.specs.Prelude.{◌≡◌, ◌++◌, IsTrue, IsErrOf, IfOk, IfSome};
 ghost use Rattle.depot_base.specs.Faults.{HasCause};
-ghost use Rattle.depot_requests.specs.Requests.{IsRequest};
+ghost use Rattle.depot_asking.specs.Bodies.{MayBeAsked};
 ghost use Rattle.depot_source.specs.Inputs.{inputs};
 ghost use Rattle.depot_server.specs.Hearing.{HearsRequest};
 
 use crate::ending::ServeEnding;
+use depot_asking::{Asked, decode_asked};
 use depot_base::DecodeError;
-use depot_request_texts::decode_request;
-use depot_requests::Request;
 use depot_source::{HearError, Source, hear};
 use std::alloc::Global;
 
-/// A request that came, and how many bytes its message has.
+/// What is asked by a message that came, and how many bytes the message has.
 #[derive(Drop)]
 pub struct Heard {
-    pub request: Request,
+    pub asked: Asked,
     pub long: u64,
 }
 
-/// The request that comes next, or None at the end. Its message begins at an offset.
+/// What is asked next, or None at the end. Its message begins at an offset.
 pub fn hear_request<I: Source>(
     alloc: Global,
     input: &mut I,
     at: u64,
 ) -> Result<Option<Heard>, ServeEnding>
     ensures hears { HearsRequest (inputs I.Source input.old input.new) at result }
-    ensures may_be_asked { IfOk result (λ heard. IfSome heard (λ h. IsRequest h.request)) }
+    ensures may_be_asked { IfOk result (λ heard. IfSome heard (λ h. MayBeAsked h.asked)) }
     ensures whole { IsTrue (I.tells input.old) → I.given input.new ++ I.rest input.new ≡ I.given input.old ++ I.rest input.old }
     ensures tells { I.tells input.new ≡ I.tells input.old }
     ensures cause { HasCause (I.faults input.old) (I.faults input.new) (IsErrOf result ServeEnding.Source) }
@@ -39,8 +38,8 @@ pub fn hear_request<I: Source>(
         Err(HearError::Bad) => return Err(ServeEnding::Input { at, within: 0 }),
     };
     let long = body.as_slice().len() as u64 + 4;
-    match decode_request(alloc, body.as_slice()) {
-        Ok(request) => Ok(Some(Heard { request, long })),
+    match decode_asked(alloc, body.as_slice()) {
+        Ok(asked) => Ok(Some(Heard { asked, long })),
         Err(DecodeError::Memory) => Err(ServeEnding::Memory),
         Err(DecodeError::IllFormed(within)) => Err(ServeEnding::Input { at, within }),
     }

@@ -1,15 +1,15 @@
 //! The loop.
 ghost use Rattle.std.specs.Prelude.{◌≡◌, ◌++◌, IsTrue, IsErrOf};
 ghost use Rattle.depot_base.specs.Faults.{HasCause};
-ghost use Rattle.depot_model.specs.Replicas.{IsSameNode};
 ghost use Rattle.depot_outside.specs.Told.{sinks};
 ghost use Rattle.depot_source.specs.Inputs.{inputs};
-ghost use Rattle.depot_server.specs.Answering.{IsServing, serves_of};
+ghost use Rattle.depot_asking.specs.Answering.{IsServing};
+ghost use Rattle.depot_server.specs.Answering.{serves_of};
 ghost use Rattle.depot_server.specs.Serving.{ServesInput, TurnsRequest};
 
 use crate::ending::ServeEnding;
-use crate::replying_to::reply_to;
 use crate::request_hearing::hear_request;
+use depot_asking::answer;
 use depot_local::LocalNode;
 use depot_outside::{OutError, Sink};
 use depot_requests::Halt;
@@ -30,6 +30,7 @@ fn turn<I: Source, K: Sink, N: LocalNode>(
     ensures same_sink { K.tells out.new ≡ K.tells out.old }
     ensures same_source { I.tells input.new ≡ I.tells input.old }
     ensures whole { IsTrue (I.tells input.old) → I.given input.new ++ I.rest input.new ≡ I.given input.old ++ I.rest input.old }
+    ensures handle { N.handle node.new ≡ N.handle node.old }
     ensures disk_cause { HasCause (N.faults node.old) (N.faults node.new) (IsErrOf result ServeEnding.Disk) }
     ensures sink_cause { HasCause (K.faults out.old) (K.faults out.new) (IsErrOf result ServeEnding.Sink) }
     ensures source_cause { HasCause (I.faults input.old) (I.faults input.new) (IsErrOf result ServeEnding.Source) }
@@ -38,7 +39,7 @@ fn turn<I: Source, K: Sink, N: LocalNode>(
         return Ok(None);
     };
     let long = heard.long;
-    let text = match reply_to(alloc, node, heard.request) {
+    let text = match answer(alloc, node, heard.asked) {
         Ok(text) => text,
         Err(Halt::Memory) => return Err(ServeEnding::Memory),
         Err(Halt::Disk) => return Err(ServeEnding::Disk),
@@ -63,7 +64,10 @@ pub fn serve_all<I: Source, K: Sink, N: LocalNode>(
 ) -> Result<(), ServeEnding>
     requires running { IsServing N.NodeState node.old }
     ensures serves { ServesInput N.NodeState (serves_of N.NodeState node.old) node.old node.new (inputs I.Source input.old input.new) (sinks K.Sink out.old out.new) result }
+    ensures same_sink { K.tells out.new ≡ K.tells out.old }
+    ensures same_source { I.tells input.new ≡ I.tells input.old }
     ensures whole { IsTrue (I.tells input.old) → I.given input.new ++ I.rest input.new ≡ I.given input.old ++ I.rest input.old }
+    ensures handle { N.handle node.new ≡ N.handle node.old }
     ensures disk_cause { HasCause (N.faults node.old) (N.faults node.new) (IsErrOf result ServeEnding.Disk) }
     ensures sink_cause { HasCause (K.faults out.old) (K.faults out.new) (IsErrOf result ServeEnding.Sink) }
     ensures source_cause { HasCause (I.faults input.old) (I.faults input.new) (IsErrOf result ServeEnding.Source) }

@@ -1,5 +1,5 @@
 -- How a command turns out that asks the node.
-use Rattle.std.proofs.Common.{◌≡◌, ◌<◌, ◌≤◌, ℕ, false, IsTrue, List, [], ◌∷◌, ◌++◌, Option, Some, None, Result, Ok, Err, refl, sym, ap, subst, ◌∙◌, inl, inr}
+use Rattle.std.proofs.Common.{◌≡◌, ◌<◌, ◌≤◌, ℕ, false, IsTrue, List, [], ◌∷◌, ◌++◌, take, Option, Some, None, Result, Ok, Err, refl, sym, ap, subst, ◌∙◌, inl, inr}
 use Rattle.std.specs.Prelude.{IfSome, IsErrOf}
 use Rattle.std.specs.Result.{IsErrAnd}
 use Rattle.depot_answers.specs.declared.exchange_answers.Closing.{Closing}
@@ -27,6 +27,7 @@ use Rattle.depot_session.specs.Sessions.{Files, Session, Step, StoresAs, answere
 use Rattle.depot_session.specs.Turns.{IsAt, IsRunning, Keeps, LeavesBrought, Turns, step_at}
 use Rattle.depot_session.proofs.AskedShelves.{goes_on_anyhow, stored_none, stored_once}
 use Rattle.depot_session.proofs.Called.{keeps_running, keeps_to_disk, keeps_without_memory}
+use Rattle.depot_session.proofs.DiskCalls.{appended}
 use Rattle.depot_session.proofs.LeftJournals.{leaves_after, leaves_front}
 use Rattle.depot_session.proofs.StoredFiles.{stored_alike, stored_told}
 use Rattle.depot_session.proofs.ToldFaults.{EndsCalmly, NamesFaults, names_stored, names_told}
@@ -101,7 +102,7 @@ module _ {N : Type 0} (g : Ghosts N) (counts_now : (v : N) (t : ℕ) (file : Lis
 
     -- a stop leaves a front of it
     leaves : LeavesBrought g old new call.appends
-    leaves = leaves_front g counts_now old new call.appends running.runs call.node.journal.lasts
+    leaves = leaves_front g counts_now old new call.appends running.runs (appended g old new call.appends (take call.lasts.is.count call.lasts.appends) _ _ _ running.runs call.node.journal call.lasts.is.front)
 
     -- no memory was found
     pub asked_without_memory : IsUnchanged shelf → (result : Result (Unit {0}) ScriptEnding) → IsErrAnd result (λ e. e ≡ ending.Memory) → sink.after ≡ sink.before → Turns g old new c step shelf sink result
@@ -168,16 +169,16 @@ module _ {N : Type 0} (g : Ghosts N) (counts_now : (v : N) (t : ℕ) (file : Lis
 
 module _ {N : Type 0} (g : Ghosts N) (old new : N) (r : Request) (done : Result Reply Halt) (running : IsRunning g old) (call : IsRequestCall g old new r done) (sink : Sinks) (later : sink.faults_before ≤ sink.faults_after) where
   pub keeps_unasked : (result : Result (Unit {0}) ScriptEnding) → IsErrAnd result (λ e. e ≡ ending.Memory) → (sink.faults_before < sink.faults_after → IsErrOf result ending.Sink) → Keeps g old new sink result
-  keeps_unasked = keeps_without_memory g old new sink (IsErrOf done halt.Disk) call.node.same call.node.journal.disk call.lasts later
+  keeps_unasked = keeps_without_memory g old new sink (IsErrOf done halt.Disk) call.node.same call.node.journal.disk call.lasts call.appends call.node.journal.calls later
 
   pub keeps_cut : (e : ScriptEnding) → IsErrOf done halt.Disk → IsFaultTold sink disk_line ending.Disk e → (sink.faults_before < sink.faults_after → e ≡ ending.Sink) → Keeps g old new sink (Err e)
-  keeps_cut e = keeps_to_disk g old new sink (IsErrOf done halt.Disk) call.node.same call.node.journal.disk call.lasts later disk_line e
+  keeps_cut e = keeps_to_disk g old new sink (IsErrOf done halt.Disk) call.node.same call.node.journal.disk call.lasts call.appends call.node.journal.calls later disk_line e
 
   module _ (told_reply : Reply) (replied : done ≡ Ok told_reply) where
     keeps_replied : (result : Result (Unit {0}) ScriptEnding) → NamesFaults (g.faults old < g.faults new) sink result → Keeps g old new sink result
     keeps_replied result names =
         let not : IsErrOf done halt.Disk → ⊥ = λ failed. (let wrong : Ok told_reply ≡ Err halt.Disk = sym replied ∙ failed in cc) in
-        keeps_running g old new sink (IsErrOf done halt.Disk) call.node.same call.node.journal.disk call.lasts result (runs_on (g.stopped old) running.runs call.node.journal.stops not) not names
+        keeps_running g old new sink (IsErrOf done halt.Disk) call.node.same call.node.journal.disk call.lasts call.appends call.node.journal.calls result (runs_on (g.stopped old) running.runs call.node.journal.stops not) not names
 
     pub keeps_told : (shelf : Shelves) (text : List ℕ) (name : Option (List ℕ)) (result : Result (Unit {0}) ScriptEnding) → TellsHanded shelf sink text (ending_of_reply told_reply) (handed_over told_reply) name result → (sink.faults_before < sink.faults_after → IsErrOf result ending.Sink) → Keeps g old new sink result
     keeps_told shelf text name result tells only = keeps_replied result (by_parts (handed_over told_reply) name tells) where

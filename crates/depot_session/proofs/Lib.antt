@@ -1,5 +1,6 @@
 pub mod AskedCommands
 pub mod LeftJournals
+pub mod DiskCalls
 pub mod StepGrowth
 pub mod UnwrittenTexts
 pub mod Turning
@@ -9,6 +10,7 @@ pub mod Called
 pub mod Uncalled
 pub mod FittingScripts
 pub mod ExportTurns
+pub mod RightExports
 pub mod GoingOn
 pub mod CorrectSteps
 pub mod KeptSteps
@@ -17,6 +19,7 @@ pub mod StoredNames
 pub mod LastReaders
 pub mod PlayedScripts
 pub mod RunImages
+pub mod RunCalls
 pub mod RunEnds
 pub mod ReaderTurns
 pub mod UnhinderedStreams

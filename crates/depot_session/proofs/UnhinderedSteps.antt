@@ -77,9 +77,9 @@ checkpoint_goes here J no_leaves within = refl
 checkpoint_goes here J (many_leaves n) within = refl
 checkpoint_goes here J (made_text text) within = ap (λ (o : Option Limit). ending_of_reply (handing text (put_served here J (checkpoint_changes text) o)).reply) (within text refl)
 
-sign_goes : (here : Setting) (J : List Record) (text : List ℕ) (ids : List (List ℕ)) (o : Option (List ℕ)) → limit_of_put here J (checkpoint_changes text) ≡ None → ending_of_reply (sign_served here J text (opened_unless ids o)).reply ≡ None
+sign_goes : (here : Setting) (J : List Record) (text : List ℕ) (ids : List (List ℕ)) (o : Option (List ℕ)) → (o ≡ None → limit_of_put here J (checkpoint_changes text) ≡ None) → ending_of_reply (sign_served here J text (opened_unless ids o)).reply ≡ None
 sign_goes here J text ids (Some id) within = refl
-sign_goes here J text ids None within = put_goes here J (checkpoint_changes text) (limit_of_put here J (checkpoint_changes text)) within
+sign_goes here J text ids None within = put_goes here J (checkpoint_changes text) (limit_of_put here J (checkpoint_changes text)) (within refl)
 
 -- ---- readers
 
@@ -130,7 +130,7 @@ goes_on here sign s (command.Sign file) u =
     let c = u.holds.0 in
     with_there here sign s (command.Sign file) (λ bytes. asks_for (request.Sign bytes)) file u.bytes u.there
     ∙ ap (λ (o : Opened). ending_of_reply (sign_served here J u.bytes o).reply) (is_opened here J u.bytes c)
-    ∙ sign_goes here J u.bytes (ids_of c.made) (unknown_leaf (accepted J) c.made.leaves) u.holds.1
+    ∙ sign_goes here J u.bytes (ids_of c.made) (unknown_leaf (accepted J) c.made.leaves) (λ known. u.holds.1 (ids_of c.made) (is_opened here J u.bytes c ∙ ap (opened_unless (ids_of c.made)) known))
 goes_on here sign s (command.Trim file) u = with_there here sign s (command.Trim file) trims file u.bytes u.there ∙ trim_text_goes here s.correct.journal u.bytes u.holds
 goes_on here sign s (command.Tgive file) u = given_goes here sign s (command.Tgive file) file s.reader u
 goes_on here sign s (command.Tget key) u = shown_goes here sign s (command.Tget key) key s.reader

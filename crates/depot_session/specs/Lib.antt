@@ -5,3 +5,4 @@ pub mod ScriptTelling
 pub mod Turns
 pub mod ReplyTelling
 pub mod Unhindered
+pub mod Exports

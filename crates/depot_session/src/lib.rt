@@ -32,5 +32,8 @@ mod telling;
 mod whole_script;
 
 pub use ending::ScriptEnding;
-pub use running::run;
-pub use session_laws::{images_hold_what_receipts_speak_of, unhindered_scripts_are_done};
+pub use running::{refusal_line, run};
+pub use session_laws::{
+    exports_are_right, images_hold_what_receipts_speak_of, runs_leave_true_receipts,
+    unhindered_scripts_are_done,
+};

@@ -1,5 +1,5 @@
 //! What a node sends and signs, in hexadecimal digits, as Python makes it from `docs/FORMATS.md`, apart from the program
-//! (`acceptance/make_cases.py`). They sign by the plain scheme, with keys of 16 leaves.
+//! (`acceptance/makers/make_cases.py`). They sign by the plain scheme, with keys of 16 leaves.
 //!
 //! Node 1 puts `a` and then `b` under `k`, and signs the checkpoint of the leaf that it has then.
 

@@ -5,7 +5,7 @@ ghost use Rattle.std.specs.Prelude.{◌≡◌, ◌<◌};
 
 use depot_base::{
     Bytes, Change, Changes, Deps, Hash32, Ids, Key, LengthError, Memory, NodeId, Signed, Statement,
-    Steps, Update, Value, ValueList, Voucher, Write, Writes, Wrote,
+    Steps, Texts, Update, Value, ValueList, Voucher, Write, Writes, Wrote,
 };
 use std::alloc::Global;
 use std::marker::Brand;
@@ -194,6 +194,24 @@ fn copied_values(alloc: Global) -> Result<usize, LengthError> {
     let mut values = ValueList::new(alloc);
     values.push(Value::new(alloc, b"abc")?)?;
     Ok(values.copy()?.as_slice().len())
+}
+
+/// Whether a copy of a list of two texts is the same.
+fn texts_are_copied(alloc: Global) -> Result<bool, Memory> {
+    let mut texts = Texts::new(alloc);
+    texts.push(Bytes::from_slice(alloc, b"abc")?)?;
+    texts.push(Bytes::new(alloc))?;
+    let copy = texts.copy()?;
+    Ok(match copy.as_slice() {
+        [first, second] => first.as_slice() == b"abc".as_slice() && second.as_slice().is_empty(),
+        _ => false,
+    })
+}
+
+#[test]
+fn texts_of_a_list_are_copied(rt: HostRuntime) -> Result<(), Fail> {
+    assert!(rt; texts_are_copied(rt.alloc())?);
+    Ok(())
 }
 
 #[test]

@@ -4,6 +4,7 @@ use depot_base::{Bytes, Hash32, Items, Memory};
 use depot_cli::{Status, Word, depot};
 use depot_outside::{MemDisk, MemShelf, MemSink};
 use depot_sign::Signer;
+use depot_source::MemSource;
 use depot_winter::WinterSigner;
 use sha2::{Digest, Sha256};
 use std::alloc::Global;
@@ -25,11 +26,11 @@ const LINE: &str = "1/0/1=ba7816bf8f01cfea414140de5dae2223b00361a396177a9cb410ff
 /// `key` of 32 zero bytes and height 2.
 const KEY: &str = "key 0000000000000000000000000000000000000000000000000000000000000000 2";
 
-/// Its root, by `acceptance/make_cases.py`.
+/// Its root, by `acceptance/makers/make_cases.py`.
 const ROOT: &str = "80b60b73f57fe84fe1fd4077d8cc2cf136f20e85d37de8a1f0cda9a2966f32bc\n";
 
-/// Nodes 8 and 9 with keys of height 2, of `acceptance/judge_same_prev`.
-const ROSTER: &str = "010400020008\
+/// Nodes 8 and 9 with keys of height 2, of `acceptance/cases/judge_same_prev`.
+pub const ROSTER: &str = "010400020008\
 025d92fbbc23d40d2955a3392b0890fd14637d7942735afaef041d679a74657029\
 000902c70aaf512f592cc5a9e6523dfb6a94c86629a8ac80f9dffe32e77976aa098491";
 
@@ -88,7 +89,7 @@ judge p -> 9 NotUpdate
 ";
 
 /// The number of the call that fails, or no number for 0.
-fn fails(alloc: Global, call: u32) -> Result<Items, Memory> {
+pub fn fails(alloc: Global, call: u32) -> Result<Items, Memory> {
     let mut calls = Items::new(alloc);
     if call > 0 {
         calls.push(call)?;
@@ -156,7 +157,7 @@ fn put_hollow(alloc: Global, shelf: &mut MemShelf) -> Result<(), Memory> {
 }
 
 /// Puts the bytes of a text in hexadecimal digits.
-fn put_hex(alloc: Global, shelf: &mut MemShelf, name: &str, text: &str) -> Result<(), Fail> {
+pub fn put_hex(alloc: Global, shelf: &mut MemShelf, name: &str, text: &str) -> Result<(), Fail> {
     let bytes = hex::decode(alloc, text)?;
     Ok(shelf.put(name, &bytes)?)
 }
@@ -192,7 +193,7 @@ fn files(alloc: Global, failing: u32) -> Result<MemShelf, Fail> {
 }
 
 /// The words of a line.
-fn words(alloc: Global, line: &str) -> Result<Vec<Word>, Memory> {
+pub fn words(alloc: Global, line: &str) -> Result<Vec<Word>, Memory> {
     let mut words = Vec::new(alloc);
     for word in line.split(' ') {
         words.push(Word::new(String::from_str(alloc, word)?))?;
@@ -203,7 +204,7 @@ fn words(alloc: Global, line: &str) -> Result<Vec<Word>, Memory> {
 /// How a run ends, and its text where that is asked for.
 type End = (Status, Option<&'static str>);
 
-/// Whether a run ends so. Of the sink's calls those of these numbers fail.
+/// Whether a run ends so. Of the sink's calls those of these numbers fail. The source's first call would, if it were read.
 fn ends_so(
     alloc: Global,
     words: &[Word],
@@ -211,15 +212,18 @@ fn ends_so(
     disk: &mut MemDisk,
     sink_fails: Items,
     end: &End,
-) -> bool {
+) -> Result<bool, Memory> {
+    let mut input = MemSource::new(Bytes::new(alloc), Items::new(alloc), fails(alloc, 1)?);
     let mut sink = MemSink::new(alloc, sink_fails);
-    let status = depot(alloc, words, shelf, disk, &mut sink);
+    let status = depot(alloc, words, shelf, disk, &mut input, &mut sink);
     let (right, text) = end;
-    status == *right
-        && match text {
-            Some(text) => sink.bytes() == text.as_bytes(),
-            None => true,
-        }
+    Ok(
+        status == *right
+            && match text {
+                Some(text) => sink.bytes() == text.as_bytes(),
+                None => true,
+            },
+    )
 }
 
 /// Words, the calls of the shelf and of the sink that fail, and how the run ends.
@@ -352,7 +356,7 @@ fn case_holds(alloc: Global, case: &Case) -> Result<bool, Fail> {
     let mut shelf = files(alloc, *shelf_fails)?;
     let words = words(alloc, line)?;
     let mut disk = MemDisk::new(Bytes::new(alloc), Items::new(alloc));
-    Ok(ends_so(alloc, &words, &mut shelf, &mut disk, sink_fails, end))
+    Ok(ends_so(alloc, &words, &mut shelf, &mut disk, sink_fails, end)?)
 }
 
 #[test]
@@ -370,13 +374,13 @@ fn goes_on(alloc: Global, words: &[Word], shelf: &mut MemShelf, call: u32) -> Re
     let none = Items::new(alloc);
     if call > 12 {
         let end = (Status::Done, Some("put 6b -> 0/1\n"));
-        return Ok(ends_so(alloc, words, shelf, &mut disk, none, &end));
+        return ends_so(alloc, words, shelf, &mut disk, none, &end);
     }
     let end = (Status::Disk, Some("disk\n"));
     let again = (Status::Done, None);
     Ok(
-        ends_so(alloc, words, shelf, &mut disk, none, &end)
-            && ends_so(alloc, words, shelf, &mut disk, Items::new(alloc), &again),
+        ends_so(alloc, words, shelf, &mut disk, none, &end)?
+            && ends_so(alloc, words, shelf, &mut disk, Items::new(alloc), &again)?,
     )
 }
 

@@ -1,4 +1,4 @@
-//! Keys and signatures of each height, as `examples/winternitz_check.py` computes them, apart from the program.
+//! Keys and signatures of each height, as `acceptance/models/winternitz_check.py` computes them, apart from the program.
 
 use crate::hex_digits::is_hex;
 use depot_base::{Hash32, Memory};

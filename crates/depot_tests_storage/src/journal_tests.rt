@@ -1,6 +1,6 @@
 //! A journal on a disk in memory, whose calls fail one by one; files that are good, cut and damaged.
 
-use depot_base::{Bytes, Items, Memory};
+use depot_base::{Bytes, Full, FullOf, Items, Memory};
 use depot_journal::*;
 use depot_outside::MemDisk;
 use std::alloc::Global;
@@ -80,6 +80,45 @@ fn a_start_finds_the_records_or_what_is_wrong(rt: HostRuntime) {
         assert!(rt;
             found(rt.alloc(), file, *failing) == *right,
             "{file:?} {failing}"
+        );
+    }
+}
+
+/// Of so many records more, which take so many bytes in a file with the three: the limit that they pass, and how many the file has.
+static ROOM: [(u32, u32, Result<(), Full>); 5] = [
+    (0, 0, Ok(())),
+    (131_069, 0, Ok(())),
+    (
+        131_070,
+        u32::MAX,
+        Err(Full {
+            what: FullOf::Records,
+            number: 3,
+        }),
+    ),
+    (1, 1_073_741_824 - 20, Ok(())),
+    (
+        1,
+        1_073_741_824 - 19,
+        Err(Full {
+            what: FullOf::Bytes,
+            number: 20,
+        }),
+    ),
+];
+
+/// Whether a journal of the three records has room for so many more.
+fn room_in_file(alloc: Global, records: u32, bytes: u32) -> Result<Result<(), Full>, JournalError> {
+    let journal = start(alloc, disk_of(alloc, FILE, 0)?)?;
+    Ok(journal.room(records, bytes))
+}
+
+#[test]
+fn a_journal_says_whether_it_has_room(rt: HostRuntime) {
+    for (records, bytes, right) in ROOM.iter() {
+        assert!(rt;
+            room_in_file(rt.alloc(), *records, *bytes) == Ok(*right),
+            "{records} {bytes}"
         );
     }
 }

@@ -1,4 +1,4 @@
-//! Examples of what is kept: journals on a disk, values, chains, vouched ids and kept statements.
+//! Examples of what is kept: journals on a disk, values, chains, vouched ids and kept statements; and of messages that come over a source.
 //!
 //! Files and hashes from outside are tried on each of these crates, and each of their public functions is called once with
 //! ample memory. What is promised of them is proved there; nothing is promised here. The tests stand in a crate of their own so
@@ -15,6 +15,8 @@ mod fakes;
 mod journal_tests;
 #[cfg(test)]
 mod real_adapters;
+#[cfg(test)]
+mod source_tests;
 #[cfg(test)]
 mod transfers;
 #[cfg(test)]

@@ -3,5 +3,6 @@ mod ReadsTold
 mod SessionReads
 mod ReadsAndVerdicts
 mod SessionExamples
+mod ValueOrderExamples
 mod ShelfExamples
 mod DamageExamples

@@ -1,6 +1,8 @@
 -- Worked scripts: what a node answers and keeps, each way in which a script ends, and runs that are cut short.
-use Rattle.std.proofs.Common.{◌≡◌, ◌<◌, ℕ, List, [], ◌∷◌, ◌++◌, length, map, replicate, take, true, codes, Option, Some, None, if◌then◌else◌, refl, sym, ap, subst, inl, inr, arith}
+use Rattle.std.proofs.Common.{◌≡◌, ◌<◌, ℕ, List, [], ◌∷◌, ◌++◌, length, map, replicate, take, drop, true, false, codes, Option, Some, None, if◌then◌else◌, refl, sym, ap, subst, inl, inr, arith}
+use Rattle.std.proofs.lemmas.List.{length-append, length-map}
 use Rattle.std.specs.Str.{bytes_eq}
+use Rattle.depot_base.specs.Calls.{Call, Made, asks_length, made, made_but_last, syncs}
 use Rattle.depot_base.specs.Closed.{rest_of}
 use Rattle.depot_base.specs.Cursor.{numeral}
 use Rattle.depot_base.specs.Format.{number, bytes_of, inner, list_of}
@@ -57,8 +59,8 @@ use Rattle.depot_script.specs.declared.command.Command.{Command}
 use Rattle.depot_script.specs.declared.command.Command.TheVariants as command
 use Rattle.depot_session.specs.declared.ending.ScriptEnding.{ScriptEnding}
 use Rattle.depot_session.specs.declared.ending.ScriptEnding.TheVariants as ending
-use Rattle.depot_session.specs.SessionRuns.{GoesShort, GrowsTo, IsCutBy, IsLast, IsToBeWritten, LeavesFront, pending_for, pending_in, world_at}
-use Rattle.depot_session.specs.Sessions.{Answers, Files, Session, answers_of, ending_of_closing, session_from, step_of}
+use Rattle.depot_session.specs.SessionRuns.{CallsShort, DiskFailsAmong, GoesShort, GrowsTo, IsCutBy, IsLast, IsToBeWritten, LeavesFront, calls_of_run, pending_for, pending_in, world_at}
+use Rattle.depot_session.specs.Sessions.{Answers, Files, Session, answers_of, ending_of_closing, ending_of_tgive, session_from, step_of}
 use Rattle.depot_session.specs.Unhindered.{AreUnhindered}
 
 -- ---- a script
@@ -220,6 +222,10 @@ endings = record { nothing = refl; absent_hello = refl; absent_hello_line = refl
 full_take : (what : Full) → ending_of_closing (closing_told (Some (out_of_room what))) ≡ Some ending.Limit
 full_take what = refl
 
+-- and so does one for which a reader has none
+full_tgive : (what : Full) → ending_of_tgive (Some what) ≡ Some ending.Limit
+full_tgive what = refl
+
 -- ---- runs that are cut short
 
 abbrev shelf : ℕ → Shelves
@@ -294,9 +300,9 @@ is_correct : IsCorrect (world_at (node 2)) second.correct
 unfolding key_of
 is_correct = record { member = refl; lawful = second_born; begun = refl; reads = λ r never. absurd never; in_order = tt }
 
--- a disk of which a stop leaves this file, and left that one before
-abbrev disk : List ℕ → List ℕ → ℕ → Disks
-disk before after faults = record { tells = true; file = before; file_after = after; may_leave = λ i. i ≡ before; may_leave_after = λ i. i ≡ after; left_in_run = λ i. i ≡ after; faults_before = 0; faults_after = faults }
+-- a disk of which a stop leaves this file, and left that one before, and on which these calls were made
+abbrev disk : List ℕ → List ℕ → List Made → ℕ → Disks
+disk before after calls faults = record { tells = true; file = before; file_after = after; may_leave = λ i. i ≡ before; may_leave_after = λ i. i ≡ after; left_in_run = λ i. i ≡ after; moment_before = 0; moment_after = 0; left_since = λ t i. i ≡ after; after = λ made. made ≡ calls; faults_before = 0; faults_after = faults }
 
 -- a sink to which this was written
 abbrev wrote : List ℕ → ℕ → Sinks
@@ -306,9 +312,9 @@ abbrev Short : Disks → Sinks → ScriptEnding → Type 0
 Short d w ends = GoesShort (node 2) no_signature (newborn 2) second (one_put ∷ []) d (shelf 0) w ends
 
 -- nothing of the put is on the disk, and nothing of its line was told
-cut_before : (image : List ℕ) (faults : ℕ) (w : Sinks) (ends : ScriptEnding) (last : List ℕ) → IsCutBy (0 < faults) (shelf 0) w ends → IsLast (pending_in (node 2) no_signature second (one_put ∷ []) (λ i. i ≡ image) (0 < faults) (shelf 0)) ends last → Wrote w last → Short (disk image image faults) w ends
+cut_before : (image : List ℕ) (calls : List Made) (faults : ℕ) (w : Sinks) (ends : ScriptEnding) (last : List ℕ) → CallsShort (newborn 2) its_records (◌≡◌ {A = List Command} [] [] × (last ≡ [])) (disk image image calls faults) → IsCutBy (0 < faults) (shelf 0) w ends → IsLast (pending_in (node 2) no_signature second (one_put ∷ []) (λ i. i ≡ image) (0 < faults) (shelf 0)) ends last → Wrote w last → Short (disk image image calls faults) w ends
 unfolding answers_of
-cut_before image faults w ends last cut is told = record {
+cut_before image calls faults w ends last called cut is told = record {
   cut = cut;
   done = [];
   rest = one_put ∷ [];
@@ -325,17 +331,37 @@ cut_before image faults w ends last cut is told = record {
   leaves = λ i left. inl left;
   reads = inl refl;
   grows = record { grown = its_records; is = put_goes.brings; moments = λ i left. inl left };
+  calls = called;
   files = λ name. inl refl;
 }
 
-cut_by_disk : (image : List ℕ) → Short (disk image image 1) (wrote (codes "disk\n") 0) ending.Disk
-cut_by_disk image = cut_before image 1 (wrote (codes "disk\n") 0) ending.Disk (codes "disk\n") (omega arith) refl (λ tells. refl)
+-- of the calls that were to be made the first one failed
+abbrev first_failed : List Made
+first_failed = made_but_last [] syncs
 
-cut_by_memory : (image : List ℕ) → Short (disk image image 0) (wrote [] 0) ending.Memory
-cut_by_memory image = cut_before image 0 (wrote [] 0) ending.Memory [] tt refl (λ tells. refl)
+fails_first : (image : List ℕ) → DiskFailsAmong (disk image image first_failed 1) (calls_of_run (disk image image first_failed 1) (newborn 2) its_records)
+fails_first image = record { before = []; failing = syncs; rest = drop 1 (calls_of_run (disk image image first_failed 1) (newborn 2) its_records); parts = refl; fails = refl }
+
+cut_by_disk : (image : List ℕ) → Short (disk image image first_failed 1) (wrote (codes "disk\n") 0) ending.Disk
+cut_by_disk image = cut_before image first_failed 1 (wrote (codes "disk\n") 0) ending.Disk (codes "disk\n") (record { part = λ rose. fails_first image; whole = λ calm. absurd (calm (omega arith)) }) (omega arith) refl (λ tells. refl)
+
+cut_by_memory : (image : List ℕ) → Short (disk image image [] 0) (wrote [] 0) ending.Memory
+cut_by_memory image = cut_before image [] 0 (wrote [] 0) ending.Memory [] (record { part = λ rose. absurd (omega (arith, rose)); whole = λ calm. inl (refl, refl) }) tt refl (λ tells. refl)
+
+-- a disk that failed in one look more, behind all that the run was to ask of it, failed in none of these
+not_one_look_more : (image : List ℕ) (calls : List Call) → DiskFailsAmong (disk image image (made_but_last calls asks_length) 1) calls → ⊥
+not_one_look_more image calls f =
+    let parts = ap length f.parts in
+    let fails = ap length f.fails in
+    let asked : List Made = record { call = f.failing; failed = true } ∷ [] in
+    let looked : List Made = record { call = asks_length; failed = true } ∷ [] in
+    omega (arith, parts, fails, length-append f.before (f.failing ∷ f.rest), length-append (made f.before) asked, length-append (made calls) looked, length-map {B = Made} f.before (λ (call : Call). record { call = call; failed = false }), length-map {B = Made} calls (λ (call : Call). record { call = call; failed = false }))
 
 -- the put is on the disk, and three bytes of its line were told before the sink failed
-cut_by_sink : (before after : List ℕ) → HasRecords (newborn 2 ++ its_records) after → Short (disk before after 0) (wrote (codes "put") 1) ending.Sink
+abbrev all_made : List ℕ → List ℕ → List Made
+all_made before after = made (calls_of_run (disk before after [] 0) (newborn 2) its_records)
+
+cut_by_sink : (before after : List ℕ) → HasRecords (newborn 2 ++ its_records) after → Short (disk before after (all_made before after) 0) (wrote (codes "put") 1) ending.Sink
 unfolding answers_of
 cut_by_sink before after has = record {
   cut = omega arith;
@@ -354,11 +380,12 @@ cut_by_sink before after has = record {
   leaves = λ i is. inr (record { count = 1; has = subst (λ (f : List ℕ). HasRecords (newborn 2 ++ its_records) f) (sym is) has });
   reads = inr (record { count = 1; has = has });
   grows = record { grown = its_records; is = put_goes.brings; moments = λ i is. inr (record { count = 1; has = subst (λ (f : List ℕ). HasRecords (newborn 2 ++ its_records) f) (sym is) has }) };
+  calls = record { part = λ rose. absurd (omega (arith, rose)); whole = λ calm. inr (its_records, (has, refl)) };
   files = λ name. inl refl;
 }
 
 -- a stop in the run may have left a front of what the put brings, and no file that lost the records from before
-put_begun : (image : List ℕ) → HasRecords (newborn 2) image → GrowsTo (newborn 2) (newborn 2 ++ its_records) (disk image image 0)
+put_begun : (image : List ℕ) → HasRecords (newborn 2) image → GrowsTo (newborn 2) (newborn 2 ++ its_records) (disk image image [] 0)
 put_begun image has = record { grown = its_records; is = refl; moments = λ i is. inr (record { count = 0; has = subst (λ (f : List ℕ). HasRecords (newborn 2 ++ []) f) (sym is) has }) }
 
 never_lost : (after : List Record) (d : Disks) → d.left_in_run [] → (d.may_leave [] → ⊥) → GrowsTo (newborn 2) after d → ⊥

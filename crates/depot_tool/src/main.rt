@@ -1,6 +1,6 @@
 //! The program `depot`.
 //!
-//! It takes the numbers of standard streams that were closed, collects its words, makes the real shelf, disk and sink, calls
+//! It takes the numbers of standard streams that were closed, collects its words, makes the real shelf, disk, source and sink, calls
 //! `depot` and ends with its status. What `depot` does is said by its contract in `depot_cli`; what the real adapters do is
 //! trusted (`depot_outside`), and so is what this file does before it, which runs of the program try.
 #![tactic(auto)]
@@ -8,6 +8,7 @@
 use depot_base::Memory;
 use depot_cli::{Status, Word, depot};
 use depot_outside::{RealDisk, RealShelf, RealSink};
+use depot_source::RealSource;
 use std::env;
 use std::fs::{File, OpenOptions};
 use std::io::{self, ErrorKind};
@@ -40,13 +41,21 @@ fn words_of(rt: &HostRuntime) -> Result<Vec<Word>, Memory> {
     }
 }
 
-/// Runs the program on the real shelf, disk and sink.
+/// Runs the program on the real shelf, disk, source and sink.
 fn run(rt: &HostRuntime) -> Result<Status, Memory> {
     let words = words_of(rt)?;
     let mut shelf = RealShelf::new(rt.clone()?);
     let mut disk = RealDisk::new(rt.clone()?);
+    let mut input = RealSource::new(rt.reader());
     let mut out = RealSink::new(rt.clone()?);
-    Ok(depot(rt.alloc(), &words, &mut shelf, &mut disk, &mut out))
+    Ok(depot(
+        rt.alloc(),
+        &words,
+        &mut shelf,
+        &mut disk,
+        &mut input,
+        &mut out,
+    ))
 }
 
 /// The status of a run, with which the program ends.

@@ -13,6 +13,7 @@ invariant-loop g l = record {
   same_sink : g.K.Sink.tells l.out ≡ g.K.Sink.tells l.fn.out;
   same_source : g.I.Source.tells l.input ≡ g.I.Source.tells l.fn.input;
   whole : IsTrue (g.I.Source.tells l.fn.input) → g.I.Source.given l.input ++ g.I.Source.rest l.input ≡ g.I.Source.given l.fn.input ++ g.I.Source.rest l.fn.input;
+  handle : g.N.NodeState.handle l.node ≡ g.N.NodeState.handle l.fn.node;
   disk_quiet : g.N.NodeState.faults l.node ≡ g.N.NodeState.faults l.fn.node;
   sink_quiet : g.K.Sink.faults l.out ≡ g.K.Sink.faults l.fn.out;
   source_quiet : g.I.Source.faults l.input ≡ g.I.Source.faults l.fn.input;

@@ -1,4 +1,4 @@
-use Rattle.std.proofs.Common.{◌≡◌, ℕ, List, [], append-nil, ◌∙◌, Result, Ok, Err, refl, sym, ap}
+use Rattle.std.proofs.Common.{◌≡◌, ℕ, List, append-nil, ◌∙◌, Result, Ok, Err, refl, sym, ap}
 use Rattle.std.proofs.lemmas.Result.{err_from_is_err_and}
 use Rattle.depot_outside.specs.Told.{sinks}
 use Rattle.depot_requests.specs.declared.reply.Halt.{Halt}
@@ -23,28 +23,28 @@ returns-in_err-heard-clause-turns g c =
 pub returns-in-Err-Memory-clause-turns : goal.returns-in-Err-Memory-clause-turns
 returns-in-Err-Memory-clause-turns g c =
     let sink = sinks g.K.Sink c.args.out.now c.args.out.now in
-    begun_in_vain g.N.NodeState c.args.node.now c.reply_to.new.node (inputs g.I.Source c.args.input.now c.hear_request.new.input) sink c.args.at c.in-Some.heard (rw c.in-Some.is at c.in_ok-heard.ensures.hears) _ c.in-Err-Memory.ensures.call
+    begun_in_vain g.N.NodeState c.args.node.now c.answer.new.node (inputs g.I.Source c.args.input.now c.hear_request.new.input) sink c.args.at c.in-Some.heard (rw c.in-Some.is at c.in_ok-heard.ensures.hears) _ c.in-Err-Memory.ensures.call
     (λ is. absurd (not_both _ (ap Err c.in-Err-Memory.field-0-is) is)) (none_written sink refl)
 
 pub returns-in-Err-Disk-clause-turns : goal.returns-in-Err-Disk-clause-turns
 returns-in-Err-Disk-clause-turns g c =
     let sink = sinks g.K.Sink c.args.out.now c.args.out.now in
     let call = c.in-Err-Disk.ensures.call in
-    disk_failed g.N.NodeState c.args.node.now c.reply_to.new.node (inputs g.I.Source c.args.input.now c.hear_request.new.input) sink c.args.at c.in-Some.heard (rw c.in-Some.is at c.in_ok-heard.ensures.hears) _ call (call.cause.rose (ap Err c.in-Err-Disk.field-0-is)) (none_written sink refl)
+    disk_failed g.N.NodeState c.args.node.now c.answer.new.node (inputs g.I.Source c.args.input.now c.hear_request.new.input) sink c.args.at c.in-Some.heard (rw c.in-Some.is at c.in_ok-heard.ensures.hears) _ call (call.cause.rose (ap Err c.in-Err-Disk.field-0-is)) (none_written sink refl)
 
 pub returns-in-Err-Memory-write-clause-turns : goal.returns-in-Err-Memory-write-clause-turns
 returns-in-Err-Memory-write-clause-turns g c =
-    begun_in_vain g.N.NodeState c.args.node.now c.reply_to.new.node (inputs g.I.Source c.args.input.now c.hear_request.new.input) (sinks g.K.Sink c.args.out.now c.write.new.self) c.args.at c.in-Some.heard (rw c.in-Some.is at c.in_ok-heard.ensures.hears) _ c.in-Ok.ensures.call
+    begun_in_vain g.N.NodeState c.args.node.now c.answer.new.node (inputs g.I.Source c.args.input.now c.hear_request.new.input) (sinks g.K.Sink c.args.out.now c.write.new.self) c.args.at c.in-Some.heard (rw c.in-Some.is at c.in_ok-heard.ensures.hears) _ c.in-Ok.ensures.call
     (λ is. absurd (not_ok _ is)) (λ told. (rw c.in-Err-Memory-write.field-0-is at (c.in-Err-Memory-write.ensures.written told)) ∙ sym (append-nil (g.K.Sink.written c.args.out.now)))
 
 pub returns-clause-turns : goal.returns-clause-turns
 returns-clause-turns g c =
     let e = c.in-Ok.ensures in
-    half_told g.N.NodeState c.args.node.now c.reply_to.new.node (inputs g.I.Source c.args.input.now c.hear_request.new.input) (sinks g.K.Sink c.args.out.now c.write.new.self) c.args.at c.in-Some.heard (rw c.in-Some.is at c.in_ok-heard.ensures.hears) _ e.call
+    half_told g.N.NodeState c.args.node.now c.answer.new.node (inputs g.I.Source c.args.input.now c.hear_request.new.input) (sinks g.K.Sink c.args.out.now c.write.new.self) c.args.at c.in-Some.heard (rw c.in-Some.is at c.in_ok-heard.ensures.hears) _ e.call
     (λ is. not_ok _ is) c.as_slice.result.now (rw (sym c.as_slice.ensures) at e.answers) (c.in-Err-Failed.ensures.cause.rose (ap Err c.in-Err-Failed.field-0-is)) (λ told. rw c.in-Err-Failed.field-0-is at (c.in-Err-Failed.ensures.written told))
 
 pub returns-in-Ok-write-clause-turns : goal.returns-in-Ok-write-clause-turns
 returns-in-Ok-write-clause-turns g c =
     let e = c.in-Ok.ensures in
-    answered_long g.N.NodeState c.args.node.now c.reply_to.new.node (inputs g.I.Source c.args.input.now c.hear_request.new.input) (sinks g.K.Sink c.args.out.now c.write.new.self) c.args.at c.in-Some.heard (rw c.in-Some.is at c.in_ok-heard.ensures.hears) _ e.call
+    answered_long g.N.NodeState c.args.node.now c.answer.new.node (inputs g.I.Source c.args.input.now c.hear_request.new.input) (sinks g.K.Sink c.args.out.now c.write.new.self) c.args.at c.in-Some.heard (rw c.in-Some.is at c.in_ok-heard.ensures.hears) _ e.call
     (λ is. not_ok _ is) c.as_slice.result.now (rw (sym c.as_slice.ensures) at e.answers) c.in-Ok-write.ensures.written

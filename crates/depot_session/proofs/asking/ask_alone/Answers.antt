@@ -6,7 +6,7 @@ use Rattle.depot_session.proofs.Uncalled.{keeps_uncalled, uncalled_without_memor
 use Rattle.depot_session.proofs.asking.ask_alone.Goals as goal
 
 pub returns-in_err-request-clause-keeps : goal.returns-in_err-request-clause-keeps
-returns-in_err-request-clause-keeps g c = keeps_uncalled g.R.NodeState c.args.node.now c.requires.running (g.met.R.Replica.only_now) (g.met.R.Replica.lawful c.args.node.now) _ _ (names_memory _ _ (omega arith) _ c.from_residual.ensures.1 (never_rose _ _))
+returns-in_err-request-clause-keeps g c = keeps_uncalled g.R.NodeState c.args.node.now c.requires.running (g.met.R.Replica.only_now) (g.met.R.Replica.after_none) (g.met.R.Replica.lawful c.args.node.now) _ _ (names_memory _ _ (omega arith) _ c.from_residual.ensures.1 (never_rose _ _))
 
 pub returns-in_err-request-clause-turns : goal.returns-in_err-request-clause-turns
 returns-in_err-request-clause-turns g c = λ s told at.

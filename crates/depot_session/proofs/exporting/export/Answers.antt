@@ -7,14 +7,14 @@ use Rattle.depot_session.proofs.Uncalled.{keeps_uncalled, uncalled_without_memor
 use Rattle.depot_session.proofs.exporting.export.Goals as goal
 
 pub returns-in_err-text-clause-keeps : goal.returns-in_err-text-clause-keeps
-returns-in_err-text-clause-keeps g c = keeps_uncalled g.R.NodeState c.args.node.now c.requires.running (g.met.R.Replica.only_now) (g.met.R.Replica.lawful c.args.node.now) _ _ (names_memory _ _ (omega arith) _ c.from_residual.ensures.1 (never_rose _ _))
+returns-in_err-text-clause-keeps g c = keeps_uncalled g.R.NodeState c.args.node.now c.requires.running (g.met.R.Replica.only_now) (g.met.R.Replica.after_none) (g.met.R.Replica.lawful c.args.node.now) _ _ (names_memory _ _ (omega arith) _ c.from_residual.ensures.1 (never_rose _ _))
 
 pub returns-in_err-text-clause-turns : goal.returns-in_err-text-clause-turns
 returns-in_err-text-clause-turns g c = λ s tells at are.
     uncalled_without_memory g.R.NodeState c.args.node.now c.requires.running s c.args.command.now (shelves g.F.Shelf c.args.shelf.now c.args.shelf.now) (sinks g.K.Sink c.args.out.now c.args.out.now) at (λ _. refl) c.from_residual.result c.from_residual.ensures.1 refl
 
 pub returns-in_err-lines-clause-keeps : goal.returns-in_err-lines-clause-keeps
-returns-in_err-lines-clause-keeps g c = keeps_uncalled g.R.NodeState c.args.node.now c.requires.running (g.met.R.Replica.only_now) (g.met.R.Replica.lawful c.args.node.now) _ _ (names_memory _ _ (omega arith) _ c.from_residual-in_err-lines.ensures.1 (never_rose _ _))
+returns-in_err-lines-clause-keeps g c = keeps_uncalled g.R.NodeState c.args.node.now c.requires.running (g.met.R.Replica.only_now) (g.met.R.Replica.after_none) (g.met.R.Replica.lawful c.args.node.now) _ _ (names_memory _ _ (omega arith) _ c.from_residual-in_err-lines.ensures.1 (never_rose _ _))
 
 pub returns-in_err-lines-clause-turns : goal.returns-in_err-lines-clause-turns
 returns-in_err-lines-clause-turns g c = λ s tells at are.
@@ -22,7 +22,7 @@ returns-in_err-lines-clause-turns g c = λ s tells at are.
 
 pub returns-clause-keeps : goal.returns-clause-keeps
 returns-clause-keeps g c =
-    keeps_uncalled g.R.NodeState c.args.node.now c.requires.running (g.met.R.Replica.only_now) (g.met.R.Replica.lawful c.args.node.now) _ _ (names_stored _ _ c.store_and_tell.ensures.later _ _ _ _ c.store_and_tell.result c.store_and_tell.ensures.stores c.store_and_tell.ensures.only)
+    keeps_uncalled g.R.NodeState c.args.node.now c.requires.running (g.met.R.Replica.only_now) (g.met.R.Replica.after_none) (g.met.R.Replica.lawful c.args.node.now) _ _ (names_stored _ _ c.store_and_tell.ensures.later _ _ _ _ c.store_and_tell.result c.store_and_tell.ensures.stores c.store_and_tell.ensures.only)
 
 pub returns-clause-turns : goal.returns-clause-turns
 returns-clause-turns g c = λ s tells at are.

@@ -14,7 +14,7 @@ use Rattle.depot_session.proofs.reader_commands.tgive.Goals as goal
 -- ---- no reader was made
 
 pub returns-in_err-empty_line-clause-keeps : goal.returns-in_err-empty_line-clause-keeps
-returns-in_err-empty_line-clause-keeps g c = keeps_uncalled g.R.NodeState c.args.node.now c.requires.running (g.met.R.Replica.only_now) (g.met.R.Replica.lawful c.args.node.now) _ _ (names_memory _ _ (omega arith) _ c.from_residual.ensures.1 (never_rose _ _))
+returns-in_err-empty_line-clause-keeps g c = keeps_uncalled g.R.NodeState c.args.node.now c.requires.running (g.met.R.Replica.only_now) (g.met.R.Replica.after_none) (g.met.R.Replica.lawful c.args.node.now) _ _ (names_memory _ _ (omega arith) _ c.from_residual.ensures.1 (never_rose _ _))
 
 pub returns-in_err-empty_line-clause-turns : goal.returns-in_err-empty_line-clause-turns
 returns-in_err-empty_line-clause-turns g c = λ s tells at keeps.
@@ -30,7 +30,7 @@ pub returns-in_err-empty_line-clause-loads : goal.returns-in_err-empty_line-clau
 returns-in_err-empty_line-clause-loads g c = rw (c.requires.command, c.in_default.is) (sym (append-nil (g.F.Shelf.loads c.args.shelf.now)))
 
 pub returns-in_default-clause-keeps : goal.returns-in_default-clause-keeps
-returns-in_default-clause-keeps g c = keeps_uncalled g.R.NodeState c.args.node.now c.requires.running (g.met.R.Replica.only_now) (g.met.R.Replica.lawful c.args.node.now) _ _ (names_told _ _ c.tell-in_default.ensures.later _ _ c.tell-in_default.result tt c.tell-in_default.ensures.tells c.tell-in_default.ensures.only)
+returns-in_default-clause-keeps g c = keeps_uncalled g.R.NodeState c.args.node.now c.requires.running (g.met.R.Replica.only_now) (g.met.R.Replica.after_none) (g.met.R.Replica.lawful c.args.node.now) _ _ (names_told _ _ c.tell-in_default.ensures.later _ _ c.tell-in_default.result tt c.tell-in_default.ensures.tells c.tell-in_default.ensures.only)
 
 pub returns-in_default-clause-turns : goal.returns-in_default-clause-turns
 returns-in_default-clause-turns g c = λ s tells at keeps.
@@ -53,7 +53,7 @@ returns-in_default-clause-loads g c = rw (c.requires.command, c.in_default.is) (
 -- ---- no memory was found for the file
 
 pub returns-in_err-stream-clause-keeps : goal.returns-in_err-stream-clause-keeps
-returns-in_err-stream-clause-keeps g c = keeps_uncalled g.R.NodeState c.args.node.now c.requires.running (g.met.R.Replica.only_now) (g.met.R.Replica.lawful c.args.node.now) _ _ (names_memory _ _ (omega arith) _ c.from_residual-in_err-stream.ensures.1 (never_rose _ _))
+returns-in_err-stream-clause-keeps g c = keeps_uncalled g.R.NodeState c.args.node.now c.requires.running (g.met.R.Replica.only_now) (g.met.R.Replica.after_none) (g.met.R.Replica.lawful c.args.node.now) _ _ (names_memory _ _ (omega arith) _ c.from_residual-in_err-stream.ensures.1 (never_rose _ _))
 
 pub returns-in_err-stream-clause-turns : goal.returns-in_err-stream-clause-turns
 returns-in_err-stream-clause-turns g c = λ s tells at keeps.
@@ -73,7 +73,7 @@ returns-in_err-stream-clause-loads g c = rw (c.requires.command, c.in-Some.is) c
 
 pub returns-in_default-2-clause-keeps : goal.returns-in_default-2-clause-keeps
 returns-in_default-2-clause-keeps g c =
-    keeps_uncalled g.R.NodeState c.args.node.now c.requires.running (g.met.R.Replica.only_now) (g.met.R.Replica.lawful c.args.node.now) _ _ (names_fault _ _ c.no_file.ensures.later _ ending.Shelf c.no_file.result tt c.no_file.ensures.told c.no_file.ensures.only)
+    keeps_uncalled g.R.NodeState c.args.node.now c.requires.running (g.met.R.Replica.only_now) (g.met.R.Replica.after_none) (g.met.R.Replica.lawful c.args.node.now) _ _ (names_fault _ _ c.no_file.ensures.later _ ending.Shelf c.no_file.result tt c.no_file.ensures.told c.no_file.ensures.only)
 
 pub returns-in_default-2-clause-turns : goal.returns-in_default-2-clause-turns
 returns-in_default-2-clause-turns g c = λ s tells at keeps.
@@ -93,7 +93,7 @@ pub feed_reader-requires : goal.feed_reader-requires
 feed_reader-requires g c = rw c.in-Some.is at c.requires.reader
 
 pub returns-in_err-told-clause-keeps : goal.returns-in_err-told-clause-keeps
-returns-in_err-told-clause-keeps g c = keeps_uncalled g.R.NodeState c.args.node.now c.requires.running (g.met.R.Replica.only_now) (g.met.R.Replica.lawful c.args.node.now) _ _ (names_memory _ _ (omega arith) _ c.from_residual-in_err-told.ensures.1 (never_rose _ _))
+returns-in_err-told-clause-keeps g c = keeps_uncalled g.R.NodeState c.args.node.now c.requires.running (g.met.R.Replica.only_now) (g.met.R.Replica.after_none) (g.met.R.Replica.lawful c.args.node.now) _ _ (names_memory _ _ (omega arith) _ c.from_residual-in_err-told.ensures.1 (never_rose _ _))
 
 pub returns-in_err-told-clause-turns : goal.returns-in_err-told-clause-turns
 returns-in_err-told-clause-turns g c = λ s tells at keeps.
@@ -112,7 +112,7 @@ returns-in_err-told-clause-loads g c = rw (c.requires.command, c.in-Some.is) c.l
 -- ---- nor for the line
 
 pub returns-in_err-line-clause-keeps : goal.returns-in_err-line-clause-keeps
-returns-in_err-line-clause-keeps g c = keeps_uncalled g.R.NodeState c.args.node.now c.requires.running (g.met.R.Replica.only_now) (g.met.R.Replica.lawful c.args.node.now) _ _ (names_memory _ _ (omega arith) _ c.from_residual-in_err-line.ensures.1 (never_rose _ _))
+returns-in_err-line-clause-keeps g c = keeps_uncalled g.R.NodeState c.args.node.now c.requires.running (g.met.R.Replica.only_now) (g.met.R.Replica.after_none) (g.met.R.Replica.lawful c.args.node.now) _ _ (names_memory _ _ (omega arith) _ c.from_residual-in_err-line.ensures.1 (never_rose _ _))
 
 pub returns-in_err-line-clause-turns : goal.returns-in_err-line-clause-turns
 returns-in_err-line-clause-turns g c = λ s tells at keeps.
@@ -133,7 +133,7 @@ returns-in_err-line-clause-loads g c = rw (c.requires.command, c.in-Some.is) c.l
 pub returns-clause-keeps : goal.returns-clause-keeps
 returns-clause-keeps g c =
     let n = c.args.node.now in
-    keeps_uncalled g.R.NodeState n c.requires.running (g.met.R.Replica.only_now) (g.met.R.Replica.lawful n) _ _
+    keeps_uncalled g.R.NodeState n c.requires.running (g.met.R.Replica.only_now) (g.met.R.Replica.after_none) (g.met.R.Replica.lawful n) _ _
     (names_told _ _ c.tell-2.ensures.later _ c.ending_of_tgive-ends.result c.tell-2.result (subst EndsCalmly (sym c.ending_of_tgive-ends.ensures) (tgive_ends_calmly c.in_ok-told.told.full)) c.tell-2.ensures.tells c.tell-2.ensures.only)
 
 pub returns-clause-turns : goal.returns-clause-turns

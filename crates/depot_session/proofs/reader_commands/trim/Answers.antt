@@ -18,7 +18,7 @@ trim-made-requires-clause-roster g c = c.in_ok-copy.ensures ∙ c.requires.roste
 -- ---- no memory was found for the file
 
 pub returns-in_err-text-clause-keeps : goal.returns-in_err-text-clause-keeps
-returns-in_err-text-clause-keeps g c = keeps_uncalled g.R.NodeState c.args.node.now c.requires.running (g.met.R.Replica.only_now) (g.met.R.Replica.lawful c.args.node.now) _ _ (names_memory _ _ (omega arith) _ c.from_residual.ensures.1 (never_rose _ _))
+returns-in_err-text-clause-keeps g c = keeps_uncalled g.R.NodeState c.args.node.now c.requires.running (g.met.R.Replica.only_now) (g.met.R.Replica.after_none) (g.met.R.Replica.lawful c.args.node.now) _ _ (names_memory _ _ (omega arith) _ c.from_residual.ensures.1 (never_rose _ _))
 
 pub returns-in_err-text-clause-turns : goal.returns-in_err-text-clause-turns
 returns-in_err-text-clause-turns g c = λ s tells at keeps.
@@ -34,7 +34,7 @@ returns-in_err-text-clause-somebodys g c = not_without_memory c.from_residual.re
 
 pub returns-in_default-clause-keeps : goal.returns-in_default-clause-keeps
 returns-in_default-clause-keeps g c =
-    keeps_uncalled g.R.NodeState c.args.node.now c.requires.running (g.met.R.Replica.only_now) (g.met.R.Replica.lawful c.args.node.now) _ _ (names_fault _ _ c.no_file.ensures.later _ ending.Shelf c.no_file.result tt c.no_file.ensures.told c.no_file.ensures.only)
+    keeps_uncalled g.R.NodeState c.args.node.now c.requires.running (g.met.R.Replica.only_now) (g.met.R.Replica.after_none) (g.met.R.Replica.lawful c.args.node.now) _ _ (names_fault _ _ c.no_file.ensures.later _ ending.Shelf c.no_file.result tt c.no_file.ensures.told c.no_file.ensures.only)
 
 pub returns-in_default-clause-turns : goal.returns-in_default-clause-turns
 returns-in_default-clause-turns g c = λ s tells at keeps.
@@ -44,7 +44,7 @@ returns-in_default-clause-turns g c = λ s tells at keeps.
 -- ---- no memory was found for the roster
 
 pub returns-in_err-copy-clause-keeps : goal.returns-in_err-copy-clause-keeps
-returns-in_err-copy-clause-keeps g c = keeps_uncalled g.R.NodeState c.args.node.now c.requires.running (g.met.R.Replica.only_now) (g.met.R.Replica.lawful c.args.node.now) _ _ (names_memory _ _ (omega arith) _ c.from_residual-in_err-copy.ensures.1 (never_rose _ _))
+returns-in_err-copy-clause-keeps g c = keeps_uncalled g.R.NodeState c.args.node.now c.requires.running (g.met.R.Replica.only_now) (g.met.R.Replica.after_none) (g.met.R.Replica.lawful c.args.node.now) _ _ (names_memory _ _ (omega arith) _ c.from_residual-in_err-copy.ensures.1 (never_rose _ _))
 
 pub returns-in_err-copy-clause-turns : goal.returns-in_err-copy-clause-turns
 returns-in_err-copy-clause-turns g c = λ s tells at keeps.
@@ -60,7 +60,7 @@ returns-in_err-copy-clause-somebodys g c = not_without_memory c.from_residual-in
 -- ---- nor for the line
 
 pub returns-in_err-line-clause-keeps : goal.returns-in_err-line-clause-keeps
-returns-in_err-line-clause-keeps g c = keeps_uncalled g.R.NodeState c.args.node.now c.requires.running (g.met.R.Replica.only_now) (g.met.R.Replica.lawful c.args.node.now) _ _ (names_memory _ _ (omega arith) _ c.from_residual-in_err-line.ensures.1 (never_rose _ _))
+returns-in_err-line-clause-keeps g c = keeps_uncalled g.R.NodeState c.args.node.now c.requires.running (g.met.R.Replica.only_now) (g.met.R.Replica.after_none) (g.met.R.Replica.lawful c.args.node.now) _ _ (names_memory _ _ (omega arith) _ c.from_residual-in_err-line.ensures.1 (never_rose _ _))
 
 pub returns-in_err-line-clause-turns : goal.returns-in_err-line-clause-turns
 returns-in_err-line-clause-turns g c = λ s tells at keeps.
@@ -84,7 +84,7 @@ returns-clause-keeps g c =
     let text = c.as_slice.result.now in
     let here = g.R.NodeState.stands n in
     let ends = c.ending_of_trim-ends.ensures ∙ trim_ends _ here (g.R.NodeState.records n) text c.trim-made.result c.in_ok-line.ensures.settled c.trim-made.ensures in
-    keeps_uncalled g.R.NodeState n c.requires.running (g.met.R.Replica.only_now) (g.met.R.Replica.lawful n) _ _
+    keeps_uncalled g.R.NodeState n c.requires.running (g.met.R.Replica.only_now) (g.met.R.Replica.after_none) (g.met.R.Replica.lawful n) _ _
     (names_told _ _ c.tell.ensures.later _ c.ending_of_trim-ends.result c.tell.result (subst EndsCalmly (sym ends) (trim_ends_calmly (trim_of here (g.R.NodeState.records n) text))) c.tell.ensures.tells c.tell.ensures.only)
 
 pub returns-clause-turns : goal.returns-clause-turns

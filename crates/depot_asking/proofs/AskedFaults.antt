@@ -1,0 +1,38 @@
+-- A text by which something is asked goes wrong nowhere.
+use Rattle.std.proofs.Common.{◌≡◌, ℕ, Bool, true, false, List, Option, None, is_some, option_map, sym, ap, ◌∙◌, if◌then◌else◌}
+use Rattle.depot_bounds.proofs.SendTextLaws.{sending_text_lawful}
+use Rattle.depot_bounds.specs.SendTexts.{sending_of_body}
+use Rattle.depot_bounds.specs.declared.send_request.SendRequest.{SendRequest}
+use Rattle.depot_question_texts.proofs.QuestionLaws.{question_text_lawful}
+use Rattle.depot_question_texts.specs.QuestionTexts.{question_of_body}
+use Rattle.depot_questions.specs.declared.question.Question.{Question}
+use Rattle.depot_request_texts.proofs.RequestLaws.{request_text_lawful}
+use Rattle.depot_request_texts.specs.RequestTexts.{request_of_body, value_read}
+use Rattle.depot_requests.specs.declared.request.Request.{Request}
+use Rattle.depot_asking.specs.Bodies.{IsAskedFault, IsFaultBy, begins_question, begins_sending, is_asked}
+use Rattle.depot_asking.specs.declared.asked.Asked.{Asked}
+use Rattle.depot_asking.specs.declared.asked.Asked.TheVariants as asked
+
+-- of a sort
+abbrev asked_by_sort : (is_question is_sending : Bool) → List ℕ → Option Asked
+asked_by_sort is_question is_sending body =
+    if is_question then option_map (λ q. asked.Question q) (question_of_body body)
+    else (if is_sending then option_map (λ s. asked.Sending s) (sending_of_body body)
+    else option_map (λ r. asked.Request r) (request_of_body body))
+
+good_by_sort : (is_question is_sending : Bool) (body : List ℕ) (at : ℕ) → is_some (asked_by_sort is_question is_sending body) ≡ true → IsFaultBy is_question is_sending body at → ⊥
+good_by_sort true s body at asks faulty =
+    let none : question_of_body body ≡ None = ap value_read (question_text_lawful.stops 0 body at faulty) in
+    let wrong : false ≡ true = sym (ap (λ (o : Option Question). is_some (option_map (λ q. asked.Question q) o)) none) ∙ asks in
+    absurd cc
+good_by_sort false true body at asks faulty =
+    let none : sending_of_body body ≡ None = ap value_read (sending_text_lawful.stops 0 body at faulty) in
+    let wrong : false ≡ true = sym (ap (λ (o : Option SendRequest). is_some (option_map (λ s. asked.Sending s) o)) none) ∙ asks in
+    absurd cc
+good_by_sort false false body at asks faulty =
+    let none : request_of_body body ≡ None = ap value_read (request_text_lawful.stops 0 body at faulty) in
+    let wrong : false ≡ true = sym (ap (λ (o : Option Request). is_some (option_map (λ r. asked.Request r) o)) none) ∙ asks in
+    absurd cc
+
+pub no_fault : (body : List ℕ) (at : ℕ) → is_asked body ≡ true → IsAskedFault body at → ⊥
+no_fault body at asks faulty = good_by_sort (begins_question body) (begins_sending body) body at asks faulty

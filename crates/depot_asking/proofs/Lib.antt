@@ -1,0 +1,2 @@
+pub mod AskedCalls
+pub mod AskedFaults

@@ -1,0 +1,58 @@
+-- What may be asked by the body of a message.
+use Rattle.std.specs.Prelude.{◌≡◌, ℕ, List, [], ◌∷◌, Bool, true, false, ◌&&◌, nat_le, is_some, Option, Some, None, option_map, Result, Ok, Err, if◌then◌else◌}
+use Rattle.depot_base.specs.declared.fault.DecodeError.{DecodeError}
+use Rattle.depot_base.specs.declared.fault.DecodeError.TheVariants as errors
+use Rattle.depot_bounds.specs.SendTexts.{sending_of_body, sending_text}
+use Rattle.depot_question_texts.specs.QuestionTexts.{question_of_body, question_text}
+use Rattle.depot_request_texts.specs.RequestTexts.{request_of_body, request_text}
+use Rattle.depot_requests.specs.Requests.{IsRequest}
+use Rattle.depot_asking.specs.declared.asked.Asked.{Asked}
+use Rattle.depot_asking.specs.declared.asked.Asked.TheVariants as asked
+
+-- ---- which sort
+
+-- the first byte is in a range
+abbrev pub begins_within : ℕ → ℕ → List ℕ → Bool
+begins_within least most [] = false
+begins_within least most (kind ∷ fields) = nat_le least kind && nat_le kind most
+
+-- a question's kinds are 16 to 22, and those of what is to be sent 32 and 33; any other body is to be a request's
+abbrev pub begins_question : List ℕ → Bool
+begins_question body = begins_within 16 22 body
+
+abbrev pub begins_sending : List ℕ → Bool
+begins_sending body = begins_within 32 33 body
+
+-- ---- what is asked
+
+-- What is asked by a body, if it is such a text: its first byte says of which sort it is to be.
+abbrev pub asked_of_body : List ℕ → Option Asked
+asked_of_body body =
+    if begins_question body then option_map (λ q. asked.Question q) (question_of_body body)
+    else (if begins_sending body then option_map (λ s. asked.Sending s) (sending_of_body body)
+    else option_map (λ r. asked.Request r) (request_of_body body))
+
+-- something is asked by it
+abbrev pub is_asked : List ℕ → Bool
+is_asked body = is_some (asked_of_body body)
+
+-- as a text of this sort the bytes first go wrong at this offset
+abbrev pub IsFaultBy : (is_question is_sending : Bool) → List ℕ → ℕ → Type 0
+IsFaultBy true is_sending body at = question_text.fault body at
+IsFaultBy false true body at = sending_text.fault body at
+IsFaultBy false false body at = request_text.fault body at
+
+-- as a text of its sort it first goes wrong there
+abbrev pub IsAskedFault : List ℕ → ℕ → Type 0
+IsAskedFault body at = IsFaultBy (begins_question body) (begins_sending body) body at
+
+-- a node may be asked for this
+abbrev pub MayBeAsked : Asked → Type 0
+MayBeAsked (asked.Request r) = IsRequest r
+MayBeAsked other = Unit {0}
+
+-- What a reader answers: what is asked, or where the body goes wrong, unless memory ran out.
+abbrev pub FindsAsked : List ℕ → Result Asked DecodeError → Type 0
+FindsAsked body (Ok a) = asked_of_body body ≡ Some a
+FindsAsked body (Err errors.Memory) = Unit {0}
+FindsAsked body (Err (errors.IllFormed at)) = (asked_of_body body ≡ None) × IsAskedFault body at

@@ -1,0 +1,16 @@
+//! What comes over a node's input.
+
+use depot_bounds::SendRequest;
+use depot_questions::Question;
+use depot_requests::Request;
+
+/// What is asked of a node.
+#[derive(Drop)]
+pub enum Asked {
+    /// To do something.
+    Request(Request),
+    /// To tell what it knows.
+    Question(Question),
+    /// To send within bounds, or to say a hello that goes further back.
+    Sending(SendRequest),
+}

@@ -1,0 +1,2 @@
+pub mod QuestionTexts
+pub mod QuestionAnswers

@@ -1,0 +1,4 @@
+pub mod ToldUpdates
+pub mod ToldLatest
+pub mod LeastLaws
+pub mod ToldConvictions

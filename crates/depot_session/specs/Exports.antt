@@ -1,0 +1,16 @@
+-- What a command exports.
+use Rattle.std.specs.Prelude.{◌≡◌, ℕ, List, Some}
+use Rattle.depot_model.specs.Checks.{Setting}
+use Rattle.depot_model.specs.RecordFaults.{AreTextsOf}
+use Rattle.depot_model.specs.Traces.{AreRightReads, Trace, at_node}
+use Rattle.depot_session.specs.Sessions.{Files, Session}
+use Rattle.depot_traces.specs.ToldTraces.{file_of_trace}
+
+-- Under this name stands a trace of the session's node: its texts are those of the node's journal, which is lawful, and its reads are what that
+-- showed.
+pub record HasExported (here : Setting) (s : Session) (files : Files) (name : List ℕ) : Type 0 where
+  pub trace : Trace
+  pub node : trace.node ≡ s.correct.node
+  pub stored : files name ≡ Some (file_of_trace trace)
+  pub texts : AreTextsOf (at_node here.verifies here.listed trace) s.correct.journal trace.texts
+  pub reads : AreRightReads s.correct.journal 0 trace.reads
