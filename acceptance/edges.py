@@ -11,10 +11,11 @@ import subprocess
 import sys
 import tempfile
 
-from make_cases import HERE
-from make_node_cases import JOURNAL, LISTED, script, words
+sys.path.insert(0, os.path.join(os.path.dirname(os.path.abspath(__file__)), "makers"))
+from make_cases import ROOT  # noqa: E402
+from make_node_cases import JOURNAL, LISTED, script, words  # noqa: E402
 
-DEPOT = os.path.join(HERE, "..", "depot")
+DEPOT = os.path.join(ROOT, "depot")
 PUT, SAYS_PUT, SAYS_AGAIN = "put 6b 61", "put 6b -> 0/1\n", "put 6b -> 1/2\n"
 PATIENCE = 120
 

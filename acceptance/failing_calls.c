@@ -1,11 +1,11 @@
-/* Loaded before the C library. Three kinds of calls are counted, each from 1 on: DISK, those that open and lock the file depot.journal, open and
+/* Loaded before the C library. Four kinds of calls are counted, each from 1 on: DISK, those that open and lock the file depot.journal, open and
    sync the current folder, and ask for the length of the file, read, write or sync it; OUTPUT, the writes to standard output; SHELF, those that
-   open any other file, measure, lock, cut, read or write it, and the one that looks whether it is the journal. (The program holds the root
-   folder, so that no file gets the number of a closed stream: that isn't counted.) The call of a kind that is named
+   open any other file, measure, lock, cut, read or write it, and the one that looks whether it is the journal; INPUT, the reads of standard input.
+   (The program holds the root folder, so that no file gets the number of a closed stream: that isn't counted.) The call of a kind that is named
    by KIND_REFUSED (DISK_REFUSED and so on) fails. At the call DISK_STOPPED the machine stops, with the status 99: of what was written since the
    last sync the journal then has nothing where DISK_IMAGE is 0, all (the write of that call too) where it is 1, and as many bytes FF where it is
    2. Where it is 0 there is no journal either, if it was made in this run and the folder wasn't synced since; and until then the program isn't to
-   write to it. At the end the three numbers of calls are written to the file that CALL_COUNTS names, and in a second line the name of the other
+   write to it. At the end the four numbers of calls are written to the file that CALL_COUNTS names, and in a second line the name of the other
    file that was opened last, up to the call that failed. */
 #define _GNU_SOURCE
 #include <dlfcn.h>
@@ -20,9 +20,9 @@
 #include <unistd.h>
 
 enum { STOPPED = 99, MOST_WRITES = 64 };
-enum { DISK, OUTPUT, SHELF, KINDS };
+enum { DISK, OUTPUT, SHELF, INPUT, KINDS };
 
-static const char *const REFUSED[KINDS] = {"DISK_REFUSED", "OUTPUT_REFUSED", "SHELF_REFUSED"};
+static const char *const REFUSED[KINDS] = {"DISK_REFUSED", "OUTPUT_REFUSED", "SHELF_REFUSED", "INPUT_REFUSED"};
 static const char JOURNAL[] = "depot.journal";
 
 static unsigned long calls[KINDS];
@@ -46,7 +46,7 @@ static void tell(void) {
     REAL(int, "open", const char *, int, ...);
     const char *name = getenv("CALL_COUNTS");
     int file = name ? real(name, O_WRONLY | O_CREAT | O_TRUNC, 0600) : -1;
-    if (file >= 0) dprintf(file, "%lu %lu %lu\n%s\n", calls[DISK], calls[OUTPUT], calls[SHELF], shelf);
+    if (file >= 0) dprintf(file, "%lu %lu %lu %lu\n%s\n", calls[DISK], calls[OUTPUT], calls[SHELF], calls[INPUT], shelf);
 }
 
 __attribute__((destructor)) static void at_end(void) { tell(); }
@@ -138,6 +138,7 @@ ssize_t write(int file, const void *bytes, size_t count) {
 
 ssize_t read(int file, void *into, size_t count) {
     REAL(ssize_t, "read", int, void *, size_t);
+    if (file == STDIN_FILENO) return is_refused(INPUT, EIO) ? -1 : real(file, into, count);
     if (!is_journal(file)) return is_shelf_refused(file, EIO) ? -1 : real(file, into, count);
     if (is_disk_refused(file)) return -1;
     stop(file);

@@ -1,8 +1,8 @@
 #!/usr/bin/env python3
-"""Has each call that the built program makes fail in turn, one a run: those on the journal's file, the writes to its output, and those on
-other files; and stops the machine in each call on the journal's file, with each image of it that a stop may leave. The runs are the cases
-here that end well: those of nodes, and some of the other commands. It says of each case whether every run ended as it must, and takes a C
-compiler.
+"""Has each call that the built program makes fail in turn, one a run: those on the journal's file, the writes to its output, those on other
+files, and the reads of its input; and stops the machine in each call on the journal's file, with each image of it that a stop may leave. The
+runs are the cases here that end well: those of nodes, some of `serve`, and some of the other commands. It says of each case whether every run
+ended as it must, and takes a C compiler.
 
     python3 acceptance/failing_calls.py           # every case
     python3 acceptance/failing_calls.py NAME ..   # these cases
@@ -12,6 +12,7 @@ line where the output fails, with a line `shelf NAME`; but for the output the fr
 after one that failed. What stands on the disk then are records of the whole run from the first one on, all that were there before and all
 that the commands leave whose lines were written among them. The run that is made again over them ends well, or where the leaves of the key
 are used up, and keeps them (one case asks for an absent file then). The same holds of a machine that stops, but for the status and the line.
+Of `serve` it holds with requests for commands and messages for lines; `disk` is told only by a node that wasn't started. Its input alone is read.
 """
 
 import os
@@ -20,10 +21,15 @@ import subprocess
 import sys
 import tempfile
 
+sys.path[:0] = [os.path.join(os.path.dirname(os.path.abspath(__file__)), folder) for folder in ("makers", "models")]
+
+from messages import bodies_in, message, messages, not_started
+
 HERE = os.path.dirname(os.path.abspath(__file__))
+CASES = os.path.join(HERE, "cases")
 DEPOT = os.path.join(os.path.dirname(HERE), "crates/depot_tool/out/depot_tool")
 JOURNAL = "depot.journal"
-SHELF, DISK, OUTPUT, LIMIT, STOPPED = 3, 4, 5, 8, 99
+SHELF, DISK, OUTPUT, LIMIT, INPUT, STOPPED = 3, 4, 5, 8, 13, 99
 IMAGES = 3
 
 # How a run that is made again ends: well, or at a limit. Where the update stands by which this case's node signed, it has its reader from
@@ -37,7 +43,14 @@ def last_line(status, name):
     return {DISK: b"disk\n", SHELF: b"shelf " + name + b"\n", OUTPUT: b"", STOPPED: b""}[status]
 
 
-# The cases of commands other than `node`.
+def last_message(status, name, text):
+    """What `serve` writes in place of it: the line `shelf` as it is, and `disk` in a message that stands alone."""
+    refused = message(not_started("disk"))
+    return {DISK: refused if text == refused else b"", SHELF: b"shelf " + name + b"\n"}.get(status, b"")
+
+
+# The cases of `serve`, and those of commands that have no node.
+SERVED = ["serve_exchanges_with_another", "serve_makes_and_signs_a_checkpoint", "serve_and_node_in_turn"]
 OTHERS = ["judge_same_prev", "replay_a_join_supersedes_both", "scan_concurrent_writes"]
 
 
@@ -55,19 +68,21 @@ class Run:
     """A run of a case of this folder, over what the runs before it left."""
 
     def __init__(self, room, shim, name, number):
-        self.room, self.shim, self.folder, self.number = room, shim, os.path.join(HERE, name), number
+        self.room, self.shim, self.folder, self.number = room, shim, os.path.join(CASES, name), number
 
-    def text(self, name):
-        """What a file of the case has, nothing where there is none."""
-        path = os.path.join(self.folder, name)
+    def content(self, name, number):
+        """What a file of the case has for a run, nothing where there is none."""
+        path = os.path.join(self.folder, name if number == 1 else f"{name}.{number}")
         if not os.path.exists(path):
-            return ""
-        with open(path, encoding="utf-8") as file:
+            return b""
+        with open(path, "rb") as file:
             return file.read()
 
     def words(self, number):
-        end = "" if number == 1 else f".{number}"
-        return self.text("args" + end).split("\n")[:-1], self.text("at" + end).strip()
+        return self.content("args", number).decode().split("\n")[:-1], self.content("at", number).decode().strip()
+
+    def command(self):
+        return self.words(self.number)[0][0]
 
     def place(self):
         """A new folder in which the runs before this one were made."""
@@ -81,12 +96,14 @@ class Run:
             self.run(place, number)
         return place
 
-    def run(self, place, number=None, **failing):
-        """The status and the text of this run or another one there, how many calls of each kind it made, and the file on which one failed."""
+    def run(self, place, number=None, comes=None, **failing):
+        """The status and the text of this run or another one there, how many calls of each kind it made, and the file on which one failed. What
+        comes over its input may be given."""
         words, at = self.words(number or self.number)
+        comes = self.content("stdin", number or self.number) if comes is None else comes
         counts = os.path.join(self.room, "counts")
         env = {"LD_PRELOAD": self.shim, "CALL_COUNTS": counts, **{name: str(value) for name, value in failing.items()}}
-        ran = subprocess.run([DEPOT, *words], cwd=os.path.join(place, at), env=env, capture_output=True, timeout=60)
+        ran = subprocess.run([DEPOT, *words], cwd=os.path.join(place, at), env=env, input=comes, capture_output=True, timeout=60)
         with open(counts, "rb") as file:
             numbers, name = file.read().split(b"\n")[:2]
         return ran.returncode, ran.stdout, [int(word) for word in numbers.split()], name
@@ -95,17 +112,20 @@ class Run:
         """The records of the journal that this run is over, none where it is no node's."""
         words, at = self.words(self.number)
         path = os.path.join(place, at, JOURNAL)
-        if words[0] != "node" or not os.path.exists(path):
+        if words[0] not in ("node", "serve") or not os.path.exists(path):
             return []
         with open(path, "rb") as file:
             return records(file.read())
 
     def told(self, front):
-        """The records that the commands leave whose lines a front has: those of a run that has no others. Where it has none, those from before."""
+        """The records that the commands or requests leave that a front tells: those of a run that has no others. Where it tells none, those from
+        before."""
         words, at = self.words(self.number)
         place = self.place()
         lines = sum(not line.startswith(b" ") for line in front.split(b"\n")[:-1])
-        if words[0] == "node" and lines:
+        if words[0] == "serve" and front:
+            self.run(place, comes=messages(*bodies_in(self.content("stdin", self.number))[0][:len(bodies_in(front)[0]) - 1]))
+        elif words[0] == "node" and lines:
             script = os.path.join(place, at, words[-1])
             with open(script, "rb") as file:
                 commands = file.readlines()[:lines]
@@ -114,13 +134,13 @@ class Run:
             self.run(place)
         return self.journal(place)
 
-
-def front_of(whole, status, name, text):
-    """What a run with this status wrote of the whole text, if it wrote a front of it and then the line of what failed."""
-    line = last_line(status, name)
-    front = text[:len(text) - len(line)]
-    is_cut = front.endswith(b"\n") or not front or status == OUTPUT
-    return front if is_cut and text == front + line and whole.startswith(front) else None
+    def front_of(self, whole, status, name, text):
+        """What a run with this status wrote of the whole text, if it wrote a front of it and then what tells that something failed."""
+        serves = self.command() == "serve"
+        last = last_message(status, name, text) if serves else last_line(status, name)
+        front = text[:len(text) - len(last)]
+        is_whole = not bodies_in(front)[1] if serves else front.endswith(b"\n") or not front
+        return front if (is_whole or status == OUTPUT) and text == front + last and whole.startswith(front) else None
 
 
 def begins(records_, front):
@@ -131,7 +151,7 @@ def ends_well(run, whole, after, status, failing):
     """Whether a run in which a call fails ends with this status, leaves what it must, and goes on."""
     place = run.place()
     ended, text, calls, name = run.run(place, **failing)
-    front = front_of(whole, status, name, text)
+    front = run.front_of(whole, status, name, text)
     if ended != status or front is None or status in (DISK, STOPPED) and calls[0] not in failing.values():
         return False
     left = run.journal(place)
@@ -142,7 +162,7 @@ def ends_well(run, whole, after, status, failing):
 
 def failures(calls):
     """Each call that may fail, and the status then."""
-    disk, output, shelf = calls
+    disk, output, shelf, reads = calls
     for call in range(1, disk + 1):
         yield DISK, {"DISK_REFUSED": call}
         for image in range(IMAGES):
@@ -151,13 +171,16 @@ def failures(calls):
         yield OUTPUT, {"OUTPUT_REFUSED": call}
     for call in range(1, shelf + 1):
         yield SHELF, {"SHELF_REFUSED": call}
+    for call in range(1, reads + 1):
+        yield INPUT, {"INPUT_REFUSED": call}
 
 
 def tried(run):
     """How often a run has a failing call here, and in which of them it ended otherwise than it must."""
     place = run.place()
     status, whole, calls, _ = run.run(place)
-    assert status == 0 and (calls[0] > 0) == (run.words(run.number)[0][0] == "node"), (run.folder, status, calls)
+    assert status == 0 and (calls[0] > 0) == (run.command() in ("node", "serve")), (run.folder, status, calls)
+    assert (calls[3] > 0) == (run.command() == "serve"), (run.folder, calls)
     after, failing = run.journal(place), list(failures(calls))
     return len(failing), [which for status, which in failing if not ends_well(run, whole, after, status, which)]
 
@@ -165,14 +188,14 @@ def tried(run):
 def runs_of(room, shim, name):
     """The runs of a case."""
     number = 1
-    while os.path.exists(os.path.join(HERE, name, "args" if number == 1 else f"args.{number}")):
+    while os.path.exists(os.path.join(CASES, name, "args" if number == 1 else f"args.{number}")):
         yield Run(room, shim, name, number)
         number += 1
 
 
 def is_of_nodes(name):
     """Whether a case's first run is a node's, and all its runs end with status 0."""
-    case = os.path.join(HERE, name)
+    case = os.path.join(CASES, name)
     if not os.path.exists(os.path.join(case, "args")) or os.path.exists(os.path.join(case, "status")):
         return False
     with open(os.path.join(case, "args"), encoding="utf-8") as file:
@@ -180,7 +203,7 @@ def is_of_nodes(name):
 
 
 def main():
-    cases = sys.argv[1:] or sorted(filter(is_of_nodes, os.listdir(HERE))) + OTHERS
+    cases = sys.argv[1:] or sorted(filter(is_of_nodes, os.listdir(CASES))) + SERVED + OTHERS
     good = True
     with tempfile.TemporaryDirectory() as room:
         shim = os.path.join(room, "failing_calls.so")

@@ -13,7 +13,8 @@ import subprocess
 import sys
 import tempfile
 
-from make_cases import Signer, frame, hollow, roster, sha, signed, voucher
+sys.path.insert(0, os.path.join(os.path.dirname(os.path.abspath(__file__)), "makers"))
+from make_cases import Signer, frame, hollow, roster, sha, signed, voucher  # noqa: E402
 
 HERE = os.path.dirname(os.path.abspath(__file__))
 DEPOT = os.path.join(os.path.dirname(HERE), "crates/depot_tool/out/depot_tool")
@@ -98,7 +99,7 @@ def shown_a_hollow_voucher(room):
 
 def main():
     stride = int(sys.argv[1]) if len(sys.argv) > 1 else 1
-    with tempfile.TemporaryDirectory() as room, open(os.path.join(HERE, "replay_a_join_supersedes_both/data/schedule"), "rb") as file:
+    with tempfile.TemporaryDirectory() as room, open(os.path.join(HERE, "cases", "replay_a_join_supersedes_both/data/schedule"), "rb") as file:
         replay = Refusing(room, ["replay", "SCHEDULE"], {"SCHEDULE": file.read()})
         seed = "00" * 32
         root = bytes.fromhex(subprocess.run([DEPOT, "key", seed, "2"], capture_output=True, text=True, check=True).stdout)

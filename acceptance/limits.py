@@ -10,13 +10,14 @@ import subprocess
 import sys
 import tempfile
 
-from make_cases import HERE, ZEROS, checkpoint, checkpoint_key, frame, history_of, roster, sha, update
-from make_node_cases import JOURNAL, LISTED, words
-from make_replays import (
+sys.path.insert(0, os.path.join(os.path.dirname(os.path.abspath(__file__)), "makers"))
+from make_cases import ROOT, ZEROS, checkpoint, checkpoint_key, frame, history_of, roster, sha, update  # noqa: E402
+from make_node_cases import JOURNAL, LISTED, words  # noqa: E402
+from make_replays import (  # noqa: E402
     REFUSED, REFUSED_ONE, TOOK, TOOK_ONE, branches, doubled, hello_of, id_of, members, raw, root_of, schedule, sign, signed_update, signed_voucher, transcript,
 )
 
-DEPOT = os.path.join(HERE, "..", "depot")
+DEPOT = os.path.join(ROOT, "depot")
 # The bytes of a frame of an update without entries, under a key of one byte.
 SHORT = 5 + 4 + 120 + 4 + 32
 WIDE = ["depot schedule 1", "scheme plain 12"]

@@ -1,13 +1,13 @@
 #!/usr/bin/env bash
-# Runs each case of this folder on the built program, and prints 'N passed, N failed'.
+# Runs each case of cases/ on the built program, and prints 'N passed, N failed'.
 #
 # A case is a folder: args (one word a line), stdout (what the program must write), status (its exit status, 0 where there
 # is no such file), data/ (the files that lie where it runs, if it reads any) or folder (the folder of this repository that
-# they are copied from), and out (the file that it writes to in place of the one that is compared, if any). Where it is run
-# more than once, the further words are in args.2, args.3 and so on; status then has a line a run, and stdout is of all of
-# them. Where it runs deeper than where the files lie, at (at.2, at.3) names the folder. Afterwards the files that lie there
-# are those of after/, if there is one, and those of data/ that it doesn't have, and no others. Names of cases may be given
-# as words.
+# they are copied from), stdin (what comes over standard input, if anything), and out (the file that it writes to in place
+# of the one that is compared, if any). Where it is run more than once, the further words are in args.2, args.3 and so on,
+# and what comes in stdin.2 and so on; status then has a line a run, and stdout is of all of them. Where it runs deeper than
+# where the files lie, at (at.2, at.3) names the folder. Afterwards the files that lie there are those of after/, if there is
+# one, and those of data/ that it doesn't have, and no others. Names of cases may be given as words.
 here=$(cd "$(dirname "$0")" && pwd)
 passed=0
 failed=0
@@ -17,15 +17,15 @@ trap 'rm -rf "$room"' EXIT
 # The program is built before the first case, so that no case waits for it.
 "$here/../depot" key "$(printf '0%.0s' {1..64})" 2 >/dev/null
 
-# The words of a run, one a line, its folder and the file that it writes to.
+# The words of a run, one a line, its folder, the file that it writes to and the one that comes in.
 run_once() {
   local words
   mapfile -t words <"$1"
-  (cd "$2" && "$here/../depot" "${words[@]}" >>"$3" </dev/null)
+  (cd "$2" && "$here/../depot" "${words[@]}" >>"$3" <"$4")
 }
 
 run_case() {
-  local case=$1 place="$room/$2" wanted="$room/$2.wanted" written="$room/$2.stdout" status statuses out end="" number=1 deeper
+  local case=$1 place="$room/$2" wanted="$room/$2.wanted" written="$room/$2.stdout" status statuses out input end="" number=1 deeper
   mkdir -p "$place"
   touch "$written"
   [ ! -d "$case/data" ] || cp -r "$case/data/." "$place"
@@ -36,7 +36,9 @@ run_case() {
   out=$(cat "$case/out" 2>/dev/null || echo "$written")
   while [ -f "$case/args$end" ]; do
     deeper=$(cat "$case/at$end" 2>/dev/null)
-    run_once "$case/args$end" "$place/$deeper" "$out"
+    input=$case/stdin$end
+    [ -f "$input" ] || input=/dev/null
+    run_once "$case/args$end" "$place/$deeper" "$out" "$input"
     status=$?
     if [ "$status" -ne "${statuses[number - 1]:-0}" ]; then
       echo "$2: status $status of args$end, wanted ${statuses[number - 1]:-0}"
@@ -56,7 +58,7 @@ run_case() {
   return 1
 }
 
-for args in "$here"/*/args; do
+for args in "$here"/cases/*/args; do
   case=$(dirname "$args")
   name=$(basename "$case")
   [ $# -eq 0 ] || [[ " $* " == *" $name "* ]] || continue

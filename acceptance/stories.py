@@ -13,10 +13,11 @@ import subprocess
 import sys
 import tempfile
 
-from make_cases import HERE, checkpoint_key
-from model import World, transcript_of
+sys.path.insert(0, os.path.join(os.path.dirname(os.path.abspath(__file__)), "makers"))
+from make_cases import ROOT, checkpoint_key  # noqa: E402
+from model import World, transcript_of  # noqa: E402
 
-DEPOT = os.environ.get("DEPOT", os.path.join(HERE, "..", "depot"))
+DEPOT = os.environ.get("DEPOT", os.path.join(ROOT, "depot"))
 KEYS = ["6b", "6b00", "6c", "6d"]
 VALUES = ["-", "61", "62", "6162", "63" * 40]
 CORRECT, FAULTY = (1, 2, 3), (8, 9)

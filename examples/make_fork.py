@@ -4,7 +4,7 @@
     python3 examples/make_fork.py
 
 Node 9 signs two updates of the key `k` (6b in hex) under one prev, `a` for some readers and `b` for others. Node 1 comes to know both
-and writes a third update above them. The bytes are made by the functions of acceptance/make_cases.py, apart from the program.
+and writes a third update above them. The bytes are made by the functions of acceptance/makers/make_cases.py, apart from the program.
 
     branches.log   the two branches
     joined.log     the same, and node 1's update, which names both
@@ -16,8 +16,8 @@ import os
 import sys
 
 HERE = os.path.dirname(os.path.abspath(__file__))
-sys.path.insert(0, os.path.join(HERE, "..", "acceptance"))
-from make_cases import Signer, ZEROS, case, history_of, log, proof, roster, sha, signed, update  # noqa: E402
+sys.path.insert(0, os.path.join(HERE, "..", "acceptance", "makers"))
+from make_cases import CASES, Signer, ZEROS, case, history_of, log, proof, roster, sha, signed, update  # noqa: E402
 
 FOLDER = os.path.join(HERE, "fork")
 
@@ -46,7 +46,7 @@ def main():
 
     def told(name, args, stdout, status=0):
         case(name, args, stdout, status)
-        with open(os.path.join(HERE, "..", "acceptance", name, "folder"), "w") as out:
+        with open(os.path.join(CASES, name, "folder"), "w") as out:
             out.write("examples/fork\n")
 
     told("fork_both_branches_are_read", ["scan", "branches.log", "6b"], "9/0/1=%s\n9/1/2=%s\n" % (sha(b"a").hex(), sha(b"b").hex()))

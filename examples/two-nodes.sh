@@ -60,7 +60,7 @@ node two 2 <<<$'take ../for-two\nget 6b'
 # Node 9 isn't run by depot. It signs two first updates, x and y: one for some readers, the other for others. A frame is a
 # tag, a length and what it holds; 2 is a signed statement, 3 a value. The proof is the two statements, the smaller body
 # first.
-python3 - "$here/../acceptance" <<'END'
+python3 - "$here/../acceptance/makers" <<'END'
 import sys
 sys.dont_write_bytecode = True
 sys.path.insert(0, sys.argv[1])

@@ -1,7 +1,7 @@
 """What is remembered of a node's journal, and whether the journal that lies there may be run.
 
 Who runs a journal that is older than what was signed with it makes the node a liar. So whoever runs one, be it
-`tools/node.py`, a program over `uses/depot.py` or a service, has a guard:
+`tools/node.py`, a program over `bindings/depot.py` or a service, has a guard:
 
     guard = Guard(folder, Owner(1, roster_hash, "roster"), "seed")
     guard.begin()           # locks, and raises Unfit where the journal must not be run
@@ -49,6 +49,18 @@ BESIDE_SEED = (
 
 class Unfit(Exception):
     """A journal that must not be run, or can't be guarded; the text says why."""
+
+
+class Locked(Unfit):
+    """Another run has the folder or the seed: it may be tried again."""
+
+
+class Lost(Unfit):
+    """The journal, or what is remembered of it, is damaged, lost or old: nobody may go on without a look."""
+
+
+class Unkept(Unfit):
+    """Nothing can be remembered: there is no room, or no right to write."""
 
 
 class Owner(NamedTuple):
@@ -178,13 +190,13 @@ class Journal:
         with open(self.path, "rb") as file:
             data = file.read(BIRTH_END)
         if data[:1] != b"\1":
-            raise Unfit("%s doesn't begin with 01: the program would begin a new journal over it %s" % (self.path, LOST))
+            raise Lost("%s doesn't begin with 01: the program would begin a new journal over it %s" % (self.path, LOST))
         try:
             if data.startswith(BIRTH):
                 return f.read_record(data[5:])
         except f.IllFormed:
             pass
-        raise Unfit("%s doesn't begin with the birth of a node: it is no journal, or is damaged %s" % (self.path, LOST))
+        raise Lost("%s doesn't begin with the birth of a node: it is no journal, or is damaged %s" % (self.path, LOST))
 
     def read_on(self) -> None:
         """Reads the records behind those that were read: a record ends where the next gate stands, open or closed."""
@@ -328,7 +340,7 @@ class Guard:
         self.look(False)
         for path, what in self.locks():
             if is_locked(path):
-                raise Unfit("another run works %s: look when it is done" % what)
+                raise Locked("another run works %s: look when it is done" % what)
         self.compare()
         return [self.lack_of(it) for it in self.paths if self.lack_of(it)]
 
@@ -347,11 +359,11 @@ class Guard:
         size = self.journal.size()
         told = "there is no %s" % self.journal.path if size is None else "%s has %d bytes, and no record" % (self.journal.path, size)
         for path in self.damaged:
-            raise Unfit("%s, and %s, which says whether there was one, can't be read %s" % (told, path, LOST))
+            raise Lost("%s, and %s, which says whether there was one, can't be read %s" % (told, path, LOST))
         for path, note in self.notes.items():
             if note.length and note.signed:
                 lost = "%s, and by %s the node had one of %d bytes: another folder, or a lost journal, which can't be begun again %s"
-                raise Unfit(lost % (told, path, note.length, LOST))
+                raise Lost(lost % (told, path, note.length, LOST))
         if not is_first:
             raise Unfit("%s: is this the node's folder? The first run of a node takes --first" % told)
 
@@ -373,7 +385,7 @@ class Guard:
         try:
             self.journal.read_on()
         except f.IllFormed as fault:
-            raise Unfit("%s isn't in its form, %s %s" % (self.journal.path, fault, LOST))
+            raise Lost("%s isn't in its form, %s %s" % (self.journal.path, fault, LOST))
         notes = {path: note for path, note in self.notes.items() if note.length}
         fitting = [it for it in notes if self.fits(notes[it])]
         self.refuse_two(notes, fitting)
@@ -381,7 +393,7 @@ class Guard:
             self.refuse_by(path, notes[path])
         if self.damaged and not fitting:
             told = "%s can't be read, so nothing says whether %s is the newest. Remove it if you know that no other was run"
-            raise Unfit(told % (self.damaged[0], self.journal.path))
+            raise Lost(told % (self.damaged[0], self.journal.path))
         if self.journal.has_lacking:
             self.now.alarm = "-"
 
@@ -395,15 +407,15 @@ class Guard:
             is_same_length = notes[one].length == notes[two].length and notes[one].hash != notes[two].hash
             if is_same_length or (one in fitting and two not in fitting and notes[two].length <= self.journal.gate):
                 told = "two journals were run with this seed: by %s and by %s they differ in the first %d bytes %s"
-                raise Unfit(told % (one, two, notes[two].length, LOST))
+                raise Lost(told % (one, two, notes[two].length, LOST))
 
     def refuse_by(self, path: str, note: Note) -> None:
         """Refuses a journal that isn't the one of a note."""
         if note.length > self.journal.gate:
             told = "%s has %d bytes of records, and by %s it had %d: an old copy, or a damaged gate %s"
-            raise Unfit(told % (self.journal.path, self.journal.gate, path, note.length, LOST))
+            raise Lost(told % (self.journal.path, self.journal.gate, path, note.length, LOST))
         told = "%s isn't the journal that was here: by %s its first %d bytes were others %s"
-        raise Unfit(told % (self.journal.path, path, note.length, LOST))
+        raise Lost(told % (self.journal.path, path, note.length, LOST))
 
     def lack_of(self, path: str) -> str:
         """What a note lacks: it is absent or no note, or older than the journal; no text where it lacks nothing."""
@@ -458,7 +470,7 @@ class Guard:
                 continue
             if held is None:
                 self.close()
-                raise Unfit("another run works %s" % what)
+                raise Locked("another run works %s" % what)
             self.held.append(held)
 
     def close(self) -> None:
@@ -474,7 +486,7 @@ class Guard:
             self.remember()
         self.now.serial += 1
         if not self.each(lambda path: write_beside(path, self.now)):
-            raise Unfit("nothing can remember how long the journal is, so the node isn't run")
+            raise Unkept("nothing can remember how long the journal is, so the node isn't run")
 
     def withdraw(self) -> None:
         """Takes back what was prepared: the run did nothing."""

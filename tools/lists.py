@@ -1,9 +1,9 @@
 #!/usr/bin/env python3
-"""lists.py --write, lists.py --print: what pages have that is made of the tree: the drawing of the crates in docs/ARCHITECTURE.md, and the families
-of proofs in docs/PROOFS.md.
+"""lists.py --write, lists.py --print: what pages have that is made of the tree: the drawing of the crates in docs/ARCHITECTURE.md,
+the families of proofs in docs/PROOFS.md, and the numbers in docs/TESTING.md.
 
 A crate has in its row of the drawing those that it stands on, but for those that others in the row stand on already. A family of
-proofs is a file of proofs/, and is told by the first sentence of its head. With --write both are put into their pages, between
+proofs is a file of proofs/, and is named with the first sentence of its head. With --write all are put into their pages, between
 the lines that begin and end them; with --print they are printed.
 """
 
@@ -78,6 +78,40 @@ def families(uses):
     return "\n".join(parts)
 
 
+def paths(*names):
+    """The files and folders of the tree that a pattern names."""
+    return glob.glob(os.path.join(TOP, *names), recursive=True)
+
+
+def count(pattern, *names):
+    """How often a regular expression is found in the files that a pattern names."""
+    return sum(len(re.findall(pattern, read(it))) for it in paths(*names))
+
+
+def first_word(path):
+    """That of a case: its command."""
+    with open(path, "rb") as file:
+        return file.readline().strip().decode("utf-8", "replace")
+
+
+def numbers():
+    """What there is of a kind, and how much: a row each."""
+    sources = ("crates", "*", "src", "**", "*.rt")
+    words = [first_word(it) for it in paths("acceptance", "cases", "*", "args")]
+    commands = sorted({it for it in words if words.count(it) > 1}, key=lambda it: (-words.count(it), it))
+    tests = count(r"#\[test\]", *sources)
+    rows = [
+        ("functions of the crates, each proved against its contract", count(r"(?m)^ *(?:pub(?:\(\w+\))? )?(?:extern .C. )?fn \w", *sources) - tests),
+        ("of these, public ones", count(r"(?m)^ *pub (?:extern .C. )?fn \w", *sources)),
+        ("wrong bodies that the check has to refuse: in the gate", len(paths("crates", "*", "must-fail", "*.edit"))),
+        ("the same by hand", len(paths("edits", "*", "*.edit"))),
+        ("tests of public calls, each proved too", tests),
+        ("cases of the built program: " + ", ".join("%s %d" % (it, words.count(it)) for it in commands), len(words)),
+        ("tests of the tools", count(r"(?m)^ *def test_", "tools", "tests", "*.py")),
+    ]
+    return "\n".join(["| what | how many |", "|---|---|", *("| %s | %d |" % it for it in rows)]) + "\n"
+
+
 def marks(what):
     """The lines of a page between which stands what is made."""
     return "<!-- %s: made by tools/lists.py -->\n" % what, "<!-- end -->\n"
@@ -93,7 +127,8 @@ def with_list(page, what, text):
 def made():
     """Each page that has something made, and how it is to read."""
     uses = crates(read("crates.txt"))
-    for name, what, text in (("ARCHITECTURE.md", "the drawing", drawing(uses)), ("PROOFS.md", "families", families(uses))):
+    lists = {"ARCHITECTURE.md": ("the drawing", drawing(uses)), "PROOFS.md": ("families", families(uses)), "TESTING.md": ("numbers", numbers())}
+    for name, (what, text) in lists.items():
         yield os.path.join("docs", name), with_list(read("docs", name), what, text)
 
 
@@ -108,7 +143,7 @@ def main(words):
         print(__doc__.strip(), file=sys.stdout if asked else sys.stderr)
         return 0 if asked else 1
     uses = crates(read("crates.txt"))
-    print(drawing(uses) + "\n" + families(uses), end="")
+    print("\n".join((drawing(uses), families(uses), numbers())), end="")
     return 0
 
 

@@ -10,7 +10,7 @@ from runs import SCRIPT, Runs
 import alarms
 import guard as g
 
-sys.path.insert(0, os.path.join(ROOT, "acceptance"))
+sys.path.insert(0, os.path.join(ROOT, "acceptance", "makers"))
 import make_cases  # noqa: E402
 
 PUT = "put 6b 61\n"

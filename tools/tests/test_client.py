@@ -8,7 +8,7 @@ from cases import ROOT, f, frame
 from test_client_page import Client, statement
 from test_program import Nodes
 
-sys.path.insert(0, os.path.join(ROOT, "acceptance"))
+sys.path.insert(0, os.path.join(ROOT, "acceptance", "makers"))
 import make_cases  # noqa: E402
 
 END = frame(f.END, b"\0")

@@ -7,7 +7,7 @@ import unittest
 
 from cases import ROOT, data_of, f, frame
 
-sys.path.insert(0, os.path.join(ROOT, "acceptance"))
+sys.path.insert(0, os.path.join(ROOT, "acceptance", "makers"))
 import make_cases  # noqa: E402
 
 PAGE = data_of("docs", "CLIENT.md").decode()

@@ -1,6 +1,6 @@
 """The blocks of docs/EMBEDDING.md, built and run as they stand there.
 
-DEPOT_C names the static library, as for uses/run.sh, and RATTLE_KIT the kit. Where there is none, or no C compiler, it is said
+DEPOT_C names the static library, as for bindings/run.sh, and RATTLE_KIT the kit. Where there is none, or no C compiler, it is said
 what is left out; that the C of the page is C is tried wherever there is a compiler.
 """
 
@@ -15,7 +15,7 @@ from cases import ROOT, run_tool
 from test_tools import InARoom
 from test_walks import section
 
-sys.path.insert(0, os.path.join(ROOT, "acceptance"))
+sys.path.insert(0, os.path.join(ROOT, "acceptance", "makers"))
 import make_cases  # noqa: E402
 
 LIBRARY, COMPILER = os.environ.get("DEPOT_C"), shutil.which("cc")
@@ -30,7 +30,7 @@ def blocks(title, language=""):
 class Blocks(InARoom):
     def setUp(self):
         super().setUp()
-        for folder in ("include", "uses", "tools"):
+        for folder in ("bindings", "tools"):
             os.symlink(os.path.join(os.path.abspath(ROOT), folder), self.path(folder))
         members = []
         for number in (1, 2):
@@ -46,7 +46,7 @@ class Blocks(InARoom):
         return ran.returncode, ran.stdout.decode().splitlines()
 
     def test_the_program_is_c(self):
-        self.assertEqual(self.typed("cc -Wall -Wextra -Werror -Wno-unused-function -Iinclude -Iuses -c prog.c -o prog.o"), (0, []))
+        self.assertEqual(self.typed("cc -Wall -Wextra -Werror -Wno-unused-function -Ibindings -c prog.c -o prog.o"), (0, []))
 
     @unittest.skipUnless(LIBRARY, "left out: running the blocks of EMBEDDING, for DEPOT_C names no library")
     def test_the_blocks_run(self):
@@ -54,7 +54,7 @@ class Blocks(InARoom):
         os.symlink(os.path.abspath(LIBRARY), self.path(BUILT + "/libdepot_c.a"))
         self.assertEqual(self.typed(blocks("Build")[1]), (0, []))
         self.assertEqual(self.typed("./prog", "./prog"), (0, ["put 0 blue", "put 1 blue"]))
-        line = "PYTHONPATH=uses python3 prog.py"
+        line = "PYTHONPATH=bindings python3 prog.py"
         self.assertIn(line, section("docs/EMBEDDING.md", "A node in Python").splitlines())
         told = "(%d, %d)", "[(2, %d, %d, b'blue')]", "('accepted 0 known 0 refused 0 whole', [], None)"
         for seq in (0, 2):

@@ -181,9 +181,9 @@ class Acceptance(unittest.TestCase):
     """Files that the program accepts are read, and of those that it refuses the same place is told."""
 
     def cases(self, pattern):
-        for path in sorted(filter(os.path.isfile, glob.glob(path_of("acceptance", pattern), recursive=True))):
-            name = os.path.relpath(path, path_of("acceptance")).split(os.sep)[0]
-            with open(path, "rb") as file, open(path_of("acceptance", name, "stdout")) as said:
+        for path in sorted(filter(os.path.isfile, glob.glob(path_of("acceptance", "cases", pattern), recursive=True))):
+            name = os.path.relpath(path, path_of("acceptance", "cases")).split(os.sep)[0]
+            with open(path, "rb") as file, open(path_of("acceptance", "cases", name, "stdout")) as said:
                 yield name, file.read(), said.read()
 
     def test_logs(self):

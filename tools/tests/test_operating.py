@@ -11,11 +11,11 @@ import subprocess
 import sys
 import unittest
 
-from cases import ROOT, data_of, f, frame, update_body, named
+from cases import ROOT, data_of, f, frame, path_of, update_body, named
 from test_program import PROGRAM
 from test_walks import Checkout, blocks_of
 
-sys.path.insert(0, os.path.join(ROOT, "acceptance"))
+sys.path.insert(0, os.path.join(ROOT, "acceptance", "makers"))
 import make_cases  # noqa: E402
 
 SSH = """#!/usr/bin/env python3
@@ -239,7 +239,7 @@ class Procedures(Checkout):
 
     def test_the_plans(self):
         """The table of plans has the leaves and the rounds that a replay shows."""
-        ran = subprocess.run([sys.executable, "examples/make_plans.py", "./depot"], cwd=self.room, stdout=subprocess.PIPE)
+        ran = subprocess.run([sys.executable, path_of("bench", "make_plans.py"), "./depot"], cwd=self.room, stdout=subprocess.PIPE)
         page = data_of("docs", "OPERATING.md").decode()
         found = re.findall(r"^(.*): (\d+) streams, (\d+) rounds, (\d+) leaves of one, (\d+) of all$", ran.stdout.decode(), re.M)
         self.assertEqual(len(found), 5)

@@ -8,9 +8,9 @@ import unittest
 from cases import ROOT, data_of, path_of
 
 USERS = [
-    "README.md", "CHANGELOG.md", "CONTRIBUTING.md", "tools/README.md", "examples/README.md", "acceptance/README.md", "uses/README.md",
+    "README.md", "CHANGELOG.md", "CONTRIBUTING.md", "tools/README.md", "examples/README.md", "acceptance/README.md", "bench/README.md", "bindings/README.md",
     "docs/ARCHITECTURE.md", "docs/BENCHMARKS.md", "docs/CLIENT.md", "docs/COOKBOOK.md", "docs/EMBEDDING.md", "docs/FORMATS.md",
-    "docs/GLOSSARY.md", "docs/OPERATING.md", "docs/PROMISED.md", "docs/SIZING.md", "docs/STYLE.md", "docs/THREATS.md",
+    "docs/GLOSSARY.md", "docs/OPERATING.md",  "docs/PROMISES.md", "docs/SIZING.md", "docs/STYLE.md", "docs/THREATS.md",
     "docs/TROUBLESHOOTING.md", "docs/TUTORIAL.md",
 ]
 LONGEST = 120

@@ -14,7 +14,7 @@ from cases import ROOT, f, frame, run_tool
 from test_client_page import texts
 from test_tools import InARoom
 
-sys.path.insert(0, os.path.join(ROOT, "acceptance"))
+sys.path.insert(0, os.path.join(ROOT, "acceptance", "makers"))
 import make_cases  # noqa: E402
 
 PROGRAM = os.environ.get("DEPOT_PROGRAM")

@@ -1,4 +1,4 @@
-"""The check of signatures, beside those that acceptance/make_cases.py makes: keys of one layer and of two, and each part spoilt."""
+"""The check of signatures, beside those that acceptance/makers/make_cases.py makes: keys of one layer and of two, and each part spoilt."""
 
 import os
 import sys
@@ -8,7 +8,7 @@ from cases import ROOT, f, named, update_body, voucher_body
 
 import signatures as s
 
-sys.path.insert(0, os.path.join(ROOT, "acceptance"))
+sys.path.insert(0, os.path.join(ROOT, "acceptance", "makers"))
 import make_cases  # noqa: E402
 
 SEED = bytes(range(32))

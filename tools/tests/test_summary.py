@@ -9,7 +9,7 @@ from test_tools import BRANCHED, InARoom
 
 import summary
 
-ROSTER = path_of("acceptance", "node_convicts_a_fork", "data", "ROSTER")
+ROSTER = path_of("acceptance", "cases", "node_convicts_a_fork", "data", "ROSTER")
 PROOF = path_of("examples", "fork", "proof")
 
 

@@ -10,8 +10,8 @@ import xml.dom.minidom
 from cases import birth, data_of, f, frame, journal, marked, named, own_put, path_of, run_tool, signed, update_body, voucher_body, world
 import story  # noqa: E402
 
-BRANCHED = path_of("acceptance", "node_convicts_a_fork", "after", "two", "depot.journal")
-STREAM = path_of("acceptance", "node_convicts_a_fork", "after", "B")
+BRANCHED = path_of("acceptance", "cases", "node_convicts_a_fork", "after", "two", "depot.journal")
+STREAM = path_of("acceptance", "cases", "node_convicts_a_fork", "after", "B")
 PROOF = path_of("examples", "fork", "proof")
 SCHEDULE = path_of("examples", "fork.schedule")
 TRANSCRIPT = b"""update x -> 9/0/1
@@ -106,19 +106,19 @@ class Look(InARoom):
             self.assertIn(line, lines)
 
     def test_what_is_left(self):
-        roster = path_of("acceptance", "node_convicts_a_fork", "data", "ROSTER")
+        roster = path_of("acceptance", "cases", "node_convicts_a_fork", "data", "ROSTER")
         self.assertIn("own statements: 0, 4 of 4 left", self.lines(BRANCHED, "--roster", roster)[1])
         other = self.lines(BRANCHED, "--roster", path_of("examples", "fork", "roster"))[1]
         self.assertIn("own statements: 0, and the roster is another than the journal's", other)
 
     def test_a_damaged_journal(self):
-        damaged = self.put("J", data_of("acceptance", "node_over_a_long_last_record", "data", "depot.journal"))
+        damaged = self.put("J", data_of("acceptance", "cases", "node_over_a_long_last_record", "data", "depot.journal"))
         status, lines = self.lines(damaged)
         self.assertEqual((status, lines[0]), (2, "journal: 1 whole records in 40 bytes, and then damage"))
         self.assertEqual(lines[-1], "not in its form: at 40: an open gate stands here, and no whole record follows")
 
     def test_a_hello_beside_a_journal(self):
-        hello = path_of("acceptance", "node_convicts_a_fork", "after", "H")
+        hello = path_of("acceptance", "cases", "node_convicts_a_fork", "after", "H")
         roster = f.read_hello(data_of(hello)).roster
         leaf = "leaf of writer 9: 3b01cac0be5ba620"
         told = self.lines(hello, "--journal", BRANCHED)[1]
@@ -150,10 +150,10 @@ class Look(InARoom):
     def test_the_other_kinds(self):
         self.assertEqual(self.lines(PROOF)[1][0], "proof against node 9, SamePrev: 9/0/1 and 9/1/2")
         self.assertEqual(self.lines(path_of("examples", "fork", "joined.log"))[1][0], "log: 3 updates")
-        traced = self.lines(path_of("acceptance", "node_exports_its_trace", "after", "F"))[1]
+        traced = self.lines(path_of("acceptance", "cases", "node_exports_its_trace", "after", "F"))[1]
         self.assertEqual((traced[0], traced[-2]), ("trace of node 1: 3 records, 4 reads", 'read 3 at 3 records of "l": 1 writes'))
-        made = path_of("acceptance", "node_makes_a_reader", "after", "CHECKPOINT")
-        had = path_of("acceptance", "node_makes_a_reader", "after", "two", "depot.journal")
+        made = path_of("acceptance", "cases", "node_makes_a_reader", "after", "CHECKPOINT")
+        had = path_of("acceptance", "cases", "node_makes_a_reader", "after", "two", "depot.journal")
         shown = self.lines(made, "--journal", had)[1]
         self.assertTrue(shown[0].startswith("checkpoint for the roster "))
         self.assertTrue(len(shown) == 3 and shown[1].startswith("leaf of writer 1: ") and shown[1].endswith(", which the journal has"))
@@ -170,7 +170,7 @@ class Look(InARoom):
 
     def test_a_file_that_cannot_be_read(self):
         for words in ([self.path("absent")], [self.room], [BRANCHED, "--roster", self.path("absent")],
-                      [path_of("acceptance", "node_convicts_a_fork", "after", "H"), "--journal", self.path("absent")]):
+                      [path_of("acceptance", "cases", "node_convicts_a_fork", "after", "H"), "--journal", self.path("absent")]):
             status, _, why = run_tool("look.py", *words)
             self.assertEqual((status, why.count("\n")), (3, 1), why)
 
@@ -179,12 +179,12 @@ class Look(InARoom):
         self.assertEqual(self.lines(self.put("E", b""))[1][0], told)
 
     def test_what_is_nearly_of_a_kind(self):
-        roster, hello = data_of("examples", "fork", "roster"), data_of("acceptance", "node_convicts_a_fork", "after", "H")
+        roster, hello = data_of("examples", "fork", "roster"), data_of("acceptance", "cases", "node_convicts_a_fork", "after", "H")
         two = data_of(BRANCHED)
         cases = [
             (roster[:6] + b"\1" + roster[7:], "read as a roster, at 6: the height is 1"), (hello[:-1], "read as a hello, at "),
             (hello[:20], "read as a hello, at 4: the roster's hash is cut short"), (data_of(STREAM)[:99], "read as a stream, at 0"),
-            (data_of("acceptance", "node_exports_its_trace", "after", "F")[:-1], "read as a trace, at "),
+            (data_of("acceptance", "cases", "node_exports_its_trace", "after", "F")[:-1], "read as a trace, at "),
             (b"\0" + two[1:], "at 0: the first gate is 00, not 01"), (b"\7" + two[1:], "at 0: the first gate is 07, not 01"),
         ]
         for data, said in cases:
@@ -309,8 +309,8 @@ class Picture(InARoom):
 
     def schedules(self):
         """The schedules of acceptance/ that are played to their end, and their transcripts."""
-        for name in sorted(os.listdir(path_of("acceptance"))):
-            schedule, told, status = (path_of("acceptance", name, it) for it in ("data/schedule", "stdout", "status"))
+        for name in sorted(os.listdir(path_of("acceptance", "cases"))):
+            schedule, told, status = (path_of("acceptance", "cases", name, it) for it in ("data/schedule", "stdout", "status"))
             if os.path.exists(schedule) and os.path.getsize(schedule) < 20000 and not os.path.exists(status):
                 with self.subTest(name=name):
                     yield schedule, told
@@ -391,7 +391,7 @@ class Picture(InARoom):
             self.assertEqual(len(met), 2, "a line from one box to another one, which meets no third")
 
     def test_a_damaged_journal(self):
-        damaged = path_of("acceptance", "node_over_a_cut_record", "data", "depot.journal")
+        damaged = path_of("acceptance", "cases", "node_over_a_cut_record", "data", "depot.journal")
         self.assertEqual(run_tool("picture.py", damaged)[0], 2)
 
     def test_files_without_a_story(self):

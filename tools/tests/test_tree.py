@@ -10,10 +10,11 @@ from test_pages import pages
 import lists  # noqa: E402
 
 TOP = os.path.normpath(ROOT)
-FOLDERS = ["crates", "examples", "tools", "uses", "include", "acceptance", "docs"]
+FOLDERS = ["crates", "bench", "examples", "tools", "bindings", "acceptance", "docs", "service"]
 KINDS = (".py", ".sh", ".c", ".h", ".rs", ".rt", ".antt", ".md", ".edit", ".log", ".schedule")
 # Words of pages that stand for others, or that name what isn't here.
 ELSEWHERE = {"depot_x", "WHAT_IT_DOES", "valgrind", "callgrind", "lemma"}
+ELSEWHERE |= {"depot_peer_%s" % it for it in ("in_step_seconds", "rounds_total", "fails_total")}
 NUMBERS = dict(enumerate("zero one two three four five six seven eight nine ten eleven twelve thirteen".split()))
 
 
@@ -26,14 +27,14 @@ def files():
     """The files of the tree, seen from its top, but for what is built and for the files of cases."""
     for folder in FOLDERS:
         for place, folders, names in os.walk(os.path.join(TOP, folder)):
-            folders[:] = [it for it in folders if it not in ("out", "__pycache__") and folder != "acceptance"]
+            folders[:] = [it for it in folders if it not in ("out", "__pycache__") and (folder, it) != ("acceptance", "cases")]
             yield from (os.path.relpath(os.path.join(place, name), TOP) for name in names)
     yield from ("depot", "crates.txt", "HANDLES", ".ci/run")
 
 
 def words_of_tree(paths):
     """The words of all sources, and the names of all files and folders."""
-    words = set(os.listdir(os.path.join(TOP, "acceptance")))
+    words = set(os.listdir(os.path.join(TOP, "acceptance", "cases")))
     for path in paths:
         words.update(part for it in path.split("/") for part in (it, it.rsplit(".", 1)[0]))
         if not path.endswith((".md", ".log", ".svg", "test_tree.py")) and "/fork/" not in path:
@@ -49,7 +50,7 @@ def quoted(page):
 def is_known(word, words):
     """Short words, hex, and words in capitals, which stand for others, aren't looked for. One that ends or begins with a line
     below is the front or the end of one."""
-    if (len(word) < 5 and "_" not in word) or re.fullmatch("[0-9a-f]{8,}|[A-Z]+", word):
+    if (len(word) < 5 and "_" not in word) or re.fullmatch("[0-9a-f]{8,}|[A-Z]+[0-9]*", word):
         return True
     if word.startswith("_") or word.endswith("_"):
         return any(it.startswith(word) or it.endswith(word) for it in words)
@@ -104,8 +105,9 @@ class Words(unittest.TestCase):
 
     def test_each_script_is_on_a_page(self):
         text = "".join(text_of(page) for page in pages())
-        scripts = [it for it in files() if it.endswith(KINDS) and not it.startswith(("crates/", "docs/", "tools/tests/"))]
-        self.assertEqual([it for it in scripts if os.path.basename(it) not in text and it.split("/")[1] != "fork"], [])
+        scripts = [it for it in files() if it.endswith(KINDS) and not it.startswith(("crates/", "docs/", "tools/tests/", "service/tests/"))]
+        told = [it for it in scripts if os.path.basename(it) in text or it.split("/")[1] == "fork" or it.endswith("__init__.py")]
+        self.assertEqual(sorted(set(scripts) - set(told)), [])
 
 
 class Sections(unittest.TestCase):
@@ -115,7 +117,8 @@ class Sections(unittest.TestCase):
         return re.findall(r"^#+ (.+)$", text_of(page), re.M) + re.findall(r"\*\*(.+?)\.\*\*", text_of(page))
 
     def test_each_is_there(self):
-        by_name = {os.path.basename(it)[:-3]: it for it in pages() if it.startswith("docs/") or it == "README.md"}
+        by_name = {os.path.basename(it)[:-3]: it for it in pages() if it.startswith(("docs/", "service/")) and not it.endswith("README.md")}
+        by_name["README"] = "README.md"
         for page in pages():
             text = re.sub(r"\s+", " ", re.sub(r"```.*?```", "", text_of(page), flags=re.S))
             told = [(page, it) for it in re.findall(r'\("([^":]+)"(?:, (?:above|below))?\)', text)]
@@ -178,7 +181,7 @@ class Crates(unittest.TestCase):
 
     def test_each_edit_can_be_made(self):
         """Each old line stands once in its file, and another takes its place."""
-        for edit in glob.glob(path_of("crates", "*", "must-fail", "*.edit")) + glob.glob(path_of("plants", "*", "*.edit")):
+        for edit in glob.glob(path_of("crates", "*", "must-fail", "*.edit")) + glob.glob(path_of("edits", "*", "*.edit")):
             crate = next(it for it in edit.split(os.sep) if it.startswith("depot_"))
             with self.subTest(edit=os.path.basename(edit)), open(edit, encoding="utf-8") as file:
                 parts = re.split(r"(?m)^(file|old|new): ?", file.read())
@@ -228,15 +231,15 @@ class Library(unittest.TestCase):
         return {self.snake(name): number for number, name in enumerate(re.findall(r"(\w+)\)+,", rows))}
 
     def enum(self, name):
-        body = re.search(r"enum %s \{(.*?)\n\};" % name, text_of("include/depot.h"), re.S).group(1)
+        body = re.search(r"enum %s \{(.*?)\n\};" % name, text_of("bindings/depot.h"), re.S).group(1)
         return {it: int(number) for it, number in re.findall(r"DEPOT_(\w+) = (\d+)", body)}
 
     def test_operations(self):
         asked = self.asked()
         self.assertEqual(self.enum("depot_operation"), asked)
-        named = re.findall(r"^([A-Z_]+(?:, [A-Z_]+)+) = ([\d, ]+)$", text_of("uses/depot.py"), re.M)
+        named = re.findall(r"^([A-Z_]+(?:, [A-Z_]+)+) = ([\d, ]+)$", text_of("bindings/depot.py"), re.M)
         self.assertEqual({it: int(number) for a, b in named for it, number in zip(a.split(", "), b.split(", "))}, asked)
-        body = re.search(r"enum Op \{(.*?)\n\}", text_of("uses/depot.rs"), re.S).group(1)
+        body = re.search(r"enum Op \{(.*?)\n\}", text_of("bindings/depot.rs"), re.S).group(1)
         rust = {self.snake(name): int(number) for name, number in re.findall(r"(\w+) = (\d+)", body)}
         self.assertEqual({it: number for it, number in rust.items() if asked.get(it) != number}, {})
 

@@ -1,6 +1,6 @@
-"""`uses/depot.py` over a stand-in for the library: how a journal's file is kept and guarded, and what is said of what is refused.
+"""`bindings/depot.py` over a stand-in for the library: how a journal's file is kept and guarded, and what is said of what is refused.
 
-`uses/run.sh` tries it over the library itself.
+`bindings/run.sh` tries it over the library itself.
 """
 
 import ctypes
@@ -15,8 +15,8 @@ from runs import Runs
 
 import guard as g
 
-sys.path.insert(0, os.path.join(ROOT, "uses"))
-sys.path.insert(0, os.path.join(ROOT, "acceptance"))
+sys.path.insert(0, os.path.join(ROOT, "bindings"))
+sys.path.insert(0, os.path.join(ROOT, "acceptance", "makers"))
 import depot  # noqa: E402
 import make_cases  # noqa: E402
 
@@ -270,11 +270,11 @@ class Refusals(Nodes):
 
 @unittest.skipUnless(shutil.which("cc"), "there is no compiler of C")
 class Unread(Runs):
-    """`uses/journal_file.h`: a file whose records nobody read isn't written."""
+    """`bindings/journal_file.h`: a file whose records nobody read isn't written."""
 
     def test_each_file(self):
-        words = ["cc", "-std=c11", "-Wall", "-Wextra", "-Werror", "-fsanitize=address,undefined", "-I", path_of("include")]
-        subprocess.run([*words, path_of("uses", "tests", "unread.c"), "-o", self.path("unread")], check=True)
+        words = ["cc", "-std=c11", "-Wall", "-Wextra", "-Werror", "-fsanitize=address,undefined", "-I", path_of("bindings")]
+        subprocess.run([*words, path_of("bindings", "tests", "unread.c"), "-o", self.path("unread")], check=True)
         full, long = journal(b"aa", b"bb"), b"\1\xff\xff\xff\xff\0"
         for file, told, left in [
             (b"", "-1 1, 0 0, 0, 0", full), (b"\1", "-1 1, 0 0, 0, 0", full), (journal(b"aa"), "-1 1, 0 8, 1, 0", full),

@@ -59,6 +59,14 @@ class Walks(Checkout):
         self.typed(blocks_of("README.md", "A first node")[0])
         self.assertEqual(self.made(), made)
 
+    def test_the_service_of_the_readme(self):
+        node, service = blocks_of("README.md", "A first node")
+        self.typed(node)
+        self.assertEqual(self.typed(service), (["kept", "blue"], ""))
+        asked = "(cd mine/one && printf 'color\\nshape\\n' | python3 ../../examples/kept.py ../roster \"$(cat ../seed)\" 8 %s; echo $?)"
+        self.assertEqual(self.typed(asked % 1), (["blue", "-", "0"], ""))
+        self.assertEqual(self.typed(asked % 2), (["10"], ""))
+
     def made(self):
         """What a second walk must not write over."""
         found = []

@@ -35,30 +35,30 @@ class Help(InARoom):
 
     def test_wrong_words(self):
         for words in (["look.py"], ["look.py", "--nonsense"], ["picture.py", "--last", "0", "J"], ["picture.py", "J", "--last", "x"],
-                      ["library.py", "--nonsense"], ["plant.py", "no_crate"], ["plant.py", "--nonsense"], ["roster.py", "--nonsense"]):
+                      ["library.py", "--nonsense"], ["try_edit.py", "no_crate"], ["try_edit.py", "--nonsense"], ["roster.py", "--nonsense"]):
             status, out, why = run_tool(*words)
             self.assertEqual((status, out, bool(why)), (1, "", True), words)
 
 
-class Plant(InARoom):
-    """`plant.py` with a stand-in for rt."""
+class TryEdit(InARoom):
+    """`try_edit.py` with a stand-in for rt."""
 
     def begin(self, *words):
         self.put("rt", b"#!/bin/sh\necho $$ >'%s/pid'\npwd >'%s/place'\nls crates/depot_base/must-fail\nsleep 30\n" % ((self.room.encode(),) * 2))
         os.chmod(self.path("rt"), stat.S_IRWXU)
         os.mkdir(self.path("tmp"))
         env = dict(os.environ, PATH=self.room + os.pathsep + os.environ["PATH"], TMPDIR=self.path("tmp"))
-        return subprocess.Popen([sys.executable, "-B", os.path.join(TOOLS, "plant.py"), *words], env=env, stdout=subprocess.PIPE, stderr=subprocess.DEVNULL)
+        return subprocess.Popen([sys.executable, "-B", os.path.join(TOOLS, "try_edit.py"), *words], env=env, stdout=subprocess.PIPE, stderr=subprocess.DEVNULL)
 
     def test_an_end(self):
         """It copies the tree, with the wrong bodies in place, and where it is ended rt ends and the copy is gone."""
         with self.begin("depot_base") as run:
-            planted = run.stdout.readline()
+            listed = run.stdout.readline()
             run.send_signal(signal.SIGTERM)
             self.assertEqual(run.wait(), 128 + signal.SIGTERM)
         with open(self.path("pid")) as file:
             pid = int(file.read())
-        self.assertTrue(planted.endswith(b".edit\n"))
+        self.assertTrue(listed.endswith(b".edit\n"))
         self.assertEqual(os.listdir(self.path("tmp")), [])
         with self.assertRaises(ProcessLookupError):
             for _ in range(50):
