@@ -74,7 +74,7 @@ by_later_checks here J s (Err (failed.Refused c found)) answer is =
     let told = answer ∙ ap (answer_by false) is.0 in
     (told, subst (λ (ds : List Record). AreDue J s found ds) (sym (ap (growth_by J (given_statement s)) told)) is.1)
 
--- the key at hand is the one that the roster has for the writer
+-- the given key is the one that the roster has for the writer
 pub signed_by : (verifies : Verifies) (w : List RosterEntry) (s : Signed) (key : PublicKey) (seq : ℕ) (body signature : List ℕ) (b : Bool) → key_of w (writer_of s.statement) ≡ Some key → seq ≡ seq_of s.statement → body ≡ s.body → signature ≡ s.signature → b ≡ verifies key seq body signature → b ≡ is_signed verifies w s
 unfolding is_signed
 signed_by verifies w s key seq body signature b known number text by e =
@@ -140,7 +140,7 @@ early_passed {S = S} verifies J v w s n seen is known new other verified =
 
 -- ---- both halves
 
--- what is told up to the signature is the answer, or the checks after it tell it
+-- what is reported up to the signature is the answer, or the checks after it give it
 pub checked_known : (here : Setting) (J : List Record) (s : Signed) → IsHere here J s → IsChecked here J s (Ok pass.Known)
 checked_known here J s is = is.answer
 

@@ -1,4 +1,4 @@
--- The checks of an update's content, one behind another.
+-- The checks of an update's content, one after another.
 use Rattle.std.proofs.Common.{◌≡◌, List, [], ◌∷◌, ◌++◌, map, Some, None, refl, sym, ◌∙◌}
 use Rattle.std.specs.Prelude.{Option}
 use Rattle.depot_base.specs.declared.check.Check.{Check}

@@ -34,7 +34,7 @@ use Rattle.depot_graph.specs.UpdateRows.{IsJoinedRow}
 use Rattle.depot_accept.specs.declared.answer.CheckError.TheVariants as failed
 use Rattle.depot_accept.proofs.LaterChecks.{no_fork_convicted, fork_is_told, not_refused, not_refused_vouched, refused_update, refused_voucher, fails_as_fork, fails_as_convicted, fails_nowhere}
 
--- ---- what the state tells of the journal
+-- ---- what the state says of the journal
 
 -- whether the writer is convicted
 pub writer_convicted : {S : Type 0} (J : List Record) (v w : View S) (s : Statement) (n : ℕ) (b : Bool) → v ≡ w → IsStateOf J w → writer_of s ≡ n → b ≡ is_one_of n v.convicted → is_convicted J (writer_of s) ≡ b
@@ -44,7 +44,7 @@ writer_convicted {S = S} J v w s n b seen st is e =
     ∙ ap (λ (x : View S). is_one_of n x.convicted) (sym seen)
     ∙ sym e
 
--- where the parents of an update stand
+-- where the parents of an update are
 pub behind_parents : {S : Type 0} (J : List Record) (w : View S) (s : Signed) (u : Update) (found : Parents) → s.statement ≡ statements.Update u → IsStateOf J w → AreItemsOf w.accepted (parents u) found.items.items → IsJoinedRow w.accepted found.items.items found.row.items → IsUpdateBehind J s found
 behind_parents J w s u found is st are joined = record {
   update = u;
@@ -102,7 +102,7 @@ pub opponent_found : {S : Type 0} (J : List Record) (v w : View S) (s : Statemen
 opponent_found {S = S} J v w s found seen st is =
     subst (λ (fs : List Signed). IsOpponent fs (opponent fs s) found) (same_foreign v w seen ∙ sym st.foreign) (as_opponent v.foreign s found is)
 
--- and it stands at a place
+-- and it is at a place
 pub found_within : (fs gs : List Signed) (s : Statement) (found : Found) → fs ≡ gs → IsContradiction fs s (Some found) → found.index < length gs
 found_within fs gs s found seen is = subst (λ (l : List Signed). found.index < length l) seen (read_within fs found.index is.signed is.at) where
   read_within : (xs : List Signed) (n : ℕ) (x : Signed) → slice_get xs n ≡ Some x → n < length xs

@@ -1,9 +1,9 @@
--- The first that there is, of some lists behind one another.
+-- The first element of several lists in turn, if there is one.
 use Rattle.std.proofs.Common.{◌≡◌, List, [], ◌∷◌, ◌++◌, Some, None, refl}
 use Rattle.std.specs.Prelude.{Option}
 use Rattle.depot_model.specs.Lists.{first}
 
--- ---- one list behind another
+-- ---- one list after another
 
 -- that of the first list, where it has one
 pub first_front : {X : Type 0} (os ps : List (Option X)) (x : X) → first os ≡ Some x → first (os ++ ps) ≡ Some x
@@ -27,7 +27,7 @@ pub first_now : {X : Type 0} (o : Option X) (os : List (Option X)) (x : X) → S
 first_now None os x e = absurd cc
 first_now (Some y) os x e = e
 
--- else one of those behind it
+-- else one of those after it
 pub first_later : {X : Type 0} (o : Option X) (os : List (Option X)) (r : Option X) → None ≡ o → r ≡ first os → r ≡ first (o ∷ os)
 first_later None os r e later = later
 first_later (Some y) os r e later = absurd cc
@@ -37,7 +37,7 @@ pub none_front : {X : Type 0} (o : Option X) (os : List (Option X)) → first (o
 none_front None os e = refl
 none_front (Some x) os e = absurd cc
 
--- and so is that of those behind it
+-- and so is that of those after it
 pub none_behind : {X : Type 0} (o : Option X) (os : List (Option X)) → first (o ∷ os) ≡ None → first os ≡ None
 none_behind None os e = e
 none_behind (Some x) os e = absurd cc

@@ -19,7 +19,7 @@ use Rattle.depot_accept.proofs.FirstFound.{first_front, first_behind, first_one,
 
 -- ---- forks
 
--- none is told where the writer is convicted
+-- none is reported where the writer is convicted
 pub no_fork_convicted : (J : List Record) (s : Statement) → is_convicted J (writer_of s) ≡ true → forked J s ≡ None
 unfolding forked
 no_fork_convicted J s e = rw e refl

@@ -23,7 +23,7 @@ use Rattle.depot_accept.proofs.FirstFound.{first_one}
 
 -- ---- the update of an id
 
--- it stands at the first place whose update has the id
+-- it is at the first place whose update has the id
 named_at : (us : List Update) (h : List ℕ) → named us h ≡ slice_get us (position_or_len (λ u. bytes_eq (id_of_update u) h) us)
 unfolding named
 named_at [] h = refl
@@ -38,7 +38,7 @@ some_of : (b : Bool) (p n : ℕ) → cond b (Some p) None ≡ Some n → p ≡ n
 some_of true p n e = cc
 some_of false p n e = absurd cc
 
--- what stands at the place of an id is the update that it names
+-- what is at the place of an id is the update that it names
 pub named_found : (us : List Update) (h : List ℕ) (n : ℕ) (t : Update) → place_of_id h us ≡ Some n → slice_get us n ≡ Some t → named us h ≡ Some t
 named_found us h n t e at =
     named_at us h ∙ ap (λ (k : ℕ). slice_get us k) (some_of _ (position_or_len (λ u. bytes_eq (id_of_update u) h) us) n e) ∙ at

@@ -177,7 +177,7 @@ greatest_at_items us u ns e =
     ap (λ (os : List (Option Update)). greatest_of os)
     (sym (at_places (λ h o. o) us (parents u) ns e) ∙ sym (each_parent (λ h o. o) us u) ∙ ap (λ (os : List (Option Update)). os ++ map (λ x. x.1) (sight us u).entries) (each_itself (sight us u).before))
 
--- the clock is held against it
+-- the clock is compared with it
 pub far_above : (us : List Update) (u : Update) (ns : List ℕ) (g : ℕ) (b : Bool) → AreItemsOf us (parents u) ns → g ≡ greatest_of (map (λ t. Some t) (updates_at us ns)) → b ≡ nat_lt (g + 65536) u.clock → when b (check.ClockFar g) ≡ clock_far u (sight us u)
 far_above us u ns g b e is far =
     ap (λ (x : Bool). when x (check.ClockFar g)) far

@@ -1,4 +1,4 @@
--- What the checks of an update's content tell.
+-- What the checks of an update's content report.
 use Rattle.std.proofs.Common.{◌≡◌, ◌≤◌, length, Some, subst}
 use Rattle.std.specs.Int.{w16}
 use Rattle.depot_base.proofs.Numbers.{number_within}
@@ -23,11 +23,11 @@ few_deps s u fits is =
     let r = number_within w16 0 1024 (length u.deps) (assumption one) in
     r.1
 
--- ---- no check of the content tells a fork
+-- ---- no check of the content reports a fork
 
 no_fork : HoldsOfContent TellsNoFork
 no_fork = record { missing = λ h. tt; wrong_dep = λ place. tt; backward = λ h. tt; clock_low = λ h. tt; clock_far = λ greatest. tt; history = λ given right. tt }
 
--- the first of them that fails tells none
+-- the first of them that fails reports none
 pub content_tells_no_fork : (u : Update) (seen : Sight) (c : Check) → first (content_checks u seen) ≡ Some c → TellsNoFork c
 content_tells_no_fork u seen c e = shows_first TellsNoFork (content_checks u seen) (shows_content TellsNoFork no_fork u seen) c e

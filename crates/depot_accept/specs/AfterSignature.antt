@@ -34,7 +34,7 @@ pub record Passes (J : List Record) (s : Signed) (found : Option Found) : Type 0
   pub grows : added J (given_statement s) ≡ due ++ Foreign s ∷ []
   pub by : AreDue J s found due
 
--- what they make of a statement that is new, and was signed by another node of the roster
+-- their result for a statement that is new, and was signed by another node of the roster
 abbrev pub IsCheckedAfterSignature : List Record → Signed → Result Pass CheckError → Type 0
 IsCheckedAfterSignature J s (Ok pass.Known) = ⊥
 IsCheckedAfterSignature J s (Ok (pass.Update found behind)) = IsUpdateBehind J s behind × Passes J s found

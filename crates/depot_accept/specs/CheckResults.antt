@@ -39,7 +39,8 @@ pub record IsUpdateBehind (J : List Record) (s : Signed) (found : Parents) : Typ
   pub behind : AreItemsOf (accepted J) (parents update) found.items.items
   pub joined : IsJoinedRow (accepted J) found.items.items found.row.items
 
--- what a journal answers to a statement, and which conviction is due; Memory may stand in place of each answer to an update
+-- what a journal answers to a statement, and which conviction is due; Memory may come in place of each answer to an
+-- update
 abbrev pub IsChecked : Setting → List Record → Signed → Result Pass CheckError → Type 0
 IsChecked here J s (Ok pass.Known) = answer_to here J (given_statement s) ≡ Ok Known
 IsChecked here J s (Ok (pass.Update found behind)) = IsUpdateBehind J s behind × IsNew here J s found

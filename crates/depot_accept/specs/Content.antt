@@ -15,7 +15,7 @@ use Rattle.depot_accept.specs.declared.content.Content.TheVariants as content
 unfoldable pub checks_of_parents : Update → Sight → List (Option Check)
 checks_of_parents u seen = wrong_dep u seen ∷ backward u seen ∷ clock_low u seen ∷ clock_far u seen ∷ []
 
--- what these and the other checks of an update's content come to
+-- the result of these and the other checks of an update's content
 abbrev pub IsContentOf : List Update → Update → Content → Type 0
 IsContentOf us u (content.Failed c) = first (content_checks u (sight us u)) ≡ Some c
 IsContentOf us u (content.Passed found) = (first (content_checks u (sight us u)) ≡ None) × (AreItemsOf us (parents u) found.items.items × IsJoinedRow us found.items.items found.row.items)

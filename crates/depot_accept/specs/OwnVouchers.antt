@@ -11,7 +11,7 @@ use Rattle.depot_model.specs.Texts.{IsStatement, text_of_statement}
 abbrev pub has_body_of_voucher : Voucher → Voucher → Bool
 has_body_of_voucher v own = bytes_eq (text_of_statement (statements.Voucher own)) (text_of_statement (statements.Voucher v))
 
--- how many more a list has its memory for
+-- how many more a list has reserved memory for
 abbrev pub spare : {X Z : Type 0} → Vec X Z → ℕ
 spare v = vec_capacity v - vec_len v
 

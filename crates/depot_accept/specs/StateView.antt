@@ -27,19 +27,19 @@ pub record View (S : Type 0) : Type 0 where
   -- the ids that others vouched for, and the convicted nodes
   pub vouched : List (List ℕ)
   pub convicted : List ℕ
-  -- how many own vouchers more have their memory
+  -- how many own vouchers more have reserved memory
   pub voucher_room : ℕ
 
--- all is as before, but for the room
+-- all is unchanged, but for the room
 abbrev pub IsAsBefore : {S : Type 0} → View S → View S → Type 0
 IsAsBefore old new = new ≡ record old { voucher_room = new.voucher_room }
 
--- what a statement of the node's own leaves of the room: a voucher takes one, where there is one
+-- what a statement of the node's own leaves of the reserve: a voucher uses up one, where there is one
 abbrev pub IsRoomAfter : Statement → ℕ → ℕ → Type 0
 IsRoomAfter (statements.Update u) old new = new ≡ old
 IsRoomAfter (statements.Voucher v) old new = 0 < old → new + 1 ≡ old
 
--- where the node stands
+-- the setting of the node
 abbrev pub setting : {S : Type 0} → Verifies → View S → Setting
 setting verifies v = record { verifies = verifies; me = v.me; listed = v.listed }
 

@@ -1,4 +1,4 @@
--- The checks up to that of the signature, which don't ask the journal but for whether the statement is here.
+-- The checks up to that of the signature, which ask of the journal only whether the statement is known.
 use Rattle.std.specs.Prelude.{◌≡◌, List, [], true, false, Some, None, Ok, Err}
 use Rattle.depot_base.specs.declared.check.Check.{Check}
 use Rattle.depot_base.specs.declared.record.Record.{Record}

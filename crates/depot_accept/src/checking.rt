@@ -27,13 +27,14 @@ use depot_fork::Found;
 use depot_model::{Past, Scheme};
 
 impl<S: Scheme> State<S> {
-    /// What the journal whose state this is answers to a statement with this id: that it is new or known, or the first
-    /// check that fails, and the kept statement by which the conviction of its writer is due, if one is. Of a new update it
-    /// also tells the items of the parents, and their joined row. Memory comes at updates alone. The state stays.
+    /// Checks a statement with this id, and answers as the journal with this state does: the statement is new or known,
+    /// or the first check that fails, and the kept statement by which the conviction of its writer is due, if one is.
+    /// For a new update it also returns the items of the parents and their joined row. Memory comes at updates alone.
+    /// The state stays.
     ///
-    /// Its cost, of which no clause speaks: it verifies one signature at most, and none where a check before that one
-    /// answers; it searches each parent once; it joins their rows, once, and hashes the past only where no check before that of
-    /// the history fails.
+    /// The cost, which no clause states: it verifies one signature at most, and none where an earlier check answers; it
+    /// searches each parent once; it joins the parents' rows once; and it hashes the past only where no check before
+    /// that of the history fails.
     pub fn check(&self, signed: &Signed, id: &Hash32) -> Result<Pass, CheckError>
         requires text { IsSigned signed.now }
         requires id { id.now ≡ id_of_statement signed.now.statement }
@@ -46,8 +47,8 @@ impl<S: Scheme> State<S> {
         }
     }
 
-    /// The checks up to that of the signature: whether the statement is known or new, and the first of them that fails. It
-    /// verifies one signature at most, and takes no memory.
+    /// Runs the checks up to that of the signature: whether the statement is known or new, and the first of them that
+    /// fails. It verifies one signature at most, and takes no memory.
     pub fn check_to_signature(&self, signed: &Signed, id: &Hash32) -> Front
         requires text { IsSigned signed.now }
         requires id { id.now ≡ id_of_statement signed.now.statement }
@@ -69,7 +70,7 @@ impl<S: Scheme> State<S> {
         Front::Passed
     }
 
-    /// Whether the signature of a statement verifies under this key, which is that of its writer.
+    /// Whether the signature of a statement verifies under this key, its writer's.
     fn verifies(&self, key: &PublicKey, signed: &Signed) -> bool
         requires { key_of self.now.listed (writer_of signed.now.statement) ≡ Some key.now }
         ensures { result ≡ is_signed S.verifies self.now.listed signed.now }
@@ -82,8 +83,9 @@ impl<S: Scheme> State<S> {
         )
     }
 
-    /// The checks after that of the signature, of a statement that passes those up to it and is new: the first that fails, and
-    /// the kept statement by which the conviction of its writer is due, if one is. Memory comes at updates alone.
+    /// Runs the checks after that of the signature, for a new statement that passes those up to it: the first that
+    /// fails, and the kept statement by which the conviction of its writer is due, if one is. Memory comes at updates
+    /// alone.
     pub fn check_after_signature(&self, signed: &Signed, id: &Hash32) -> Result<Pass, CheckError>
         requires text { IsSigned signed.now }
         requires id { id.now ≡ id_of_statement signed.now.statement }
@@ -95,7 +97,7 @@ impl<S: Scheme> State<S> {
         }
     }
 
-    /// The same of an update.
+    /// The same for an update.
     fn check_update(
         &self,
         signed: &Signed,
@@ -117,7 +119,7 @@ impl<S: Scheme> State<S> {
         }
     }
 
-    /// The same of an update of which no check of its content fails, and whose parents stand here.
+    /// The same for an update whose parents are accepted and whose content passes its checks.
     fn check_fork(
         &self,
         signed: &Signed,
@@ -158,7 +160,7 @@ impl<S: Scheme> State<S> {
         }
     }
 
-    /// The same of a voucher.
+    /// The same for a voucher.
     fn check_voucher(
         &self,
         signed: &Signed,
@@ -179,7 +181,7 @@ impl<S: Scheme> State<S> {
         }
     }
 
-    /// The refusal of a statement with this id that contradicts the kept one that was found.
+    /// The refusal of a statement with this id that contradicts a kept one.
     fn forked(&self, id: &Hash32, found: Found) -> CheckError
         requires { found.index < length self.now.foreign }
         ensures { (kept : Signed) → slice_get self.now.foreign found.index ≡ Some kept → result ≡ CheckError.Refused (Check.Forked (id_of_statement kept.statement) id.now found.kind) (Some found) }
@@ -194,8 +196,8 @@ impl<S: Scheme> State<S> {
         }
     }
 
-    /// By which kept statement the conviction of an update's writer is due where this check of its content fails: by its
-    /// prev, if the update isn't above it and its writer isn't convicted.
+    /// The kept statement by which the conviction of an update's writer is due where this check of its content fails:
+    /// its prev, if the update isn't above it and its writer isn't convicted.
     fn exposing_prev(
         &self,
         signed: &Signed,
@@ -233,7 +235,7 @@ impl<S: Scheme> State<S> {
         }
     }
 
-    /// Whether the statement itself is here: an update of its id is accepted, or a voucher of its body is kept.
+    /// Whether the statement is known: an update of its id is accepted, or a voucher of its body is kept.
     fn is_kept(&self, statement: &Statement, id: &Hash32) -> bool
         requires text { IsStatement statement.now }
         requires id { id.now ≡ id_of_statement statement.now }

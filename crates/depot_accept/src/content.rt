@@ -1,7 +1,7 @@
 //! The checks of an update's content: its parents, its clock and its history.
 //!
-//! Each parent is looked up once, in one call of `Past::find`. The checks then go over the items that were found, the prev's
-//! before the entries'. Only the history is hashed, and that only where all checks before it hold.
+//! Each parent is looked up once, in one call of `Past::find`. The checks then go over the items found, the prev's
+//! before the entries'. Only the history is hashed, and only where all checks before it hold.
 ghost use Rattle.std.specs.Prelude.{◌≡◌, ◌<◌, ◌≤◌, ◌+◌, ◌++◌, [], length, map, Ok, None, Some, IfOk};
 ghost use Rattle.std.specs.List.{AllByRecursion};
 ghost use Rattle.std.specs.Option.{option_copied, option_to_list};
@@ -21,16 +21,16 @@ use depot_graph::{Graph, history_of_row};
 use depot_model::Past;
 use std::alloc::Global;
 
-/// What the checks of an update's content come to.
+/// The result of the checks of an update's content.
 #[derive(Drop)]
 pub(crate) enum Content {
     /// The first of them that fails.
     Failed(Check),
-    /// None of them fails, and the parents stand here.
+    /// None of them fails, and these are the parents.
     Passed(Parents),
 }
 
-/// Looks a parent up, and puts its item behind these. The check that the parent is accepted.
+/// Looks a parent up, and appends its item to these. The check that the parent is accepted.
 fn find_parent<P: Past>(
     past: &P,
     id: &Hash32,
@@ -46,7 +46,7 @@ fn find_parent<P: Past>(
     Ok(None)
 }
 
-/// Looks the prev up, if one is named, and puts its item behind these.
+/// Looks the prev up, if one is named, and appends its item to these.
 fn find_prev<P: Past>(
     past: &P,
     update: &Update,
@@ -61,7 +61,7 @@ fn find_prev<P: Past>(
     find_parent(past, &update.prev, items)
 }
 
-/// Looks the entries up, till one isn't accepted, and puts their items behind these.
+/// Looks the entries up, until one isn't accepted, and appends their items to these.
 fn find_entries<P: Past>(
     past: &P,
     deps: &[Dep],
@@ -78,7 +78,7 @@ fn find_entries<P: Past>(
     Ok(None)
 }
 
-/// Looks each parent of an update up, the prev before the entries, and puts their items into a list that is empty. The check
+/// Looks up each parent of an update, the prev before the entries, and puts their items into an empty list. The check
 /// that each is accepted.
 fn find_parents<P: Past>(
     past: &P,
@@ -126,8 +126,8 @@ fn wrong_entry(place: u32, dep: &Dep, parent: &Update) -> Option<Check>
     None
 }
 
-/// The check that each entry has the writer and the clock of the update that it names, for the first that hasn't. The
-/// entries have these items.
+/// The check that each entry has the writer and the clock of the update that it names, for the first entry that hasn't.
+/// These are the entries' items.
 fn wrong_entries<P: Past>(past: &P, deps: &[Dep], items: &[u32]) -> Option<Check>
     requires few { length deps.now < u32.MAX }
     requires places { AreItemsOf (P.updates past.now) (map (λ d. d.id) deps.now) items.now }
@@ -245,8 +245,9 @@ fn bad_history(
     Ok(None)
 }
 
-/// The checks of an update's content among the accepted updates: the first that fails, or, where none does, where its parents
-/// stand. Their rows are joined and the past is hashed only where all checks before that of the history hold.
+/// Runs the checks of an update's content against the accepted updates: the first that fails, or, where none does, its
+/// parents' places. It joins the parents' rows and hashes the past only where all checks before that of the history
+/// hold.
 pub(crate) fn check_content(
     alloc: Global,
     graph: &Graph,

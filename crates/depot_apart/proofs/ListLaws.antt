@@ -1,4 +1,4 @@
--- Lists that are gone over with another at the same places, and the first that passes a test.
+-- Lists that are scanned with another at the same places, and the first that passes a test.
 use Rattle.std.proofs.Common.{◌≡◌, ℕ, zero, suc, ◌+◌, ◌<◌, Bool, true, false, ◌||◌, cond, List, [], ◌∷◌, ◌++◌, length, get_or, map, take, drop, Option, Some, None, refl, sym, ap, subst, ◌∙◌, inl, inr, arith}
 use Rattle.std.specs.Prelude.{position}
 use Rattle.std.specs.List.{list_any, flat_map, position_from}
@@ -18,7 +18,7 @@ any_map test f (x ∷ xs) = ap (λ (b : Bool). test (f x) || b) (any_map test f 
 
 -- ---- pairs
 
--- the pair of one with others in front and behind
+-- the pair of one with others at the front and after
 pub record HasPair {X Y : Type 0} (R : X → Y → Type 0) (xs : List X) (front : List Y) (y : Y) (behind : List Y) : Type 0 where
   pub before : List X
   pub one : X
@@ -60,7 +60,7 @@ first-cons : {X : Type 0} (o : Option X) (os : List (Option X)) → first (o ∷
 first-cons None os = refl
 first-cons (Some x) os = refl
 
--- what a list has behind others is the first where these have none
+-- what a list has after others is the first where these have none
 pub first_behind : {X : Type 0} (os ps : List (Option X)) → first os ≡ None → first (os ++ ps) ≡ first ps
 first_behind os ps none = first-append os ps ∙ ap (λ (o : Option _). option_or o (first ps)) none
 
@@ -90,7 +90,7 @@ places test n (y ∷ ys) x after none is = by_test (test y) none (λ later. plac
   by_test true e later = absurd cc
   by_test false e later = later e ∙ ap (λ (m : ℕ). Some m) (omega arith)
 
--- the first place is behind those that fail
+-- the first place is after those that fail
 pub place_stops : {X : Type 0} (test : X → Bool) (xs : List X) (x : X) (after : List X) → position test xs ≡ None → test x ≡ true → position test (xs ++ x ∷ after) ≡ Some (length xs)
 place_stops test xs x after none is =
     position_from-zero test (xs ++ x ∷ after) ∙ places test 0 xs x after (sym (position_from-zero test xs) ∙ none) is ∙ ap (λ (m : ℕ). Some m) (omega arith)
@@ -102,14 +102,14 @@ place_on test xs x none fails = no_place_from test (xs ++ x ∷ []) (λ y on. el
   | inr last ↦ elim last [ inl is ↦ ap test (sym is) ∙ fails | inr never ↦ absurd never ]
 ])
 
--- ---- at a place of a list that is gone over
+-- ---- at a place of a list that is scanned
 
 pub split_at : {X : Type 0} (xs : List X) (i : ℕ) (x : X) → i < length xs → x ≡ get_or xs i x → xs ≡ take i xs ++ x ∷ drop (suc i) xs
 split_at [] i x lt is = absurd (omega arith)
 split_at (y ∷ ys) zero x lt is = ap (λ (z : _). z ∷ ys) (sym is)
 split_at (y ∷ ys) (suc i) x lt is = ap (λ (zs : List _). y ∷ zs) (split_at ys i x (omega arith) is)
 
--- the place of one that passes behind those that fail
+-- the place of one that passes after those that fail
 pub place_at : {X : Type 0} (test : X → Bool) (xs : List X) (i : ℕ) (x : X) → i < length xs → x ≡ get_or xs i x → position test (take i xs) ≡ None → test x ≡ true → Some i ≡ position test xs
 place_at test xs i x lt is none passes =
     sym (ap (position test) (split_at xs i x lt is) ∙ place_stops test (take i xs) x (drop (suc i) xs) none passes ∙ ap (λ (n : ℕ). Some n) (length-take-le i xs (omega arith)))
@@ -120,7 +120,7 @@ map_split f zs i z lt is = ap (map f) (split_at zs i z lt is) ∙ map-append f (
 map_next : {X Z : Type 0} (f : Z → X) (zs : List Z) (i : ℕ) (z : Z) → i < length zs → z ≡ get_or zs i z → map f (take (i + 1) zs) ≡ map f (take i zs) ++ f z ∷ []
 map_next f zs i z lt is = ap (map f) (take_next zs i z lt is) ∙ map-append f (take i zs) (z ∷ [])
 
--- what one gives behind those that give nothing
+-- what one gives after those that give nothing
 pub row_at : {X Y Z : Type 0} (k : X → Option Y) (f : Z → X) (zs : List Z) (i : ℕ) (z : Z) (y : Y) → i < length zs → z ≡ get_or zs i z → first (map k (map f (take i zs))) ≡ None → k (f z) ≡ Some y → Some y ≡ first (map k (map f zs))
 row_at k f zs i z y lt is none one =
     sym (ap (λ (xs : List _). first (map k xs)) (map_split f zs i z lt is) ∙ row_stops k (map f (take i zs)) (f z) (map f (drop (suc i) zs)) y none one)
@@ -137,7 +137,7 @@ pair_in R xs ys i y lt is pairs = pair_of R xs (take i ys) y (drop (suc i) ys) (
 pub pair_next : {X Y : Type 0} (R : X → Y → Type 0) (xs : List X) (ys : List Y) (i : ℕ) (y : Y) → i < length ys → y ≡ get_or ys i y → ArePairs R xs (take (i + 1) ys) → HasPair R xs (take i ys) y []
 pair_next R xs ys i y lt is pairs = pair_of R xs (take i ys) y [] (subst (λ (zs : List _). ArePairs R xs zs) (take_next ys i y lt is) pairs)
 
--- the same behind a function
+-- the same after a function
 pub mapped_pair_in : {X Y Z : Type 0} (R : X → Y → Type 0) (f : Z → Y) (xs : List X) (zs : List Z) (i : ℕ) (z : Z) → i < length zs → z ≡ get_or zs i z → ArePairs R xs (map f zs) → HasPair R xs (map f (take i zs)) (f z) (map f (drop (suc i) zs))
 mapped_pair_in R f xs zs i z lt is pairs = pair_of R xs (map f (take i zs)) (f z) (map f (drop (suc i) zs)) (subst (λ (ys : List _). ArePairs R xs ys) (map_split f zs i z lt is) pairs)
 

@@ -43,7 +43,7 @@ named_is W ts told =
 
 -- ---- the tag of a conviction's text
 
--- the text of a record is its tag and what stands behind
+-- the text of a record is its tag and what follows
 record HasTag (r : Record) : Type 0 where
   pub rest : List ℕ
   pub is : text_of_record r ≡ tag_of r ∷ rest

@@ -104,7 +104,7 @@ ids_are J n r right =
     sym (map-map (λ (a : traces.Answered). a.id) answered_of r.answer) ∙ ap (map (λ (a : traces.Answered). a.id)) right.answer
     ∙ map-map (λ (a : traces.Answered). a.id) answered (shown_of (take r.length J) r.key)
 
--- ---- traces behind references
+-- ---- traces after references
 
 pub seen_traces : (ts : List (Bor Trace)) → map (λ t. trace_of t.now) ts ≡ map trace_of (map (λ t. t.now) ts)
 seen_traces ts = sym (map-map trace_of (λ (t : Bor Trace). t.now) ts)

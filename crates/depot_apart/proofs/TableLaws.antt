@@ -80,7 +80,7 @@ one_new key xs x none one a b a_on b_on e = elim (in_parts a xs (x ∷ []) a_on)
   ]
 ]
 
--- one that stands there already
+-- one that is there already
 from_again : {X : Type 0} (xs : List X) (x y : X) → IsIn x xs → IsIn y (xs ++ x ∷ []) → IsIn y xs
 from_again xs x y on there = elim (in_parts y xs (x ∷ []) there) [
   | inl here ↦ here
@@ -105,7 +105,7 @@ where_put u true e = inl refl
 where_put u false e = absurd cc
 
 module _ (us ps : List Update) (table : UpdateTable) (apart : Bool) (u : Update) (id : List ℕ) (is : id ≡ id_of_update u) (met : AreMetUpdates us ps table apart) where
-  -- what stands under an id is the first with it
+  -- what is under an id is the first with it
   stands : (h : List ℕ) (x : MetUpdate) → get bytes_eq table h ≡ Some x → first_under id_of_update us h ≡ Some x.update
   stands h x at = sym (met.first h) ∙ ap (option_map (λ (y : MetUpdate). y.update)) at
 
@@ -125,7 +125,7 @@ module _ (us ps : List Update) (table : UpdateTable) (apart : Bool) (u : Update)
     | inr now ↦ in_right y us (u ∷ []) (inl (in_where put u y now).1)
   ]
 
-  -- another's puts are as before
+  -- another's puts are unchanged
   put_beside : (put : Bool) (y : Update) → (u ≡ y → ⊥) → IsIn y (ps ++ update_where put u) → IsIn y ps
   put_beside put y other on = elim (in_parts y ps (update_where put u) on) [
     | inl before ↦ before
@@ -175,7 +175,7 @@ module _ (us ps : List Update) (table : UpdateTable) (apart : Bool) (u : Update)
     on_it : IsIn x.update us
     on_it = (its_id id x at).0
 
-    -- what stands under another id is another, and under this one stands this
+    -- what is under another id is another, and under this one is this
     by_id : (h : List ℕ) (y : MetUpdate) → get bytes_eq table h ≡ Some y → ((u ≡ y.update → ⊥) ⊎ (x ≡ y))
     by_id h y at_h = by_test (bytes_eq id h) refl where
       by_test : (b : Bool) → bytes_eq id h ≡ b → ((u ≡ y.update → ⊥) ⊎ (x ≡ y))
@@ -234,7 +234,7 @@ module _ (us ps : List Update) (table : UpdateTable) (apart : Bool) (u : Update)
     put_now true e new same p = update_put new same p
     put_now false e new same p = absurd cc
 
-    -- another stands there
+    -- another is there
     pub update_other : (put : Bool) → (x.update ≡ u → ⊥) → AreMetUpdates (us ++ u ∷ []) (ps ++ update_where put u) table false
     update_other put other = record {
       first = first_again;
@@ -283,14 +283,14 @@ module _ (vs : List (List ℕ)) (table : ValueTable) (apart : Bool) (value hash 
       one = (λ e. one_again sha256 vs value (subst (λ (v : List ℕ). IsIn v vs) same at_hash.0) (met.one.0 e), λ one. met.one.1 (one_fewer sha256 vs (value ∷ []) one));
     }
 
-    -- another stands there
+    -- another is there
     pub value_other : (other ≡ value → ⊥) → AreMetValues (vs ++ value ∷ []) table false
     value_other differs = record {
       first = first_still;
       one = (λ e. absurd cc, λ one. absurd (one_never sha256 vs value other at_hash.0 at_hash.1 differs one));
     }
 
--- ---- what stands under an id
+-- ---- what is under an id
 
 pub record HasFound (o : Option MetUpdate) (u : Update) (put : Bool) : Type 0 where
   pub met : MetUpdate
@@ -315,7 +315,7 @@ pub told_other : (o : Option MetUpdate) (u : Update) → IsUnder o u Other → H
 told_other None u told = absurd told
 told_other (Some x) u told = record { met = x; is = refl; other = told }
 
--- whether a value stands under its hash, or another
+-- whether a value is under its hash, or another
 pub record HasValue (o : Option (List ℕ)) (value : List ℕ) (same : Bool) : Type 0 where
   pub other : List ℕ
   pub is : o ≡ Some other

@@ -1,4 +1,5 @@
--- Where no two different texts have one hash, the reads that aren't exact are those that list an update of a node which no node put.
+-- Where no two different texts have one hash, the reads that aren't exact are those that list an update of one of the
+-- nodes that no node put.
 use Rattle.std.proofs.Common.{◌≡◌, ℕ, ◌+◌, ◌==◌, Bool, true, false, not, ◌&&◌, cond, List, [], ◌∷◌, ◌++◌, length, map, Option, Some, None, refl, sym, ap, subst, ◌∙◌, append_assoc, inl, inr, length-append}
 use Rattle.std.specs.Prelude.{slice_get, option_map, position}
 use Rattle.std.specs.HashMap.{get}
@@ -61,7 +62,7 @@ never_both true true h = refl
 never_both true false h = let never = h refl in absurd cc
 never_both false b h = refl
 
--- one of the table, if something stands under an id
+-- one of the table, if something is under an id
 record Stands (o : Option MetUpdate) : Type 0 where
   pub met : MetUpdate
   pub is : o ≡ Some met
@@ -78,7 +79,7 @@ module _ (W : World) (world : IsWorld W) (free : HaveOneText W) (table : UpdateT
   is_known : (u : Update) → IsIn u (writes_of W) → IsIn u (accepted (world_records W))
   is_known u on = subst (λ (us : List Update). IsIn u us) (sym (accepted_of W)) on
 
-  -- a write stands under its id
+  -- a write is under its id
   record StandsUnder (u : Update) : Type 0 where
     pub found : MetUpdate
     pub is : get bytes_eq table (id_of_update u) ≡ Some found

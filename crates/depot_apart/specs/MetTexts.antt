@@ -1,4 +1,4 @@
--- What a table has of records, whose texts were gone over in their order.
+-- What a table has of records, whose texts were scanned in order.
 use Rattle.std.specs.Prelude.{◌≡◌, ◌≤◌, ℕ, List, [], ◌∷◌, length}
 use Rattle.std.specs.List.{flat_map}
 use Rattle.depot_base.specs.declared.limits.TheConstants.{MOST_RECORDS}

@@ -27,7 +27,7 @@ HaveOneKey {X} key xs = (x y : X) → IsIn x xs → IsIn y xs → key x ≡ key 
 abbrev pub UpdateTable : Type 0
 UpdateTable = HashMap (List ℕ) MetUpdate (BuildHasherDefault FoldHasher)
 
--- what stands under the id of an update is told of it
+-- what is found under the id of an update
 abbrev pub IsUnder : Option MetUpdate → Update → Under → Type 0
 IsUnder None u Nothing = Unit {0}
 IsUnder None u found = ⊥
@@ -35,7 +35,7 @@ IsUnder (Some x) u Nothing = ⊥
 IsUnder (Some x) u (Same put) = (x.update ≡ u) × (x.put ≡ put)
 IsUnder (Some x) u Other = x.update ≡ u → ⊥
 
--- this stands under the id, and what stands under the others stays
+-- this is under the id, and what is under the others stays
 pub record PutsUpdate (old new : UpdateTable) (id : List ℕ) (met : MetUpdate) : Type 0 where
   pub table : (other : List ℕ) → get bytes_eq new other ≡ (if bytes_eq id other then Some met else get bytes_eq old other)
 
@@ -44,8 +44,8 @@ abbrev pub update_where : Bool → Update → List Update
 update_where true u = u ∷ []
 update_where false u = []
 
--- Under each id stands the first of these updates that has it, beside whether it is one of those that were put. They are apart where
--- each id has one update.
+-- Under each id comes the first of these updates that has it, beside whether it is one of those that were put. They are
+-- apart where each id has one update.
 pub record AreMetUpdates (us ps : List Update) (table : UpdateTable) (apart : Bool) : Type 0 where
   pub first : (h : List ℕ) → option_map (λ x. x.update) (get bytes_eq table h) ≡ first_under id_of_update us h
   pub known : (u : Update) → IsIn u ps → IsIn u us
@@ -57,11 +57,11 @@ pub record AreMetUpdates (us ps : List Update) (table : UpdateTable) (apart : Bo
 abbrev pub ValueTable : Type 0
 ValueTable = HashMap (List ℕ) (List ℕ) (BuildHasherDefault FoldHasher)
 
--- the same of values
+-- the same for values
 pub record PutsValue (old new : ValueTable) (hash value : List ℕ) : Type 0 where
   pub table : (other : List ℕ) → get bytes_eq new other ≡ (if bytes_eq hash other then Some value else get bytes_eq old other)
 
--- Under each hash stands the first of these values that has it. They are apart where each hash has one value.
+-- Under each hash comes the first of these values that has it. They are apart where each hash has one value.
 pub record AreMetValues (vs : List (List ℕ)) (table : ValueTable) (apart : Bool) : Type 0 where
   pub first : (h : List ℕ) → get bytes_eq table h ≡ first_under sha256 vs h
   pub one : apart ≡ true ↔ HaveOneKey sha256 vs

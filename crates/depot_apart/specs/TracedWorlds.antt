@@ -6,7 +6,7 @@ use Rattle.depot_model.specs.World.{World}
 use Rattle.depot_apart.specs.MetTexts.{IsMetOf}
 use Rattle.depot_apart.specs.declared.met.Met.{Met}
 
--- the records of its nodes, one journal behind the other
+-- the records of its nodes, one journal after the other
 abbrev pub world_records : World → List Record
 world_records W = flat_map (λ c. c.journal) W.nodes
 

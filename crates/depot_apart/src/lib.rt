@@ -1,12 +1,17 @@
-//! What breaks the headline in the world that lawful traces make, where no two different texts have one hash.
+//! What breaks the headline in the world of lawful traces, where no two different texts have one hash.
 //!
-//! Where the records of all nodes are lawful and their reads right, three parts of the headline are open: that nothing is observed before
-//! itself, that each read is exact, and that no conviction names a node (`depot_laws`, `lawful_worlds_are_in_line`). A table by hash, `Met`,
-//! has each update under its id and each value under its hash, and says whether two different texts met under one. Where none did, the first part
-//! holds, and a read is exact exactly where each write that it lists of a node of the traces is one that this node put: one look-up a
-//! listed write. `first_wrong` gives the first read that isn't. `first_named` gives the first conviction of a node, whatever texts met.
+//! Where the records of all nodes are lawful and their reads right, three parts of the headline are open: that nothing
+//! is observed before itself, that each read is exact, and that no conviction names a node (`lawful_worlds_are_in_line`
+//! of `depot_laws`).
 //!
-//! The texts are those of lawful records: each is decoded and hashed once, no signature is verified again, and nothing but memory can be wanting.
+//! - `Met` is a table by hash, with each update under its id and each value under its hash; it says whether two
+//!   different texts had one hash. Where none did, the first part holds, and a read is exact exactly where each write
+//!   that it lists of a node of the traces is one that this node put: one look-up a listed write.
+//! - `first_wrong` returns the first read that isn't exact.
+//! - `first_named` returns the first conviction of a node, whatever texts there are.
+//!
+//! The texts are those of lawful records. Each is decoded and hashed once, no signature is verified again, and the only
+//! error is Memory.
 #![tactic(auto)]
 
 mod met;

@@ -29,7 +29,7 @@ pub struct Met {
 }
 
 impl Met {
-    /// The table of the records of traces. Their texts are gone over in order, and each is decoded once.
+    /// Makes the table of the records of traces. It scans their texts in order, and decodes each once.
     pub fn of_traces(alloc: Global, traces: &[&Trace]) -> Result<Met, Memory>
         requires { (W : World) × IsWorldOf (map (λ t. trace_of t.now) traces.now) W }
         ensures { IfOk result (λ met. (W : World) → IsWorldOf (map (λ t. trace_of t.now) traces.now) W → IsMetIn W met) }

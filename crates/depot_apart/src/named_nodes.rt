@@ -16,8 +16,8 @@ use depot_base::{Bytes, Memory, Record, RecordTag};
 use depot_traces::{Finding, Trace};
 use std::alloc::Global;
 
-/// The first conviction, nodes in the order of their traces, whose accused is one of the nodes: the node that keeps it, and the place of
-/// its record. Whether different texts have one hash doesn't matter.
+/// The first conviction, with nodes in the order of their traces, whose accused is one of the nodes: the node that
+/// keeps it, and the place of its record. It doesn't matter whether different texts have one hash.
 pub fn first_named(alloc: Global, traces: &[&Trace]) -> Result<Option<Finding>, Memory>
     requires { (W : World) × IsWorldOf (map (λ t. trace_of t.now) traces.now) W }
     ensures { IfOk result (λ found. (W : World) → IsWorldOf (map (λ t. trace_of t.now) traces.now) W → option_map finding_of found ≡ named_node W) }
@@ -44,7 +44,7 @@ fn first_keeping(alloc: Global, traces: &[&Trace]) -> Result<Option<Finding>, Me
     Ok(None)
 }
 
-/// The place of the first of these texts whose record does.
+/// The place of the first of these texts whose record convicts one of the nodes.
 fn first_place(alloc: Global, traces: &[&Trace], texts: &[Bytes]) -> Result<Option<u32>, Memory>
     requires texts { (J : List Record) × AreTexts J texts.now }
     requires few { length texts.now ≤ MOST_RECORDS }
@@ -58,7 +58,7 @@ fn first_place(alloc: Global, traces: &[&Trace], texts: &[Bytes]) -> Result<Opti
     Ok(None)
 }
 
-/// Whether the record of a text does. Only the text of a conviction is decoded.
+/// Whether the record of a text convicts one of the nodes. Only the text of a conviction is decoded.
 fn is_against_one(alloc: Global, traces: &[&Trace], text: &[u8]) -> Result<bool, Memory>
     requires { (r : Record) × IsTextOf r text.now }
     ensures { IfOk result (λ found. (r : Record) → IsTextOf r text.now → found ≡ accuses_one (nodes_in (map (λ t. t.now) traces.now)) r) }
@@ -73,7 +73,7 @@ fn is_against_one(alloc: Global, traces: &[&Trace], text: &[u8]) -> Result<bool,
     Ok(accuses(traces, &item))
 }
 
-/// Whether a record does.
+/// Whether a record convicts one of the nodes.
 fn accuses(traces: &[&Trace], item: &Record) -> bool
     ensures { result ≡ accuses_one (nodes_in (map (λ t. t.now) traces.now)) item.now }
 {

@@ -7,7 +7,7 @@ use depot_base::{DecodeError, Memory, Record};
 use depot_update::decode_record;
 use std::alloc::Global;
 
-/// The record with this text, which is one's: nothing but memory can be wanting.
+/// Decodes a text that is a record's: the only error is Memory.
 pub fn record_of(alloc: Global, text: &[u8]) -> Result<Record, Memory>
     requires { (r : Record) × IsTextOf r text.now }
     ensures { IfOk result (λ item. (r : Record) → IsTextOf r text.now → item ≡ r) }

@@ -15,8 +15,9 @@ use crate::traced_nodes::has_node;
 use depot_base::Hash32;
 use depot_traces::{Finding, ReadTrace, Trace};
 
-/// The first read, nodes in the order of their traces, that lists a write of a node of the traces which that node didn't put. Where no two
-/// different texts have one hash, just this is wrong, and nothing is observed before itself. It takes no memory.
+/// The first read, with nodes in the order of their traces, that lists a write of a node of the traces which that node
+/// didn't put. Where no two different texts have one hash, only such reads are wrong, and nothing is observed before
+/// itself. It takes no memory.
 pub fn first_wrong(met: &Met, traces: &[&Trace]) -> Option<Finding>
     requires { AllByRecursion (λ t. length t.now.reads ≤ MOST_READS) traces.now }
     ensures wrong { (W : World) → IsWorldOf (map (λ t. trace_of t.now) traces.now) W → IsMetIn W met.now → HaveOneText W → option_map finding_of result ≡ wrong W }
@@ -44,7 +45,7 @@ fn first_listing(met: &Met, traces: &[&Trace]) -> Option<Finding>
     None
 }
 
-/// The place of the first of these reads that does.
+/// The place of the first of these reads that lists such a write.
 fn first_place(met: &Met, traces: &[&Trace], reads: &[ReadTrace]) -> Option<u32>
     requires { length reads.now ≤ MOST_READS }
     ensures { result ≡ position (lists_unput met.now.updates.table (nodes_in (map (λ t. t.now) traces.now))) reads.now }
@@ -57,7 +58,7 @@ fn first_place(met: &Met, traces: &[&Trace], reads: &[ReadTrace]) -> Option<u32>
     None
 }
 
-/// Whether a read does.
+/// Whether a read lists such a write.
 fn lists_unput(met: &Met, traces: &[&Trace], read: &ReadTrace) -> bool
     ensures { result ≡ lists_unput met.now.updates.table (nodes_in (map (λ t. t.now) traces.now)) read.now }
 {

@@ -1,4 +1,4 @@
--- Reads are held against the records as these come, one after the other.
+-- Reads are compared with the records as these come, one after another.
 use Rattle.std.proofs.Common.{◌≡◌, ℕ, ◌+◌, ◌<◌, ◌≤◌, ◌⊎◌, leb, Bool, true, false, List, [], ◌∷◌, ◌++◌, length, map, take, drop, get_or, refl, sym, ap, subst, ◌∙◌, append_assoc, inl, inr, arith, length-append}
 use Rattle.std.proofs.lemmas.Bool.{leb-true, leb-false}
 use Rattle.std.proofs.lemmas.List.{append-nil, drop_more, get_or-map, length-map, length-take-le, take_all, take-append-le, take-append-drop}
@@ -13,7 +13,7 @@ use Rattle.depot_model.specs.Traces.{ReadTrace, Trace, answered, IsRightRead, Ar
 use Rattle.depot_audit.specs.OneNode.{NeverRight, IsAhead, AreRightUpTo}
 use Rattle.depot_audit.specs.Shows.{IsShown}
 
--- ---- with more records behind
+-- ---- with more records after
 
 right_more : (J more : List Record) (last : ℕ) (r : ReadTrace) → IsRightRead J last r → IsRightRead (J ++ more) last r
 right_more J more last r h = record {
@@ -54,7 +54,7 @@ last_within : (J : List Record) (last : ℕ) (rs : List ReadTrace) → AreRightR
 last_within J last [] h le = le
 last_within J last (r ∷ rs) h le = last_within J r.length rs h.1 h.0.within
 
--- behind a read at all records
+-- after a read at all records
 ahead_of_all : (J : List Record) (last : ℕ) (rs : List ReadTrace) → last ≡ length J → IsAhead (length J) J last rs
 ahead_of_all J last [] all = tt
 ahead_of_all J last (r ∷ rs) all = by_test (leb (length J) r.length) refl where
@@ -62,7 +62,7 @@ ahead_of_all J last (r ∷ rs) all = by_test (leb (length J) r.length) refl wher
   by_test true is = inl (leb-true (length J) r.length is)
   by_test false is = inr (λ more h. omega (arith, leb-false (length J) r.length is, h.later, all))
 
--- a read that is looked at when the journal has these records, behind so many right ones
+-- a read that is looked at when the journal has these records, after this many right ones
 pub record IsNext (rs : List ReadTrace) (k : ℕ) (r : ReadTrace) : Type 0 where
   pub inside : k < length rs
   pub front : take (k + 1) rs ≡ take k rs ++ r ∷ []

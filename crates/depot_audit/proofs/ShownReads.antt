@@ -1,4 +1,4 @@
--- A read's answer is held against the writes that the records show, one after the other.
+-- A read's answer is compared with the writes that the records show, one after another.
 use Rattle.std.proofs.Common.{◌≡◌, ◌↔◌, ℕ, ◌+◌, ◌<◌, ◌≤◌, eqb, ltb, Bool, true, false, IsTrue, List, [], ◌∷◌, ◌++◌, length, map, drop, get_or, Some, None, refl, sym, ap, subst, ◌∙◌, arith}
 use Rattle.std.specs.List.{All}
 use Rattle.std.specs.Prelude.{slice_get}
@@ -67,7 +67,7 @@ tests_too told shown a b same is = (λ yes. is.0 yes ∙ sym same, λ e. is.1 (e
 
 -- ---- the list
 
--- what an answer tells of the updates at these places
+-- what an answer says of the updates at these places
 abbrev pub told_at : List Record → List ℕ → List ℕ → List traces.Answered
 told_at J key items = map (expected_answer J key) (updates_at (accepted J) items)
 
@@ -86,13 +86,13 @@ heads a b xs ys e = cc
 tails : {X : Type 0} (a b : X) (xs ys : List X) → a ∷ xs ≡ b ∷ ys → xs ≡ ys
 tails a b xs ys e = cc
 
--- Of an answer and of items so many were held against each other: all are as told exactly where the rest are.
+-- Some of an answer's writes were compared with as many items: all are as shown exactly where the rest are.
 pub record AreToldUpTo (J : List Record) (key : List ℕ) (answer : List Answered) (items : List ℕ) (k : ℕ) : Type 0 where
   pub within : k ≤ length items
   pub rest : map answered_of answer ≡ told_at J key items → map answered_of (drop k answer) ≡ told_at J key (drop k items)
   pub all : map answered_of (drop k answer) ≡ told_at J key (drop k items) → map answered_of answer ≡ told_at J key items
 
--- an answer and an item stand at a place
+-- an answer and an item are at a place
 pub record IsPairAt (us : List Update) (answer : List Answered) (items : List ℕ) (k item : ℕ) (a : Answered) (u : Update) : Type 0 where
   pub answered : drop k answer ≡ a ∷ drop (k + 1) answer
   pub listed : slice_get items k ≡ Some item
@@ -150,11 +150,11 @@ fewer_answered J key answer items k all more within h e =
     let u = at_place (accepted J) (get_or items k 0) (within k 0 more) in
     fewer_than_some J key answer items k item u.0 (drop_all k answer all) (slice_get-get_or items k 0 more) u.1 h e
 
--- all were told
+-- all were reported
 all_told : (J : List Record) (key : List ℕ) (answer : List Answered) (items : List ℕ) (k : ℕ) → drop k answer ≡ [] → drop k items ≡ [] → AreToldUpTo J key answer items k → map answered_of answer ≡ told_at J key items
 all_told J key answer items k none no_item h = h.all (ap (map answered_of) none ∙ sym (ap (told_at J key) no_item))
 
--- behind the last answer all are as told exactly where there are no more items
+-- after the last answer all are as shown exactly where there are no more items
 pub told_ends : (J : List Record) (key : List ℕ) (answer : List Answered) (items : List ℕ) (k : ℕ) → length answer ≡ k → All (λ (item : ℕ). item < length (accepted J)) items → AreToldUpTo J key answer items k
     → IsTrue (eqb (length answer) (length items)) ↔ (map answered_of answer ≡ told_at J key items)
 told_ends J key answer items k end within h = (
@@ -166,7 +166,7 @@ told_ends J key answer items k end within h = (
     by_test true is e = absurd (fewer_answered J key answer items k (omega arith) (ltb-true k (length items) is) within h e)
     by_test false is e = eq-eqb (length answer) (length items) (omega (arith, ltb-false k (length items) is, h.within, end))
 
--- an answer is what a read lists exactly where it is what is told of its items
+-- an answer is what a read lists exactly where it is what is said of its items
 pub is_listed : (here : Setting) (J : List Record) (us : List Update) (key items : List ℕ) (answer given : List Answered) → IsLawful here J → accepted J ≡ us → AreLatestIn key us (updates_at us items) → answer ≡ given
     → (map answered_of answer ≡ told_at J key items) ↔ (map answered_of given ≡ map answered (shown_of J key))
 is_listed here J us key items answer given l accepts latest same =

@@ -1,4 +1,4 @@
--- What is found of nodes that are looked at in turn.
+-- What is found of nodes that are checked in turn.
 use Rattle.std.specs.Prelude.{◌≡◌, List, Option, Some, None}
 use Rattle.std.specs.List.{AllByRecursion}
 use Rattle.depot_base.specs.declared.key.RosterEntry.{RosterEntry}

@@ -16,16 +16,17 @@ IsNodeAnswer verifies listed t Right = HasRightReads verifies listed t
 
 -- ---- while the records are taken
 
--- whatever records come behind these, the read isn't what they showed
+-- whatever records come after these, the read isn't what they showed
 abbrev pub NeverRight : List Record → ℕ → ReadTrace → Type 0
 NeverRight J last r = (more : List Record) → IsRightRead (J ++ more) last r → ⊥
 
--- the first of these reads was made at so many records or more, or is never right
+-- the first of these reads was made at this many records or more, or is never right
 abbrev pub IsAhead : ℕ → List Record → ℕ → List ReadTrace → Type 0
 IsAhead least J last [] = Unit {0}
 IsAhead least J last (r ∷ rs) = (least ≤ r.length) ⊎ NeverRight J last r
 
--- So many reads are what the records showed. The one behind them, if there is one, was made at so many records or more, or is never right.
+-- This many reads are what the records showed. The next one, if there is one, was made at this many records or more, or
+-- is never right.
 pub record AreRightUpTo (least : ℕ) (J : List Record) (rs : List ReadTrace) (k : ℕ) : Type 0 where
   pub within : k ≤ length rs
   pub good : AreRightReads J 0 (take k rs)

@@ -11,6 +11,6 @@ pub record IsShown (J : List Record) (r : ReadTrace) : Type 0 where
   pub all : r.length ≡ length J
   pub answer : r.answer ≡ map answered (shown_of J r.key)
 
--- what a read is to tell of an accepted update's write of a key
+-- what a read is to say of an accepted update's write of a key
 abbrev pub expected_answer : List Record → List ℕ → Update → Answered
 expected_answer J key u = answered (record { update = u; seen = seen_under J key u })

@@ -1,4 +1,4 @@
-//! Nodes one after the other: whether the records of all are lawful, and then the reads of all right.
+//! Nodes in turn: whether the records of all are lawful, and then whether the reads of all are right.
 ghost use Rattle.std.specs.Prelude.{◌≡◌, ◌≤◌, length, map, IfOk, Some, None};
 ghost use Rattle.std.specs.List.{AllByRecursion};
 ghost use Rattle.depot_traces.specs.SeenTraces.{trace_of};

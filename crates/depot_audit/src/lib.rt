@@ -1,12 +1,12 @@
-//! The audit: whether what many nodes did keeps the headline, from their journals and reads alone.
+//! The audit: whether what many nodes did keeps the headline, fork-join causality, from their journals and reads alone.
 //!
-//! A node hands in a `Trace`, its record texts and its reads. The records are checked one behind the other, as a start checks them,
-//! and each read is held against the records that it saw (`one_node`). Nodes are looked at in rising order (`by_node`), one after the other
-//! (`in_turn`): the records of all, and then the reads of all.
+//! A node hands in a `Trace`: its record texts and its reads. The audit checks the records one after another, as a
+//! start does, and compares each read with the records that it saw (`one_node`). It takes the nodes in rising order
+//! (`by_node`, `in_turn`): the records of all, and then the reads of all.
 //!
-//! `audit` goes on from there (`traces_audit`): in the world that right traces make, a table of hashes tells what is wrong (`depot_apart`), or, should
-//! two different texts have one hash, a search (`depot_search`); and then the first conviction of one of the nodes. What it answers is
-//! the traces' one finding.
+//! `audit` then looks at the world that right traces make (`traces_audit`). A table of hashes finds what is wrong
+//! (`depot_apart`), or, should two different texts have one hash, a search does (`depot_search`); then comes the first
+//! conviction of one of the nodes. The answer is the traces' one finding.
 //!
 //! No disk and no seed is needed, and nothing is kept.
 #![tactic(auto)]

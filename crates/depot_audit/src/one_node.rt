@@ -1,4 +1,4 @@
-//! One node: its records are taken one behind the other, and its reads held against them as they come.
+//! One node: reads its records one after another, and compares its reads with them as they come.
 ghost use Rattle.std.specs.Prelude.{◌≡◌, ◌+◌, ◌<◌, ◌≤◌, ◌↔◌, [], length, map, IfOk, IsTrue};
 ghost use Rattle.depot_traces.specs.SeenTraces.{read_of, trace_of};
 ghost use Rattle.depot_traces.specs.declared.trace.TheConstants.{MOST_READS};
@@ -19,13 +19,13 @@ use std::alloc::Global;
 pub enum NodeAnswer {
     /// Its records aren't those of a lawful journal: the first fault.
     Unlawful(PlaceFault),
-    /// Its records are lawful, and this is its first read that isn't what they then showed.
+    /// Its records are lawful, and this is its first read that isn't what they showed at the time.
     WrongRead(u32),
     /// Its records are lawful, and its reads are what they showed.
     Right,
 }
 
-/// Looks at a node of a roster: at all its records, and then at its reads, none of which was made at fewer records than the one before it.
+/// Checks a node of a roster: all its records, and its reads, none of which saw fewer records than the one before it.
 pub fn look_at<S: Scheme>(
     alloc: Global,
     roster: &Roster,
@@ -46,7 +46,7 @@ pub fn look_at<S: Scheme>(
     found
 }
 
-/// Takes the records of texts, up to the first that has a fault, and holds reads against them as they come.
+/// Reads the records of texts, up to the first that has a fault, and compares reads with them as they come.
 fn take_trace<S: Scheme>(
     alloc: Global,
     readings: &mut Readings<S>,
@@ -77,7 +77,8 @@ fn take_trace<S: Scheme>(
     Ok(NodeAnswer::Right)
 }
 
-/// How many reads are what the records showed that were read, where so many are that were made at fewer.
+/// How many first reads are right, among those made at no more records than were read. The first `right` were made at
+/// fewer, and are right.
 fn right_reads<S: Scheme>(readings: &Readings<S>, reads: &[ReadTrace], right: usize) -> usize
     requires some { 0 < length readings.now.records }
     requires right { AreRightUpTo (length readings.now.records) readings.now.records (map read_of reads.now) right }

@@ -21,9 +21,9 @@ use depot_sign::Roster;
 use depot_traces::{Finding, Trace, Traces};
 use std::alloc::Global;
 
-/// Whether what many nodes did keeps the headline, from their traces alone: the first node whose records aren't lawful, else the first
-/// read that isn't what its journal then showed, else what is found in the world that the traces make (`Finding`). Nodes are looked at in
-/// rising order, in whatever order their traces stand.
+/// Audits traces: whether what many nodes did keeps the headline. Returns the first node whose records aren't lawful,
+/// else the first read that isn't what its journal showed at the time, else what is found in the world that the traces
+/// make (`Finding`). Nodes are taken in rising order, whatever the order of their traces.
 ///
 /// There are 1 to 32 traces, of distinct nodes of the roster, each in the ranges of its text.
 pub fn audit<S: Scheme>(

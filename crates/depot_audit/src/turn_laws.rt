@@ -1,4 +1,5 @@
-//! What is found of nodes in turn, as the finding of their traces. Each law is a function that does nothing; its contract is the law.
+//! What is found of nodes in turn, as the finding of their traces. Each law is a function with an empty body, whose
+//! contract is the law.
 ghost use Rattle.std.specs.Prelude.{List, Some, None};
 ghost use Rattle.depot_base.specs.declared.key.RosterEntry.{RosterEntry};
 ghost use Rattle.depot_model.specs.Roster.{Verifies};
@@ -8,7 +9,8 @@ ghost use Rattle.depot_traces.specs.SeenTraces.{finding_of};
 ghost use Rattle.depot_traces.specs.declared.finding.Finding.{Finding};
 ghost use Rattle.depot_audit.specs.InTurn.{IsTurnOf};
 
-/// What is found of nodes in turn, in rising order, is the finding of their traces. Where nothing is, the traces make a world.
+/// What is found of nodes in turn, in rising order, is the finding of their traces. Where nothing is found, the traces
+/// make a world.
 pub fn turns_are_findings()
     ensures found { (v : Verifies) (listed : List RosterEntry) (ts : List Trace) (f : Finding) → IsTurnOf v listed (by_node ts) (Some f) → IsFindingOf v listed ts (finding_of f) }
     ensures world { (verifies : Verifies) (listed : List RosterEntry) (traces : List Trace) → IsTurnOf verifies listed (by_node traces) None → (W : World) × AreTraced verifies listed traces W }

@@ -1,4 +1,4 @@
--- Records behind one another in a file.
+-- Records one after another in a file.
 use Rattle.std.proofs.Common.{◌≡◌, ℕ, ◌+◌, List, [], ◌∷◌, ◌++◌, length, length-append, arith}
 use Rattle.depot_base.specs.File.{blocks, framed}
 

@@ -26,7 +26,7 @@ pub fails_wider : {D : Type 0} (after : D → List Made → D → Type 0) (old n
 fails_wider after old new xs ys f =
     record { before = f.before; failing = f.failing; rest = f.rest ++ ys; parts = ap (λ (l : List Call). l ++ ys) f.parts ∙ append_assoc f.before (f.failing ∷ f.rest) ys; fails = f.fails }
 
--- behind calls that were made, one failed
+-- after calls that were made, one failed
 pub fails_later : {D : Type 0} (after : D → List Made → D → Type 0) (more : (a b c : D) (xs ys : List Made) → after a xs b → after b ys c → after a (xs ++ ys) c)
     (old between new : D) (xs ys : List Call) → after old (made xs) between → FailsAmong after between new ys → FailsAmong after old new (xs ++ ys)
 fails_later after more old between new xs ys done f =
@@ -41,12 +41,12 @@ fails_later after more old between new xs ys done f =
       fails = subst (λ (l : List Made). after old l new) all (more old between new (made xs) (made_but_last f.before f.failing) done f.fails);
     }
 
--- calls that were made behind others
+-- calls that were made after others
 pub made_later : {D : Type 0} (after : D → List Made → D → Type 0) (more : (a b c : D) (xs ys : List Made) → after a xs b → after b ys c → after a (xs ++ ys) c)
     (old between new : D) (xs ys : List Call) → after old (made xs) between → after between (made ys) new → after old (made (xs ++ ys)) new
 made_later after more old between new xs ys first then = subst (λ (l : List Made). after old l new) (sym (made_append xs ys)) (more old between new (made xs) (made ys) first then)
 
--- a call behind calls that were made: it was made too, or it failed
+-- a call after calls that were made: it was made too, or it failed
 pub last_made : {D X E : Type 0} (after : D → List Made → D → Type 0) (more : (a b c : D) (xs ys : List Made) → after a xs b → after b ys c → after a (xs ++ ys) c)
     (old between new : D) (xs : List Call) (call : Call) (r : Result X E) → after old (made xs) between → after between (record { call = call; failed = is_err r } ∷ []) new → OnOk r (after old (made (xs ++ call ∷ [])) new)
 last_made after more old between new xs call (Ok x) first last = made_later after more old between new xs (call ∷ []) first last
@@ -65,7 +65,7 @@ pub framed_long : (body : List ℕ) → length (framed body) ≡ 4 + length body
 unfolding framed
 framed_long body = omega (arith, length-append (numeral w32 (length body)) body, numeral_long (length body))
 
--- records that are appended behind others
+-- records that are appended after others
 pub appends_append : (gate : ℕ) (xs ys : List (List ℕ)) → calls_to_append_all gate (xs ++ ys) ≡ calls_to_append_all gate xs ++ calls_to_append_all (gate + length (blocks xs)) ys
 appends_append gate [] ys = let e : gate + 0 ≡ gate = omega arith in rw e refl
 appends_append gate (x ∷ xs) ys =
@@ -73,7 +73,7 @@ appends_append gate (x ∷ xs) ys =
     ap (λ (l : List Call). calls_to_append gate x ++ l) (appends_append (gate + (5 + length x)) xs ys ∙ ap (λ (n : ℕ). calls_to_append_all (gate + (5 + length x)) xs ++ calls_to_append_all n ys) e)
     ∙ sym (append_assoc (calls_to_append gate x) (calls_to_append_all (gate + (5 + length x)) xs) (calls_to_append_all (gate + length (blocks (x ∷ xs))) ys))
 
--- the next record is appended, at the gate behind those before it
+-- the next record is appended, at the gate after those before it
 appends_next : (gate end : ℕ) (texts : List (List ℕ)) (i : ℕ) (text : List ℕ) → take (i + 1) texts ≡ take i texts ++ text ∷ [] → end ≡ gate + length (blocks (take i texts))
     → calls_to_append_all gate (take i texts) ++ calls_to_append end text ≡ calls_to_append_all gate (take (i + 1) texts)
 appends_next gate end texts i text next at =

@@ -16,7 +16,7 @@ last_pushed front e =
     let here : length front < length (front ++ e ∷ []) = omega arith in
     rw (at, slice_get-get_or (front ++ e ∷ []) (length front) e here, get_or_push front e e (length front) refl) refl
 
--- some entries were taken behind front
+-- some entries were taken after front
 record Taken {E : Type 0} (entry : Format E) (may_follow : Option E → E → Bool) (n : ℕ) (front : List E) (c : Cursor) (all : List E) (d : Cursor) : Type 0 where
   pub more : List E
   pub all_is : all ≡ front ++ more

@@ -28,7 +28,7 @@ or_again true b h = refl
 or_again false true h = h refl
 or_again false false h = refl
 
--- the second of three tests stands first
+-- the second of three tests comes first
 pub or_swap : (a b c : Bool) → (b || (a || c)) ≡ ((a || b) || c)
 or_swap a b c = sym (or_assoc b a c) ∙ ap (λ (t : Bool). t || c) (or_comm b a)
 
@@ -43,7 +43,7 @@ same_test true b p q = sym (p refl)
 same_test false true p q = q refl
 same_test false false p q = refl
 
--- what a number that stands where a test holds says of the test
+-- what a number at which a test holds says of the test
 pub when_none : (b : Bool) (p : ℕ) → cond b (Some p) None ≡ None → b ≡ false
 when_none true p e = absurd cc
 when_none false p e = refl
@@ -94,7 +94,7 @@ bytes_eq_comm a b = same_test (bytes_eq a b) (bytes_eq b a) (λ e. (bytes_eq-Dec
 
 -- ---- elements by their place
 
--- what stands at one place is one
+-- what is at one place is one
 pub same_at : {X : Type 0} (xs : List X) (i k : ℕ) (x y : X) → i ≡ k → slice_get xs i ≡ Some x → slice_get xs k ≡ Some y → x ≡ y
 same_at {X = X} xs i k x y same at_i at_k = same_Some _ _ (sym at_i ∙ (ap (slice_get xs) same ∙ at_k))
 

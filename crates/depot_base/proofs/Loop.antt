@@ -1,4 +1,4 @@
--- Reading entries one after the other, as a loop does.
+-- Reading entries one after another, as a loop does.
 use Rattle.std.proofs.Common.{◌≡◌, ℕ, suc, ◌-◌, ◌+◌, ◌<◌, Bool, true, false, List, [], ◌∷◌, ◌++◌, Option, Result, Ok, Err, refl, sym, ◌∙◌, arith}
 use Rattle.depot_base.specs.Cursor.{Cursor}
 use Rattle.depot_base.specs.Reading.{Reads, ReadsBy}

@@ -3,7 +3,7 @@ use Rattle.std.proofs.Common.{◌≡◌, ℕ, zero, suc, ◌<◌, List, [], ◌�
 use Rattle.std.specs.List.{AllByRecursion}
 use Rattle.depot_base.specs.Membership.{IsIn}
 
--- ---- lists behind one another
+-- ---- lists one after another
 
 -- what is one of the first list is one of both
 pub in_left : {X : Type 0} (x : X) (xs ys : List X) → IsIn x xs → IsIn x (xs ++ ys)
@@ -22,7 +22,7 @@ in_parts x [] ys on = inr on
 in_parts x (y ∷ xs) ys (inl here) = inl (inl here)
 in_parts x (y ∷ xs) ys (inr there) = elim (in_parts x xs ys there) [ inl front ↦ inl (inr front) | inr back ↦ inr back ]
 
--- what is one of a list or the last behind it
+-- what is one of a list or the last after it
 pub in_pushed : {X : Type 0} (x : X) (xs : List X) (y : X) → IsIn x (xs ++ y ∷ []) → IsIn x xs ⊎ (y ≡ x)
 in_pushed x xs y on = elim (in_parts x xs (y ∷ []) on) [
   | inl front ↦ inl front
@@ -54,7 +54,7 @@ to_contains x [] never = absurd never
 to_contains x (y ∷ ys) (inl here) = (0, omega arith, here)
 to_contains x (y ∷ ys) (inr there) = let r = to_contains x ys there in (suc r.0, omega (arith, r.1), r.2)
 
--- what stands at a place is one of the list
+-- what is at a place is one of the list
 pub in_read : {X : Type 0} (x : X) (xs : List X) (k : ℕ) → k < length xs → get_or xs k x ≡ x → IsIn x xs
 in_read x [] k lt e = absurd (omega arith)
 in_read x (y ∷ ys) zero lt e = inl e

@@ -1,10 +1,10 @@
--- Texts of which the last has more bytes behind it.
+-- Texts of which the last has more bytes after it.
 use Rattle.std.proofs.Common.{◌≡◌, ◌<◌, ℕ, ◌+◌, zero, suc, List, [], ◌∷◌, ◌++◌, length, length-append, take, get_or, refl, sym, ◌∙◌, ap, arith, append-nil}
 use Rattle.depot_base.specs.File.{blocks, framed}
 use Rattle.depot_base.proofs.CallLaws.{framed_long}
 use Rattle.depot_base.specs.WithRest.{with_rest}
 
--- with nothing behind it they are as they are
+-- with nothing after it they are as they are
 pub rest_none : (texts : List (List ℕ)) → with_rest texts [] ≡ texts
 rest_none [] = refl
 rest_none (text ∷ []) = ap (λ (t : List ℕ). t ∷ []) (append-nil text)
@@ -23,7 +23,7 @@ rest_longer (text ∷ []) rest some = omega (arith, length-append (framed (text 
 rest_longer (text ∷ (next ∷ texts)) rest some =
     omega (arith, rest_longer (next ∷ texts) rest (omega arith), length-append (framed text) (blocks (with_rest (next ∷ texts) rest)), length-append (framed text) (blocks (next ∷ texts)))
 
--- the next record is the text at hand, with what stands behind it
+-- the next record is the given text, with what follows it
 pub rest_next : (texts : List (List ℕ)) (rest : List ℕ) (i : ℕ) (item head behind : List ℕ) → i < length texts → item ≡ get_or texts i item → head ≡ item → (i + 1 ≡ length texts → behind ≡ rest) → (i + 1 < length texts → behind ≡ [])
     → take (i + 1) (with_rest texts rest) ≡ take i (with_rest texts rest) ++ (head ++ behind) ∷ []
 rest_next [] rest i item head behind within is same last other = absurd (omega (arith, within))

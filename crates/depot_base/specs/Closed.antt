@@ -1,4 +1,5 @@
--- Formats of whole texts, whose last field may take all that is left. So one text of such a format may begin another.
+-- Formats of whole texts, whose last field may take all that is left. So one text of such a format may be a prefix of
+-- another.
 use Rattle.std.specs.Prelude.{◌≡◌, ℕ, ◌+◌, ◌<◌, ◌≤◌, ◌⊎◌, Bool, true, false, List, [], ◌++◌, length, Option, Result, Ok, Err, nat_lt, if◌then◌else◌}
 use Rattle.std.specs.Option.{option_map_or}
 use Rattle.depot_base.specs.Cursor.{Cursor}
@@ -9,16 +10,16 @@ pub record Closed (V : Type 0) : Type 1 where
   pub fits : V → Type 0
   -- that text
   pub text : V → List ℕ
-  -- the first fault of these bytes starts after so many of them
+  -- the first fault of these bytes starts after this many of them
   pub fault : List ℕ → ℕ → Type 0
-  -- what a reader takes of all that is left, or the offset of the fault
+  -- what a reader gets from all that is left, or the offset of the fault
   pub read : Cursor → Result V ℕ
 
--- a format with nothing behind it
+-- a format with nothing after it
 abbrev pub closing : {V : Type 0} → Format V → Closed V
 closing f = record { fits = f.fits; text = f.text; fault = FirstFault f; read = whole f }
 
--- all that is left, so many bytes at most
+-- all that is left, this many bytes at most
 unfoldable pub rest_of : ℕ → Closed (List ℕ)
 rest_of high = record {
   fits = λ v. length v ≤ high;
@@ -27,7 +28,7 @@ rest_of high = record {
   read = λ c. if nat_lt high (length c.rest) then Err (c.at + high) else Ok c.rest;
 }
 
--- A good field stands in front, and what takes the rest goes wrong.
+-- A good field comes first, and what takes the rest goes wrong.
 pub record ClosedLater {A V : Type 0} (first : Format A) (more : A → Closed V) (bytes : List ℕ) (at : ℕ) : Type 0 where
   pub value : A
   pub rest : List ℕ

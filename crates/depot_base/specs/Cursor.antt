@@ -1,4 +1,4 @@
--- Where a reader stands in a text, and the bytes of a number.
+-- Where a reader is in a text, and the bytes of a number.
 use Rattle.std.specs.Prelude.{ℕ, List, ◌+◌, drop}
 use Rattle.std.specs.Int.{Width, to_be_bytes}
 

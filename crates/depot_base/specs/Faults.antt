@@ -1,4 +1,4 @@
--- The faults of what stands outside, as a count that never falls.
+-- The faults of what is outside, as a count that never falls.
 use Rattle.std.specs.Prelude.{◌<◌, ◌≤◌, ℕ}
 
 -- The count never falls; a call that failed raised it, and no other call did.

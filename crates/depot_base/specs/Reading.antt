@@ -1,4 +1,4 @@
--- What a reader of a text answers.
+-- What a reader of a text returns.
 use Rattle.std.specs.Prelude.{◌≡◌, ℕ, ◌+◌, ◌^◌, ◌<◌, ◌≤◌, ◌⊎◌, List, ◌++◌, length, take, Option, Some, None, Result, Ok, Err}
 use Rattle.std.specs.Int.{Width, byte_len, from_be_bytes}
 use Rattle.depot_base.specs.Cursor.{Cursor, advanced}
@@ -19,7 +19,7 @@ abbrev pub TakesBytes : ℕ → Cursor → Option (List ℕ) → Cursor → Type
 TakesBytes n old (Some bytes) new = (n ≤ length old.rest) × (bytes ≡ take n old.rest) × (new ≡ advanced n old)
 TakesBytes n old None new = (length old.rest < n) × (new ≡ old)
 
--- the next n bytes as a text whose offsets go on, or nothing where fewer are left
+-- the next n bytes as a text whose offsets continue, or nothing where fewer are left
 abbrev pub TakesPart : ℕ → Cursor → Option Cursor → Cursor → Type 0
 TakesPart n old (Some part) new = (n ≤ length old.rest) × (part ≡ record { at = old.at; rest = take n old.rest }) × (new ≡ advanced n old)
 TakesPart n old None new = (length old.rest < n) × (new ≡ old)
@@ -29,7 +29,7 @@ pub record GoesOn (old new : Cursor) : Type 0 where
   pub onward : old.at ≤ new.at
   pub end : new.at + length new.rest ≡ old.at + length old.rest
 
--- behind what stood, some first bytes of the text were written, maybe none or all
+-- what was there is followed by some first bytes of the text, maybe none or all
 abbrev pub AddsFrontOf : List ℕ → List ℕ → List ℕ → Type 0
 AddsFrontOf old text new = (n : ℕ) × (new ≡ old ++ take n text)
 
@@ -39,7 +39,7 @@ ReadsBy view (Ok v) after read = read ≡ Ok (view v, after)
 ReadsBy view (Err Memory) after read = Unit {0}
 ReadsBy view (Err (At at)) after read = read ≡ Err at
 
--- the same of the value itself
+-- the same for the value itself
 abbrev pub Reads : {V : Type 0} → Result V Fault → Cursor → Result (V × Cursor) ℕ → Type 0
 Reads (Ok v) after read = read ≡ Ok (v, after)
 Reads (Err Memory) after read = Unit {0}
@@ -51,7 +51,7 @@ Gives (Ok v) read = read ≡ Ok v
 Gives (Err Memory) read = Unit {0}
 Gives (Err (At at)) read = read ≡ Err at
 
--- a fault is early enough to be told as a u32
+-- a fault is early enough to be reported as a u32
 abbrev pub IsEarly : {V : Type 0} → Result V Fault → Type 0
 IsEarly (Ok v) = Unit {0}
 IsEarly (Err Memory) = Unit {0}
@@ -67,7 +67,7 @@ decoded (Err (At at)) = Err (errors.IllFormed at)
 abbrev pub UnlessMemory : {V : Type 0} → Result V DecodeError → Result V DecodeError → Type 0
 UnlessMemory result answer = (result ≡ Err errors.Memory) ⊎ (result ≡ answer)
 
--- What decoding a text answers. Memory may run out in place of each answer.
+-- What decoding a text returns. Memory may come in place of each answer.
 pub record Decodes {V : Type 0} (f : Format V) (text : List ℕ) (result : Result V DecodeError) : Type 0 where
   -- what is given is a value with this text, and a value with this text is given
   pub found : (v : V) → result ≡ Ok v → f.fits v × (text ≡ f.text v)
@@ -76,7 +76,7 @@ pub record Decodes {V : Type 0} (f : Format V) (text : List ℕ) (result : Resul
   pub ill_formed : (at : ℕ) → result ≡ Err (errors.IllFormed at) → FirstFault f text at
   pub first : (at : ℕ) → FirstFault f text at → UnlessMemory result (Err (errors.IllFormed at))
 
--- The same of a format whose last field may take all that is left.
+-- The same for a format whose last field may take all that is left.
 pub record DecodesClosed {V : Type 0} (f : Closed V) (text : List ℕ) (result : Result V DecodeError) : Type 0 where
   -- what is given is a value with this text, and a value with this text is given
   pub found : (v : V) → result ≡ Ok v → f.fits v × (text ≡ f.text v)
@@ -85,7 +85,7 @@ pub record DecodesClosed {V : Type 0} (f : Closed V) (text : List ℕ) (result :
   pub ill_formed : (at : ℕ) → result ≡ Err (errors.IllFormed at) → f.fault text at
   pub first : (at : ℕ) → f.fault text at → UnlessMemory result (Err (errors.IllFormed at))
 
--- No text of a value begins a text of another value.
+-- No text of a value is a prefix of another value's text.
 abbrev pub IsPrefixFree : {V : Type 0} → Format V → Type 0
 IsPrefixFree {V} f = (v w : V) (x y : List ℕ) → f.fits v → f.fits w → f.text v ++ x ≡ f.text w ++ y → (v ≡ w) × (x ≡ y)
 
@@ -95,7 +95,7 @@ pub record IsReadInOneWay {V : Type 0} (f : Format V) : Type 0 where
   pub good : (v : V) (at : ℕ) → f.fits v → FirstFault f (f.text v) at → ⊥
   pub place : (text : List ℕ) (a b : ℕ) → FirstFault f text a → FirstFault f text b → a ≡ b
 
--- The same of a format whose last field may take all that is left.
+-- The same for a format whose last field may take all that is left.
 pub record IsClosedReadInOneWay {V : Type 0} (f : Closed V) : Type 0 where
   pub value : (v w : V) → f.fits v → f.fits w → f.text v ≡ f.text w → v ≡ w
   pub good : (v : V) (at : ℕ) → f.fits v → f.fault (f.text v) at → ⊥

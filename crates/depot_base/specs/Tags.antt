@@ -1,18 +1,18 @@
--- The bytes in front of frames and of records.
+-- The tag bytes before frames and before records' texts.
 use Rattle.std.specs.Prelude.{ℕ}
 use Rattle.depot_base.specs.declared.tags.FrameTag.{FrameTag}
 use Rattle.depot_base.specs.declared.tags.FrameTag.TheVariants as frame_tag
 use Rattle.depot_base.specs.declared.tags.RecordTag.{RecordTag}
 use Rattle.depot_base.specs.declared.tags.RecordTag.TheVariants as record_tag
 
--- the byte in front of a frame
+-- the byte before a frame
 abbrev pub frame_byte : FrameTag → ℕ
 frame_byte frame_tag.Proof = 1
 frame_byte frame_tag.Statement = 2
 frame_byte frame_tag.Value = 3
 frame_byte frame_tag.End = 4
 
--- the byte in front of a record's text
+-- the byte before a record's text
 abbrev pub record_byte : RecordTag → ℕ
 record_byte record_tag.Birth = 1
 record_byte record_tag.OwnPut = 2

@@ -98,7 +98,7 @@ impl Bytes {
         self.push_all(&n.to_be_bytes())
     }
 
-    /// The same bytes once more.
+    /// A copy of these bytes.
     pub fn copy(&self) -> Result<Bytes, Memory>
         ensures { IfOk result (λ b. b ≡ self.now) }
     {

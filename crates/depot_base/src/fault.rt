@@ -6,20 +6,20 @@ ghost use Rattle.depot_base.specs.Reading.{decoded, IsEarly};
 use crate::Memory;
 use std::alloc::{AllocError, AllocFailed};
 
-/// What a decoder answers for a text that it doesn't give a value for.
+/// Why a decoder gives no value for a text.
 #[derive(Clone, Copy, Debug, PartialEq, Eq)]
 pub enum DecodeError {
-    /// No memory was found.
+    /// Memory ran out.
     Memory,
-    /// The text is in no value's form. The number is the offset in bytes, from 0, of the first field that is cut short
-    /// or out of its range, or of the first byte after the last field.
+    /// The text isn't well formed. The number is the offset in bytes, from 0, of the first field that is cut short or
+    /// out of its range, or of the first byte after the last field.
     IllFormed(u32),
 }
 
-/// The same inside a reader, whose offsets are not cast yet.
+/// The same inside a reader, with an offset that isn't cast yet.
 #[derive(Clone, Copy, Debug, PartialEq, Eq)]
 pub enum Fault {
-    /// No memory was found.
+    /// Memory ran out.
     Memory,
     /// The first faulty field starts at this offset.
     At(usize),

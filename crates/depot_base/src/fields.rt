@@ -8,7 +8,7 @@ ghost use Rattle.depot_base.specs.Reading.{TakesNumber, TakesBytes, TakesPart};
 use crate::Hash32;
 use std::marker::Model;
 
-/// A text that is read from the left, seen as the offset reached and the bytes that are left. No call takes memory.
+/// A reader over a text, from left to right: the offset reached, and the bytes that are left. No call takes memory.
 #[derive(Debug, Drop)]
 pub struct Fields<'a> {
     rest: &'a [u8],
@@ -48,14 +48,15 @@ impl<'a> Fields<'a> {
         self.rest.is_empty()
     }
 
-    /// The bytes that are left, lent from the text. They stay left.
+    /// Borrows the bytes that are left, without taking them.
     pub fn rest(&self) -> &'a [u8]
         ensures { result.now ≡ self.now.rest }
     {
         self.rest
     }
 
-    /// Takes the next bytes, lent from the text. None, and nothing is taken, exactly where fewer are left.
+    /// Takes the next `count` bytes, borrowed from the text. Returns None, and takes nothing, exactly where fewer are
+    /// left.
     pub fn take_bytes(&mut self, count: usize) -> Option<&'a [u8]>
         ensures takes { TakesBytes count self.old (option_copied result) self.new }
         ensures length { IfSome result (λ bytes. length bytes.now ≡ count) }
@@ -69,8 +70,8 @@ impl<'a> Fields<'a> {
         Some(front)
     }
 
-    /// Takes the next bytes as a text of its own, whose offsets go on from here. None, and nothing is taken, exactly
-    /// where fewer are left.
+    /// Takes the next `count` bytes as a reader of their own, whose offsets continue from here. Returns None, and takes
+    /// nothing, exactly where fewer are left.
     pub fn take_part(&mut self, count: usize) -> Option<Fields<'a>>
         ensures { TakesPart count self.old result self.new }
     {
@@ -87,7 +88,7 @@ impl<'a> Fields<'a> {
         Some(part)
     }
 
-    /// Takes a byte. None, and nothing is taken, exactly where none is left.
+    /// Takes a byte. Returns None, and takes nothing, exactly where none is left.
     pub fn take_u8(&mut self) -> Option<u8>
         ensures { TakesNumber w8 self.old result self.new }
     {
@@ -95,7 +96,7 @@ impl<'a> Fields<'a> {
         Some(front[0])
     }
 
-    /// Takes a number of two bytes, the high one first. None, and nothing is taken, exactly where fewer are left.
+    /// Takes a number of two bytes, big-endian. Returns None, and takes nothing, exactly where fewer are left.
     pub fn take_u16(&mut self) -> Option<u16>
         ensures { TakesNumber w16 self.old result self.new }
     {
@@ -103,7 +104,7 @@ impl<'a> Fields<'a> {
         Some(u16::from_be_bytes([front[0], front[1]]))
     }
 
-    /// Takes a number of four bytes, the highest first. None, and nothing is taken, exactly where fewer are left.
+    /// Takes a number of four bytes, big-endian. Returns None, and takes nothing, exactly where fewer are left.
     pub fn take_u32(&mut self) -> Option<u32>
         ensures { TakesNumber w32 self.old result self.new }
     {
@@ -111,7 +112,7 @@ impl<'a> Fields<'a> {
         Some(u32::from_be_bytes([front[0], front[1], front[2], front[3]]))
     }
 
-    /// Takes a number of eight bytes, the highest first. None, and nothing is taken, exactly where fewer are left.
+    /// Takes a number of eight bytes, big-endian. Returns None, and takes nothing, exactly where fewer are left.
     pub fn take_u64(&mut self) -> Option<u64>
         ensures { TakesNumber w64 self.old result self.new }
     {
@@ -121,7 +122,7 @@ impl<'a> Fields<'a> {
         ]))
     }
 
-    /// Takes 32 bytes. None, and nothing is taken, exactly where fewer are left.
+    /// Takes 32 bytes. Returns None, and takes nothing, exactly where fewer are left.
     pub fn take_hash(&mut self) -> Option<Hash32>
         ensures { TakesBytes 32 self.old result self.new }
     {

@@ -9,7 +9,7 @@ ghost use Rattle.depot_base.specs.Zeros.{zeros};
 use std::hash::{Hash, Hasher};
 use std::marker::Model;
 
-/// 32 bytes: a digest, or an id, which is the digest of a body. They are compared from the left.
+/// 32 bytes: a digest, or an id, which is the digest of a body. They compare bytewise from the left.
 #[derive(Clone, Copy, Debug, PartialEq, Eq, PartialOrd, Ord)]
 pub struct Hash32([u8; 32]);
 
@@ -64,7 +64,7 @@ impl Hash32 {
     }
 }
 
-/// A table hashes the 32 bytes at once: the derived body would hash them one by one.
+/// A hash table hashes the 32 bytes at once: the derived body would hash them one by one.
 impl Hash for Hash32 {
     ghost hash_input = { λ digest. digest ∷ [] };
 

@@ -1,10 +1,10 @@
-//! What a call answers where memory runs out, or where bytes have the wrong length.
+//! What a call returns where memory runs out, or where bytes have the wrong length.
 ghost use Rattle.std.specs.Prelude.{◌≡◌};
 ghost use Rattle.depot_base.specs.declared.memory.LengthError.TheVariants as length_error;
 
 use std::alloc::{AllocError, AllocFailed};
 
-/// No memory was found. It is the one answer that may come in place of any other of a call that allocates.
+/// Memory ran out. Any call that allocates may return it in place of any other answer.
 #[derive(Clone, Copy, Debug, PartialEq, Eq)]
 pub struct Memory;
 
@@ -23,9 +23,9 @@ impl<T: Drop> From<AllocFailed<T>> for Memory {
 /// Why bytes make no key or value.
 #[derive(Clone, Copy, Debug, PartialEq, Eq)]
 pub enum LengthError {
-    /// No memory was found.
+    /// Memory ran out.
     Memory,
-    /// So many bytes were given, which is outside the type's range.
+    /// The number of bytes that were given, which is outside the type's range.
     Length(usize),
 }
 

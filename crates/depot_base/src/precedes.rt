@@ -4,8 +4,8 @@ ghost use Rattle.std.specs.Prelude.{◌≡◌, ◌+◌, ◌↔◌, ◌⊎◌, �
 use crate::Steps;
 use std::sync::ledger::Ledger;
 
-/// Which of two items precedes the other, and in which order items are listed. On the items in use the first is a strict
-/// partial order and the second a strict total one. No call takes memory.
+/// Which of two items precedes the other, and in which order items are listed. On the items in use the first is a
+/// strict partial order, the second a strict total order. No call takes memory.
 pub trait Precedes {
     /// The items in use.
     ghost has: { Self → ℕ → Type 0 };
@@ -32,13 +32,13 @@ pub trait Precedes {
     /// No item precedes itself.
     ghost precedes_no_self: { (p : Self) (a : ℕ) → has p a → precedes p a a → ⊥ };
 
-    /// What precedes an item precedes all that it precedes.
+    /// What precedes an item precedes whatever that item precedes.
     ghost precedes_on: { (p : Self) (a b c : ℕ) → has p a → has p b → has p c → precedes p a b → precedes p b c → precedes p a c };
 
     /// No item is listed before itself.
     ghost lists_no_self: { (p : Self) (a : ℕ) → has p a → listed p a a → ⊥ };
 
-    /// What is listed before an item is listed before all behind it.
+    /// What is listed before an item is listed before whatever is listed after that item.
     ghost lists_on: { (p : Self) (a b c : ℕ) → has p a → has p b → has p c → listed p a b → listed p b c → listed p a c };
 
     /// Of two items one is listed before the other.

@@ -1,6 +1,6 @@
-//! Readers of the fields that texts are made of. Each takes what its format's table says, or gives the offset of the
-//! field that is cut short or out of its range. After an error the field may have been passed; what is left of the text still
-//! ends where it did.
+//! Readers of the fields that texts are made of. Each reads what its format's table says, or reports the offset of the
+//! field that is cut short or out of its range. After an error the field may have been consumed; what is left of the
+//! text still ends where it did.
 ghost use Rattle.std.specs.Prelude.{◌≡◌, ◌≤◌, length, IfOk, Result, Ok, Err, ◌==◌, if◌then◌else◌};
 ghost use Rattle.std.specs.Int.{w8, w16, w32, w64};
 ghost use Rattle.depot_base.specs.declared.fault.Fault.TheVariants.{At};
@@ -12,7 +12,7 @@ use crate::fault::Fault;
 use crate::{Bytes, Fields, Hash32, NodeId};
 use std::alloc::Global;
 
-/// A byte from low to high.
+/// Reads a byte from low to high.
 #[tactic(auto, unfolding(crate::specs::Format::number))]
 pub fn u8_in(fields: &mut Fields<'_>, low: u8, high: u8) -> Result<u8, Fault>
     ensures stays { GoesOn fields.old fields.new }
@@ -26,7 +26,7 @@ pub fn u8_in(fields: &mut Fields<'_>, low: u8, high: u8) -> Result<u8, Fault>
     }
 }
 
-/// A number of two bytes from low to high.
+/// Reads a number of two bytes from low to high.
 #[tactic(auto, unfolding(crate::specs::Format::number))]
 pub fn u16_in(fields: &mut Fields<'_>, low: u16, high: u16) -> Result<u16, Fault>
     ensures stays { GoesOn fields.old fields.new }
@@ -40,7 +40,7 @@ pub fn u16_in(fields: &mut Fields<'_>, low: u16, high: u16) -> Result<u16, Fault
     }
 }
 
-/// A number of four bytes from low to high.
+/// Reads a number of four bytes from low to high.
 #[tactic(auto, unfolding(crate::specs::Format::number))]
 pub fn u32_in(fields: &mut Fields<'_>, low: u32, high: u32) -> Result<u32, Fault>
     ensures stays { GoesOn fields.old fields.new }
@@ -54,7 +54,7 @@ pub fn u32_in(fields: &mut Fields<'_>, low: u32, high: u32) -> Result<u32, Fault
     }
 }
 
-/// A number of eight bytes from low to high.
+/// Reads a number of eight bytes from low to high.
 #[tactic(auto, unfolding(crate::specs::Format::number))]
 pub fn u64_in(fields: &mut Fields<'_>, low: u64, high: u64) -> Result<u64, Fault>
     ensures stays { GoesOn fields.old fields.new }
@@ -68,7 +68,7 @@ pub fn u64_in(fields: &mut Fields<'_>, low: u64, high: u64) -> Result<u64, Fault
     }
 }
 
-/// So many bytes, copied.
+/// Reads `count` bytes and copies them.
 #[tactic(auto, unfolding(crate::specs::Format::bytes_of))]
 pub fn bytes_in(alloc: Global, fields: &mut Fields<'_>, count: usize) -> Result<Bytes, Fault>
     ensures stays { GoesOn fields.old fields.new }
@@ -82,7 +82,7 @@ pub fn bytes_in(alloc: Global, fields: &mut Fields<'_>, count: usize) -> Result<
     }
 }
 
-/// The number of a node.
+/// Reads the number of a node.
 pub fn node_in(fields: &mut Fields<'_>) -> Result<NodeId, Fault>
     ensures stays { GoesOn fields.old fields.new }
     ensures reads { Reads result fields.new (node_number.read fields.old) }
@@ -95,7 +95,7 @@ pub fn node_in(fields: &mut Fields<'_>) -> Result<NodeId, Fault>
     }
 }
 
-/// A digest.
+/// Reads a digest.
 #[tactic(auto, unfolding(crate::specs::Format::bytes_of))]
 pub fn hash_in(fields: &mut Fields<'_>) -> Result<Hash32, Fault>
     ensures stays { GoesOn fields.old fields.new }
@@ -105,7 +105,7 @@ pub fn hash_in(fields: &mut Fields<'_>) -> Result<Hash32, Fault>
     fields.take_hash().ok_or(Fault::At(at))
 }
 
-/// The value that was read, where no byte is left behind it.
+/// Returns the value that was read, where no byte is left after it.
 pub fn at_end<V: Drop>(fields: &Fields<'_>, value: V) -> Result<V, Fault>
     ensures { result ≡ (if length fields.now.rest == 0 then Ok value else Err (At fields.now.at)) }
 {

@@ -46,7 +46,7 @@ impl Key {
         self.0.as_slice()
     }
 
-    /// The same key once more.
+    /// A copy of the key.
     pub fn copy(&self) -> Result<Key, Memory>
         ensures { IfOk result (λ k. k ≡ self.now) }
     {
@@ -93,7 +93,7 @@ impl Value {
         self.0.as_slice()
     }
 
-    /// The same value once more.
+    /// A copy of the value.
     pub fn copy(&self) -> Result<Value, Memory>
         ensures { IfOk result (λ v. v ≡ self.now) }
     {

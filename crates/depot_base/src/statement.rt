@@ -34,7 +34,7 @@ impl Statement {
         }
     }
 
-    /// The same statement once more.
+    /// A copy of the statement.
     pub fn copy(&self) -> Result<Statement, Memory>
         ensures { IfOk result (λ s. s ≡ self.now) }
     {
@@ -45,8 +45,8 @@ impl Statement {
     }
 }
 
-/// A statement with its signature. Where it comes from a decoder, `body` is the text of `statement`; each call that
-/// takes one has this as its condition.
+/// A signed statement. Where a decoder made it, `body` is the text of `statement`; each call that takes one requires
+/// this.
 #[derive(Debug, Drop)]
 pub struct Signed {
     /// The statement.
@@ -58,7 +58,7 @@ pub struct Signed {
 }
 
 impl Signed {
-    /// The same once more.
+    /// A copy of the statement, its text and its signature.
     pub fn copy(&self) -> Result<Signed, Memory>
         ensures { IfOk result (λ s. s ≡ self.now) }
     {

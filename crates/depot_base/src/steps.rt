@@ -4,8 +4,8 @@ ghost use Rattle.std.specs.Prelude.{◌≡◌, ◌+◌, ◌<◌, ℕ};
 use std::marker::Model;
 use std::sync::ledger::{Blank, Book, Ledger, Share};
 
-/// How many steps were taken, for any ledger. Only `tick` changes it, so a call whose contract says by how much it rises has
-/// taken so many steps. A step is one test of precedence between two updates.
+/// How many steps were taken, for any ledger. Only `tick` changes the count, so a call whose contract says by how much
+/// it rises has taken that many steps. A step is one test of precedence between two updates.
 #[derive(Drop)]
 pub struct Steps<L: Ledger> {
     book: Book<L>,

@@ -1,8 +1,8 @@
-//! The bytes in front of frames and of records, which say what stands behind them.
+//! The tag bytes before frames and before records' texts, which say what follows.
 ghost use Rattle.std.specs.Prelude.{◌≡◌, ◌<◌, ◌⊎◌, ◌↔◌, IsNone, IfSome};
 ghost use Rattle.depot_base.specs.Tags.{frame_byte, record_byte};
 
-/// What a frame's payload is. Its byte, 1 to 4, stands in front of the frame.
+/// The kind of a frame's payload. Its byte, 1 to 4, begins the frame.
 #[derive(Clone, Copy, Debug, PartialEq, Eq)]
 pub enum FrameTag {
     /// A proof: 1.
@@ -11,7 +11,7 @@ pub enum FrameTag {
     Statement,
     /// A value: 3.
     Value,
-    /// End, which says whether more was to be sent: 4.
+    /// End, which says whether there was more to send: 4.
     End,
 }
 
@@ -28,7 +28,7 @@ impl FrameTag {
         }
     }
 
-    /// The tag of this byte. 0 and what is above 4 are no tag's.
+    /// The tag of this byte. None exactly for 0 and for bytes above 4.
     pub fn of(byte: u8) -> Option<FrameTag>
         ensures some { IfSome result (λ tag. frame_byte tag ≡ byte) }
         ensures none { IsNone result ↔ ((byte ≡ 0) ⊎ (4 < byte)) }
@@ -43,7 +43,7 @@ impl FrameTag {
     }
 }
 
-/// Which kind of record stands behind the byte in front of its text, 1 to 6.
+/// The kind of a record: the byte before its text, 1 to 6.
 #[derive(Clone, Copy, Debug, PartialEq, Eq)]
 pub enum RecordTag {
     /// A node's birth: 1.
@@ -75,7 +75,7 @@ impl RecordTag {
         }
     }
 
-    /// The tag of this byte. 0 and what is above 6 are no tag's.
+    /// The tag of this byte. None exactly for 0 and for bytes above 6.
     pub fn of(byte: u8) -> Option<RecordTag>
         ensures some { IfSome result (λ tag. record_byte tag ≡ byte) }
         ensures none { IsNone result ↔ ((byte ≡ 0) ⊎ (6 < byte)) }

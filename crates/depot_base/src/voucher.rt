@@ -3,19 +3,20 @@ ghost use Rattle.std.specs.Prelude.{◌≡◌, ◌↔◌, IsTrue, IfOk};
 
 use crate::{Hash32, Ids, Memory, NodeId};
 
-/// A list of updates that a node says it has accepted, as it signs it. A faulty node may name any ids.
+/// A signed list of updates that a node says it has accepted. A faulty node may name any ids. To vouch is the article's
+/// word too.
 #[derive(Debug, Drop)]
 pub struct Voucher {
     /// Who vouches.
     pub node: NodeId,
-    /// Which of its node's statements it is, from 0. It is the one-time leaf that signs it.
+    /// The seq: which of its node's statements it is, from 0. The one-time leaf of this number signs it.
     pub seq: u32,
     /// The ids of the updates, 1 to 256, rising strictly.
     pub ids: Ids,
 }
 
 impl Voucher {
-    /// The same voucher once more.
+    /// A copy of the voucher.
     pub fn copy(&self) -> Result<Voucher, Memory>
         ensures { IfOk result (λ v. v ≡ self.now) }
     {

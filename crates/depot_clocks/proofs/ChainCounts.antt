@@ -50,7 +50,7 @@ starts_next items x c n first = elim (cases_lt x.chain (number_of_chains items))
   | inr high ↦ omega (arith, n.chain)
 ]
 
--- an item that goes on goes on with a chain that is there
+-- an item that continues a chain continues one that is there
 pub goes_on : (items : List ChainItem) (x : ChainItem) → AreChained items → IsNext items x → 0 < x.place → x.chain < number_of_chains items
 goes_on items x c n later = elim (cases_lt x.chain (number_of_chains items)) [
   | inl low ↦ low
@@ -74,7 +74,7 @@ parents_next items x c n item y k at low = elim (from_pushed items x item y at) 
       subst Low h.1 last low
 ]
 
--- an item stands where it stood
+-- an item stays at its place
 pub stands_more : (items : List ChainItem) (x : ChainItem) (item chain place : ℕ) → IsChainItemAt items item chain place → IsChainItemAt (items ++ x ∷ []) item chain place
 stands_more items x item chain place (y, (at, is)) = (y, (to_pushed items x item y at, is))
 

@@ -92,7 +92,7 @@ whole row before at step len e = rw (take_all (length row - at) (drop at row) (o
 whole_none : (row before : List ℕ) (at : ℕ) → length row ≡ length before → first_above (take (length row - at) (drop at row)) (take (length before - at) (drop at before)) ≡ None → first_above (drop at row) (drop at before) ≡ None
 whole_none row before at len e = rw (take_all (length row - at) (drop at row) (omega (arith, length-drop at row)), take_all (length before - at) (drop at before) (omega (arith, length-drop at before))) at e
 
--- the place that is found behind some
+-- the place that is found after some
 pub first_from : (row before : List ℕ) (at step : ℕ) → length row ≡ length before → at ≤ length row → first_above (take (length row - at) (drop at row)) (take (length before - at) (drop at before)) ≡ Some step → IsFirstFrom row before at (at + step)
 first_from row before at step len inside e =
     let found = first_above-Some (drop at row) (drop at before) step (same_length row before at len) (whole row before at step len e) in
@@ -106,7 +106,7 @@ first_from row before at step len inside e =
           subst (λ (j : ℕ). get_or row j 0 ≤ get_or before j 0) here (rw (get_or-drop at row (k - at) 0, get_or-drop at before (k - at) 0) at le);
     }
 
--- none is found behind some
+-- none is found after some
 pub none_from : (row before : List ℕ) (at : ℕ) → length row ≡ length before → at ≤ length row → first_above (take (length row - at) (drop at row)) (take (length before - at) (drop at before)) ≡ None → NoneAbove row before at (length row)
 none_from row before at len inside e k ge lt =
     let here : at + (k - at) ≡ k = omega arith in

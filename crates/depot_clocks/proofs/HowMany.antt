@@ -9,7 +9,7 @@ use Rattle.depot_clocks.specs.ChainItems.{ChainItem, IsChainItemAt, chain_length
 use Rattle.depot_clocks.specs.KeptRows.{AreChained}
 use Rattle.depot_clocks.proofs.ItemPaths.{standing, up_to_low}
 
--- at each place of a chain stands one item
+-- each place of a chain has one item
 one_at : (items : List ChainItem) (a b chain place : ℕ) → AreChained items → IsChainItemAt items a chain place → IsChainItemAt items b chain place → a ≡ b
 one_at items a b chain place c is_a is_b =
     let at_a = standing items a chain place is_a in
@@ -19,7 +19,7 @@ one_at items a b chain place c is_a is_b =
     let high = up_to_low items b a c (c.linked b a at_b.it at_a.it at_b.at at_a.at (sym same) (omega (arith, at_a.at_place, at_b.at_place))) in
     omega (arith, low, high)
 
--- an item stands at one place
+-- an item is at one place
 one_place : (items : List ChainItem) (a chain i j : ℕ) → IsChainItemAt items a chain i → IsChainItemAt items a chain j → i ≡ j
 one_place items a chain i j is_i is_j =
     let at_i = standing items a chain i is_i in

@@ -18,11 +18,11 @@ pub record Standing (items : List ChainItem) (item chain place : ℕ) : Type 0 w
 pub standing : (items : List ChainItem) (item chain place : ℕ) → IsChainItemAt items item chain place → Standing items item chain place
 standing items item chain place (x, (at, (of_chain, at_place))) = record { it = x; at = at; of_chain = of_chain; at_place = at_place }
 
--- where an element that a list of numbers contains stands
+-- where an element that a list of numbers contains is
 pub contained_at : (ps : List ℕ) (p : ℕ) → Contains ps p → (k : ℕ) × ((k < length ps) × (get_or ps k 0 ≡ p))
 contained_at ps p on = (on.0, (on.1, get_or_default ps on.0 0 p on.1 ∙ on.2))
 
--- what stands at a place is contained
+-- what is at a place is contained
 pub contains_at : (ps : List ℕ) (k : ℕ) → k < length ps → Contains ps (get_or ps k 0)
 contains_at ps k low = (k, low, get_or_default ps k (get_or ps k 0) 0 low)
 

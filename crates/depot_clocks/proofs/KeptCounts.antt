@@ -26,12 +26,12 @@ row_of items kept chains item k row keeps low is row_is = subst (KeepsRow items 
 
 -- ---- counts
 
--- what an entry tells
+-- what an entry says
 pub count_by_entry : (items : List ChainItem) (item behind : ℕ) (entries : List RowEntry) (chain n : ℕ) → IsChangedRow items item behind entries → HasCount entries chain n → IsCount items chain item n
 count_by_entry items item behind entries chain n row has =
     subst (λ (c : ℕ). IsCount items c item n) has.of_chain (subst (IsCount items has.entry.chain item) has.counts (row.counts has.place has.entry has.at))
 
--- what another row tells, where no entry does
+-- what another row says, where no entry does
 pub count_from_behind : (items : List ChainItem) (item behind : ℕ) (entries : List RowEntry) (chain n : ℕ) → AreChained items → IsChangedRow items item behind entries → (HasEntry entries chain → ⊥) → IsCount items chain behind n → IsCount items chain item n
 count_from_behind items item behind entries chain n c row none count =
     let r = row.same chain none in
@@ -116,7 +116,7 @@ not_within items item behind entries given result c row told no_ = (
   (λ all. told (entries_within items item behind entries given c row all)),
 )
 
--- what is joined with the row behind and raised to the entries is joined with the row
+-- what is joined with the row after and raised to the entries is joined with the row
 pub joined_changed : (items : List ChainItem) (item behind : ℕ) (entries : List RowEntry) (old joined new : List ℕ) (chain : ℕ) → AreChained items → IsChangedRow items item behind entries → IsJoinedCount items behind chain (get_or old chain 0) (get_or joined chain 0) → AreRaised entries joined new
     → IsJoinedCount items item chain (get_or old chain 0) (get_or new chain 0)
 joined_changed items item behind entries old joined new chain c row before raised =

@@ -25,7 +25,7 @@ lent_whole {X = X} n old new whole same =
     let none : drop (length new) old ≡ [] = drop_all (length new) old (omega (arith, same)) in
     ap (λ (rest : List X). take n (new ++ rest)) none ∙ (ap (take n) (append-nil new) ∙ take_all n new (omega (arith, whole, same)))
 
--- a front that was lent comes back, joined with another row; behind it that row has no entries
+-- a prefix that was lent comes back, joined with another row; after it that row has no entries
 pub joined_front : (old other new : List ℕ) → length other ≤ length old → new ≡ greater_of_each (take (length other) old) other → (k : ℕ) → get_or (new ++ drop (length other) old) k 0 ≡ max (get_or old k 0) (get_or other k 0)
 joined_front old other new few is k =
     let n = length other in

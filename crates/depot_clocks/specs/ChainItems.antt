@@ -1,7 +1,7 @@
 -- Items in chains, each with the earlier items that are its parents.
 use Rattle.std.specs.Prelude.{◌≡◌, ◌≤◌, ◌<◌, ◌-◌, ◌==◌, ℕ, zero, suc, List, Some, slice_get, slice_index, count_by, length, ◌≢◌, AllPairs, Contains}
 
--- an item: its chain, how many items of the chain stand before it, and the items that are its parents
+-- an item: its chain, how many items of the chain come before it, and the items that are its parents
 pub record ChainItem : Type 0 where
   pub chain : ℕ
   pub place : ℕ
@@ -13,7 +13,7 @@ pub record ChainItem : Type 0 where
 abbrev pub IsParentOf : List ChainItem → ℕ → ℕ → Type 0
 IsParentOf items p item = (x : ChainItem) × ((slice_get items item ≡ Some x) × Contains x.parents p)
 
--- So many steps to a parent lead from an item to another.
+-- This many steps to a parent lead from an item to another.
 abbrev pub LeadsTo : List ChainItem → ℕ → ℕ → ℕ → Type 0
 LeadsTo items zero from to = from ≡ to
 LeadsTo items (suc steps) from to = (p : ℕ) × (IsParentOf items p from × LeadsTo items steps p to)
@@ -28,7 +28,7 @@ IsUpTo items a b = (steps : ℕ) × LeadsTo items steps b a
 
 -- ---- chains
 
--- the item stands at this place of this chain
+-- the item is at this place of this chain
 abbrev pub IsChainItemAt : List ChainItem → ℕ → ℕ → ℕ → Type 0
 IsChainItemAt items item chain place = (x : ChainItem) × ((slice_get items item ≡ Some x) × ((x.chain ≡ chain) × (x.place ≡ place)))
 
@@ -70,7 +70,7 @@ pub record IsOfPast (items : List ChainItem) (chain item a : ℕ) : Type 0 where
   pub of_chain : it.chain ≡ chain
   pub up_to : IsUpTo items a item
 
--- a fact holds of n numbers: of these, which are different, and of no others
+-- a fact holds of exactly n different numbers
 pub record IsTrueOf (P : ℕ → Type 0) (n : ℕ) : Type 0 where
   pub numbers : List ℕ
   pub all : (a : ℕ) → P a → Contains numbers a
@@ -78,7 +78,7 @@ pub record IsTrueOf (P : ℕ → Type 0) (n : ℕ) : Type 0 where
   pub apart : AllPairs (λ a b. a ≢ b) numbers
   pub many : length numbers ≡ n
 
--- each item that is this one or precedes it stands, in its chain, at a place below the row's entry
+-- each item that is this one or precedes it is, in its chain, at a place below the row's entry
 abbrev pub CountsAll : List ChainItem → ℕ → List ℕ → Type 0
 CountsAll items item row = (a : ℕ) (x : ChainItem) → slice_get items a ≡ Some x → IsUpTo items a item → x.place < slice_index row x.chain
 

@@ -8,7 +8,7 @@ use Rattle.depot_clocks.specs.declared.row.KeptRow.{KeptRow}
 
 -- ---- items that fit
 
--- What holds of items that were added one behind the other, each where it belongs.
+-- What holds of items that were added one after another, each at its place.
 pub record AreChained (items : List ChainItem) : Type 0 where
   pub parents : (item : ℕ) (x : ChainItem) (k : ℕ) → slice_get items item ≡ Some x → k < length x.parents → slice_index x.parents k < item
   pub placed : (item : ℕ) (x : ChainItem) → slice_get items item ≡ Some x → x.place < chain_length items x.chain
@@ -17,7 +17,7 @@ pub record AreChained (items : List ChainItem) : Type 0 where
   pub counted : (chain : ℕ) → number_of_chains items ≤ chain → chain_length items chain ≡ 0
   pub linked : (a b : ℕ) (x y : ChainItem) → slice_get items a ≡ Some x → slice_get items b ≡ Some y → x.chain ≡ y.chain → x.place ≤ y.place → IsUpTo items a b
 
--- x fits behind these items
+-- x fits after these items
 pub record IsNext (items : List ChainItem) (x : ChainItem) : Type 0 where
   pub parents : (k : ℕ) → k < length x.parents → slice_index x.parents k < length items
   pub chain : x.chain ≤ number_of_chains items
@@ -97,7 +97,7 @@ pub record IsWholeRow (items : List ChainItem) (item : ℕ) (row : List ℕ) : T
   pub few : length row ≤ number_of_chains items
   pub counts : (chain : ℕ) → IsCount items chain item (slice_index row chain)
 
--- the row of the item is that of another that it leads to, but for these entries
+-- the row of the item is that of another that it leads to, except for these entries
 pub record IsChangedRow (items : List ChainItem) (item behind : ℕ) (entries : List RowEntry) : Type 0 where
   pub earlier : behind < item
   pub leads : IsUpTo items behind item
@@ -123,7 +123,7 @@ pub record KeepsItems (items : List ChainItem) (kept : List KeptRow) (chains : �
   pub numbered : chains ≡ number_of_chains items
   pub few : length items < 2 ^ 32
 
--- a row, kept as that of another item but for the entries that are above it
+-- a row, kept as the difference from another item's row: the entries that are above
 abbrev pub IsChangedFrom : List ChainItem → ℕ → List ℕ → Row → Type 0
 IsChangedFrom items behind row (Whole other) = ⊥
 IsChangedFrom items behind row (Changed from entries) = (from ≡ behind) × ((before : List ℕ) × (IsRowOf items behind before × AreAbove row before (length row) entries.items))

@@ -6,10 +6,10 @@ ghost use Rattle.depot_clocks.specs.ChainItems.{ChainItem};
 use std::fmt;
 use std::marker::Model;
 
-/// The items that were added, each with its chain, its place there and its parents. Contracts alone see them, so they take
-/// no bytes: what is asked of them, the rows tell.
+/// The items that were added, each with its chain, its place there and its parents. Contracts alone see them, so they
+/// take no bytes: the rows answer what is asked of them.
 ///
-/// No memory holds them: what keeps them are the contracts of `new` and `note`, which are proved by hand.
+/// No memory holds them: they are kept by the contracts of `new` and `note`, which are proved by hand.
 #[derive(Drop)]
 pub struct Added {
     pub ghost items: { List ChainItem },

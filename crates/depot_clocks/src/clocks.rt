@@ -14,15 +14,17 @@ use std::alloc::Global;
 use std::marker::Model;
 use std::sync::ledger::Ledger;
 
-/// Which places of a chain keep whole rows: those that it divides. A question on an item looks at no more items than this.
+/// Each place of a chain that this number divides keeps a whole row. A query on an item looks at no more items than
+/// this.
 const WHOLE: u32 = 32;
 
-/// Items in chains, numbered from 0 in the order in which they were added, and which of them precedes which.
+/// Items in chains, numbered from 0 in the order in which they were added, and which of them precedes which. A chain is
+/// a virtual writer, the article's virtual node.
 #[derive(Debug, Drop)]
 pub struct Clocks {
     kept: Vec<KeptRow>,
     chains: u32,
-    /// The joined row that was kept last, if no item was added since.
+    /// The joined row that was kept last, unless an item was added since.
     joined: Option<Joined>,
     added: Added,
 }
@@ -59,10 +61,10 @@ impl Clocks {
         }
     }
 
-    /// Adds an item behind the others. After Memory the items are as before.
+    /// Appends an item. On `Memory` the items are unchanged.
     ///
-    /// Its parents are among the items. It stands behind the last item of its chain, and that is one of its parents; or it
-    /// is the first of the next chain. Fewer than 4,294,967,295 items are here.
+    /// Its parents are among the items. It follows the last item of its chain, which is one of its parents; or it is
+    /// the first of the next chain. There are fewer than 4,294,967,295 items.
     pub fn add(&mut self, chain: u32, place: u32, parents: &[u32]) -> Result<(), Memory>
         requires few { length self.old < 4294967295 }
         requires parents { All (λ p. p < length self.old) parents.now }
@@ -92,15 +94,15 @@ impl Clocks {
         kept.place < self.count_of(b, kept.chain)
     }
 
-    /// Writes the row of an item: of each chain, how many of its items are the item or precede it. The given row has one
-    /// entry for each chain. It takes no memory.
+    /// Writes the row of an item: for each chain, how many of its items are the item or precede it. The given row has
+    /// one entry for each chain. It takes no memory.
     pub fn row_into(&self, item: u32, row: &mut [u32])
         requires item { item < length self.now }
         requires row { length row.old ≡ number_of_chains self.now }
         ensures many { EachIndex row.new (λ chain. IsTrueOf (IsOfPast self.now chain item) (slice_index row.new chain)) }
         ensures counts { EachIndex row.new (λ chain. IsCount self.now chain item (slice_index row.new chain)) }
     {
-        // The clauses rest on what always holds of the fields, which this opens.
+        // The clauses rest on the invariant of the fields, which this opens.
         let _ = &self.kept;
         self.fill_row(item, row);
     }
@@ -120,15 +122,15 @@ impl Clocks {
         }
     }
 
-    /// Whether no entry of an item's row is above that of the given one, which has one entry for each chain: so whether the
-    /// given row counts the item and all that precede it. It takes no memory.
+    /// Whether no entry of an item's row is above that of the given one, which has one entry for each chain: that is,
+    /// whether the given row counts the item and all that precede it. It takes no memory.
     pub fn within(&self, item: u32, row: &[u32]) -> bool
         requires item { item < length self.now }
         requires row { length row.now ≡ number_of_chains self.now }
         ensures rows { IsTrue result ↔ IsWithin self.now item row.now }
         ensures counts { IsTrue result ↔ CountsAll self.now item row.now }
     {
-        // The clauses rest on what always holds of the fields, which this opens.
+        // The clauses rest on the invariant of the fields, which this opens.
         let _ = &self.kept;
         self.is_counted(item, row)
     }
@@ -147,7 +149,7 @@ impl Clocks {
         }
     }
 
-    /// The rows of these items, joined: at each chain how many of its items are one of these or precede one.
+    /// The joined rows of these items: for each chain, how many of its items are one of these or precede one.
     pub fn joined(&self, items: &[u32]) -> Result<Vec<u32>, Memory>
         requires { All (λ p. p < length self.now) items.now }
         ensures joined { IfOk result (λ row. IsRowJoined self.now items.now row.items) }
@@ -159,8 +161,8 @@ impl Clocks {
         Ok(row)
     }
 
-    /// Keeps the joined row of these items till an item is added: if that has them as its parents, their rows aren't joined
-    /// again. It takes no memory.
+    /// Keeps the joined row of these items until an item is added. If that item has these as its parents, their rows
+    /// aren't joined again. It takes no memory.
     pub fn keep_joined(&mut self, items: Vec<u32>, row: Vec<u32>)
         requires { IsRowJoined self.old items.items row.items }
         ensures { self.new ≡ self.old }
@@ -168,8 +170,8 @@ impl Clocks {
         self.joined = Some(Joined { items, row });
     }
 
-    /// The rows of these items, joined: what was kept, if it is theirs. No joined row is kept then. What always holds of the
-    /// items is told beside it.
+    /// The joined rows of these items: what was kept, if it is theirs. No joined row is kept after the call. The
+    /// invariant of the items is returned with it.
     fn take_joined(&mut self, items: &[u32]) -> Result<Vec<u32>, Memory>
         requires { All (λ p. p < length self.old) items.now }
         ensures joined { IfOk result (λ row. IsRowJoined self.old items.now row.items) }
@@ -182,7 +184,7 @@ impl Clocks {
         }
     }
 
-    /// Joins the row of an item into another. What is kept of it is read once, and no entry behind its end.
+    /// Joins the row of an item into another. What is kept of it is read once, and no entry past its end.
     fn join_with(&self, item: u32, row: &mut [u32])
         requires item { item < length self.now }
         requires row { length row.old ≡ number_of_chains self.now }
@@ -239,8 +241,8 @@ impl Clocks {
         None
     }
 
-    /// What is kept of the next item's row: at each place that `WHOLE` divides the whole of it, else where it differs from
-    /// that of the item before it in its chain.
+    /// What is kept of the next item's row: the whole row at each place that `WHOLE` divides, else the entries in which
+    /// it differs from the row of the item before it in its chain.
     fn kept_row(
         &self,
         chain: u32,
@@ -258,7 +260,7 @@ impl Clocks {
         }
     }
 
-    /// A row as that of an item, but for the entries that are above.
+    /// A row as the difference from an item's row: the entries that are above.
     fn changed_row(&self, behind: u32, row: &[u32]) -> Result<Row, Memory>
         requires item { behind < length self.now }
         requires row { length row.now ≡ number_of_chains self.now }

@@ -1,4 +1,4 @@
-//! What is kept of an item, and what is done with its row.
+//! What is kept of an item, and the operations on its row.
 ghost use Rattle.std.specs.Prelude.{◌≡◌, ◌≤◌, ◌<◌, ◌↔◌, ℕ, length, max, slice_index, IsTrue, IfOk, IfSome, IfNone, OnOk, vec_len};
 ghost use Rattle.depot_clocks.specs.KeptRows.{HasEntry, HasCount, AreOfChainsBelow, ArePut, AreRaised, AreEntriesWithin, AreAbove, own_entry, NoneAbove, IsFirstFrom};
 
@@ -15,12 +15,13 @@ pub struct RowEntry {
     pub count: u32,
 }
 
-/// The row of an item: of each chain, how many of its items are the item or precede it. Entries past the end count as 0.
+/// The row of an item: for each chain, how many of its items are the item or precede it. Entries past the end count as
+/// 0.
 #[derive(Debug, Drop)]
 pub enum Row {
     /// Each entry, up to the chains that there were.
     Whole(Vec<u32>),
-    /// The row of the item before it in its chain, but for some entries.
+    /// The row of the item before it in its chain, except for some entries.
     Changed {
         /// The item before it in its chain.
         behind: u32,
@@ -34,13 +35,13 @@ pub enum Row {
 pub struct KeptRow {
     /// Its chain.
     pub chain: u32,
-    /// How many items of the chain stand before it.
+    /// How many items of the chain come before it.
     pub place: u32,
     /// Its row.
     pub row: Row,
 }
 
-/// The count that the entries tell of a chain, if they do.
+/// The count for a chain, if the entries have one.
 pub fn count_among(entries: &[RowEntry], chain: u32) -> Option<u32>
     ensures some { IfSome result (HasCount entries.now chain) }
     ensures none { IfNone result (HasEntry entries.now chain → ⊥) }
@@ -85,7 +86,8 @@ pub fn put_row(row: &mut [u32], with: &[u32])
     }
 }
 
-/// Makes each entry of a row the greater of it and that of another, which isn't longer. Past its end the other's entries count as 0.
+/// Replaces each entry of a row by the greater of it and that of another, which isn't longer. Past its end the other's
+/// entries count as 0.
 pub fn join_row(row: &mut [u32], with: &[u32])
     requires { length with.now ≤ length row.old }
     ensures { (k : ℕ) → k < length row.new → slice_index row.new k ≡ max (slice_index row.old k) (slice_index with.now k) }
@@ -93,7 +95,7 @@ pub fn join_row(row: &mut [u32], with: &[u32])
     max_into(&mut row[..with.len()], with);
 }
 
-/// Makes each entry of a row that one of these is above that one.
+/// Replaces each entry of a row that one of these is above.
 pub fn raise_entries(row: &mut [u32], entries: &[RowEntry])
     requires { AreOfChainsBelow entries.now (length row.old) }
     ensures { AreRaised entries.now row.old row.new }
@@ -111,8 +113,8 @@ pub fn entry_at(row: &[u32], chain: u32) -> u32
     row.get(chain as usize).copied().unwrap_or(0)
 }
 
-/// Puts the entry of an item into a row, in its own chain: it counts all up to itself. An item that starts a chain starts
-/// the next one, so its entry goes behind the others.
+/// Writes an item's own entry into a row: it counts the items of its chain up to itself. An item that starts a chain
+/// starts the next one, so its entry is appended.
 pub fn put_own(row: &mut Vec<u32>, chain: u32, place: u32) -> Result<(), Memory>
     requires chain { (place ≡ 0 → ⊥) → chain < vec_len row.old }
     requires few { place < 4294967295 }

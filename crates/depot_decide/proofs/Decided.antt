@@ -64,7 +64,7 @@ made_decision here J x answer new d made is = subst (λ (e : Decision). IsDecide
 pub made_growth : (here : Setting) (J : List Record) (x : Given) (answer : Result Taken Check) (new made : List Record) → made ≡ new → IsDecided here J x answer new → IsDecided here J x answer made
 made_growth here J x answer new made same is = subst (λ (rs : List Record). IsDecided here J x answer rs) (sym same) is
 
--- what is decided by a state is decided where the node stands
+-- what is decided by a state is decided under the node's setting
 pub decided_here : (here there : Setting) (J : List Record) (x : Given) (d : Decision) → there ≡ here → IsDecided there J x d.answer d.growth → IsDecided here J x d.answer d.growth
 decided_here here there J x d stands is = subst (λ (t : Setting). IsDecided t J x d.answer d.growth) stands is
 

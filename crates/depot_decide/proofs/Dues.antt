@@ -45,7 +45,7 @@ contrary_halves k a b = choice (is_below a.body b.body) where
   choice true e = e
   choice false e = contradicts_comm k a.statement b.statement ∙ e
 
--- ---- what stands first
+-- ---- what comes first
 
 -- where these begin with a conviction, the halves of its proof are contrary
 abbrev StartContrary : List Record → Type 0

@@ -15,7 +15,7 @@ use Rattle.depot_model.proofs.Orders.{one_of_id}
 use Rattle.depot_graph.proofs.ItemPlaces.{has_place, has_no_place}
 use Rattle.depot_base.proofs.GeneralLaws.{same_test}
 
--- the update that has the id tells
+-- the update that has the id decides
 pub foreign_by_place : (me : ℕ) (us : List Update) (h : List ℕ) (n : ℕ) (t : Update) → IsCausal [] us → place_of_id h us ≡ Some n → slice_get us n ≡ Some t → is_foreign me us h ≡ not (eqb t.writer me)
 foreign_by_place me us h n t c place at =
     let p = has_place h us n place in

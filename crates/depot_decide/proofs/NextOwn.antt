@@ -47,7 +47,7 @@ entry_items verifies h v t us me last found items state stands totals all mine p
 
 -- ---- how many there are
 
--- as many as updates stand at them
+-- as many as updates are at them
 as_many_at : (us : List Update) (items : List ℕ) → AllByRecursion (λ item. item < length us) items → length (updates_at us items) ≡ length items
 as_many_at us [] all = refl
 as_many_at us (n ∷ ns) all =
@@ -71,7 +71,7 @@ few_entry_items here J us items l are =
 
 -- ---- the update
 
--- its entries name what stands at the items
+-- its entries name what is at the items
 next_deps : (me : ℕ) (J : List Record) (ws : List Write) (us : List Update) (items : List ℕ) → AreEntryItems me J us items → (next_with me J ws).deps ≡ map entry_of (updates_at us items)
 next_deps me J ws us items are = ap (λ (ts : List Update). map entry_of (next_entries me ts (last_own J))) are.accepted ∙ ap (map entry_of) (sym are.entries)
 

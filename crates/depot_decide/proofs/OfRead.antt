@@ -1,4 +1,4 @@
--- No check of what was read tells that it is ill-formed.
+-- No check of what was read reports that it is ill-formed.
 use Rattle.std.proofs.Common.{◌≡◌, Bool, true, false, ◌||◌, cond, List, Option, Some, None, option_map, Err, subst}
 use Rattle.std.specs.List.{AllByRecursion}
 use Rattle.depot_base.specs.declared.check.Check.{Check}

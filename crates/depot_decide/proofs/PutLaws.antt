@@ -87,7 +87,7 @@ made_is_lawful {here = here} {J = J} {u = u} {changes = changes} m fresh room =
 
 -- ---- decided
 
--- it has too many entries, or no memory was found
+-- it has too many entries, or memory ran out
 wide_own : (here : Setting) (J : List Record) (changes : List Change) (e : NextError) → length (own J) < leaf_count here.listed here.me → IsTooWide (next_own here.me J changes) e → IsRefused here J changes (of_next e)
 wide_own here J changes next.Memory leaf wide = wide
 wide_own here J changes (next.Tips n) leaf wide =

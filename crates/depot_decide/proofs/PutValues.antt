@@ -24,7 +24,7 @@ pub record AreLeft (ws : List Write) (vs : List (List ℕ)) (left : List Write) 
 pub next_left : {X : Type 0} (xs : List X) (i : ℕ) (x : X) → i < length xs → x ≡ get_or xs i x → drop i xs ≡ x ∷ drop (i + 1) xs
 next_left xs i x low is = drop_more xs i x low ∙ ap (λ (y : _). y ∷ drop (i + 1) xs) (sym is)
 
--- what the values of all say is said by this one and those behind it
+-- what the values of all say is said by this one and those after it
 first_says : (ws : List Write) (vs : List (List ℕ)) (key : List ℕ) (what : Wrote) (n : NamedValue) (left : List Write) (v : List ℕ) (rest : List (List ℕ)) → n ∷ [] ≡ value_in what → AreLeft ws vs (record { key = key; what = what } ∷ left) (v ∷ rest)
     → (map (λ x. length x) rest ≡ sizes_of left) × (have_hashes ws vs ≡ (bytes_eq n.hash (sha256 v) && have_hashes left rest))
 first_says ws vs key (Put hash size) n left v rest named a =
@@ -32,7 +32,7 @@ first_says ws vs key (Put hash size) n left v rest named a =
     (ap (drop 1) a.lengths, a.hashes ∙ ap (λ (h : List ℕ). bytes_eq h (sha256 v) && have_hashes left rest) same)
 first_says ws vs key Gone n left v rest named a = absurd cc
 
--- what a test of two hashes tells
+-- what a test of two hashes says
 same_hash : (a b : List ℕ) (differs : Bool) → differs ≡ not (bytes_eq a b) → differs ≡ false → a ≡ b
 same_hash a b differs is no_they_do_not = (bytes_eq-Decides a b).0 (by_test (bytes_eq a b) (sym is ∙ no_they_do_not)) where
   by_test : (t : Bool) → not t ≡ false → t ≡ true

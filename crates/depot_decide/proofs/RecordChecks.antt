@@ -79,7 +79,7 @@ pub checked_proof : (here : Setting) (J : List Record) (p : Proof) (answer : Res
 checked_proof here J p answer decided (Ok fit) place d taken = good_proof here J p answer decided fit.growth d taken
 checked_proof here J p answer decided (Err e) place d taken = not_new here J (Conviction p) (given_proof p) answer decided e place refl d taken
 
--- a list with one behind it that has one at most is that one
+-- a list with one after it that has one at most is that one
 only_last : (front : List Record) (r : Record) → length (front ++ r ∷ []) ≤ 1 → front ++ r ∷ [] ≡ r ∷ []
 only_last [] r short = refl
 only_last (x ∷ front) r short = absurd (omega (arith, length-append front (r ∷ []), short))
@@ -108,7 +108,7 @@ may_put here J u next ws values id same is copied made leaf narrow named fresh =
   leaf = leaf;
 }
 
--- what is told of slices is told of the lists
+-- what is said of slices is said of the lists
 pub told_of : (ws xs : List Write) (vs ys : List (List ℕ)) (told : Bool) → ws ≡ xs → vs ≡ ys → IsTrue told ↔ (ws ≡ map write_of (changes_of ws vs)) → IsTrue told ↔ (xs ≡ map write_of (changes_of xs ys))
 told_of ws xs vs ys told one two is =
     subst (λ (l : List Write). IsTrue told ↔ (l ≡ map write_of (changes_of l ys))) one (subst (λ (l : List (List ℕ)). IsTrue told ↔ (ws ≡ map write_of (changes_of ws l))) two is)

@@ -97,7 +97,7 @@ not_next : IsFaultOf here begun (put_of (record first_put { seq = 1 })) fault.No
 unfolding sha256 first_words schedule rounds compress hash_after digest_bytes numeral bytes_of list_of number dep by_id history_hash history_text leaves_of put_by_id has_id named prev_of past next_entries next_own precedes_named id_of_update statement update_body update_fields
 not_next = (refl, λ may. (let met : 1 ≡ 0 = ap (λ u. u.seq) may.next in omega (arith, met)))
 
--- one whose values stand in the other order
+-- one whose values are in the other order
 abbrev first_hashed : List Write → ℕ
 first_hashed [] = 0
 first_hashed (w ∷ ws) = by_what w.what where
@@ -132,7 +132,7 @@ known : IsFaultOf here with_two (took two) fault.Idle
 unfolding sha256 first_words schedule rounds compress hash_after digest_bytes numeral bytes_of list_of number dep answer_to content_checks first_failed_check forked is_known opponent refused_as_convicted sight statement_checks contradicts is_of_kind kind_of by_id history_hash history_text leaves_of put_by_id has_id is_convicted is_vouched named prev_of past is_signed key_of id_of_statement id_of_update statement update_body update_fields voucher_fields
 known = (refl, (_, (refl, refl)))
 
--- behind 131,072 records one that might follow
+-- after 131,072 records one that might follow
 no_room : (r : Record) (rs : List Record) → length (r ∷ rs) ≡ 131072 → MayFollow here (r ∷ rs) (Held []) → IsFaultOf here (r ∷ rs) (Held []) fault.NoRoom
 no_room r rs many may = (refl, (may, λ room. is_full (is_none room))) where
   is_none : HasRoom 1 (r ∷ rs) (Held [] ∷ []) → length (r ∷ rs ++ Held [] ∷ []) ≤ 131072

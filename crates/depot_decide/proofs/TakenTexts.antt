@@ -1,4 +1,4 @@
--- Texts that are taken one behind the other, each the record that may follow there.
+-- Texts that are taken one after another, each the record that may follow there.
 use Rattle.std.proofs.Common.{◌≡◌, ℕ, ◌+◌, ◌<◌, ◌≤◌, Bool, true, List, [], ◌∷◌, ◌++◌, length, map, take, drop, get_or, Option, Some, None, refl, sym, ap, subst, ◌∙◌, append_assoc}
 use Rattle.std.specs.Prelude.{is_none}
 use Rattle.std.proofs.lemmas.List.{map-append, take_all, take-append-drop}
@@ -65,7 +65,7 @@ taking_goes_on here there texts text J after same t n = record {
       ∙ ap (λ (rs : List Record). map text_of_record rs) (sym n.grown);
 }
 
--- ---- the same of readings
+-- ---- the same for readings
 
 -- they are of the records of these texts, and of the same node
 pub record IsTaking (here : Setting) (verifies : Verifies) (texts : List (List ℕ)) (v : Known) : Type 0 where

@@ -40,7 +40,7 @@ use Rattle.depot_decide.proofs.VoucherGroups.{group_count}
 
 -- ---- how many ids there are
 
--- the list without what stands at one place
+-- the list without what is at one place
 record IsCut (x : List ℕ) (ys : List (List ℕ)) : Type 0 where
   pub rest : List (List ℕ)
   pub fewer : length rest + 1 ≡ length ys
@@ -53,7 +53,7 @@ cut_out x (y ∷ ys) (inr there) =
     let c = cut_out x ys there in
     record { rest = y ∷ c.rest; fewer = omega (arith, c.fewer); others = λ z on other. elim on [ inl same ↦ inl same | inr behind ↦ inr (c.others z behind other) ] }
 
--- members that stand apart are no more than the list
+-- members that are separate are no more than the list
 few_apart : (xs ys : List (List ℕ)) → AreApart xs → ((x : List ℕ) → IsIn x xs → IsIn x ys) → length xs ≤ length ys
 few_apart [] ys apart within = omega arith
 few_apart (x ∷ xs) ys apart within =
@@ -71,7 +71,7 @@ foreign_is_on me us h e =
 abbrev AreForeign : Setting → List Record → List (List ℕ) → Type 0
 AreForeign here J ids = AllByRecursion (λ h. is_foreign here.me (accepted J) h ≡ true) ids
 
--- ids of accepted updates that stand apart are no more than a journal may have records
+-- ids of accepted updates that are separate are no more than a journal may have records
 pub few_ids : (here : Setting) (J : List Record) (ids : List (List ℕ)) → IsLawful here J → AreApart ids → AreForeign here J ids → length ids ≤ 131072
 few_ids here J ids l apart foreign =
     let among : (h : List ℕ) → IsIn h ids → IsIn h (map id_of_update (accepted J)) = λ h on. foreign_is_on here.me (accepted J) h (all_at (λ k. is_foreign here.me (accepted J) k ≡ true) ids h foreign on) in

@@ -55,12 +55,13 @@ DecidesProof = Decides (closing proof) (λ p. given_proof p)
 abbrev pub DecidesValue : Setting → List Record → List ℕ → Result Taken Check → List Record → Type 0
 DecidesValue = Decides (rest_of MOST_VALUE) (λ v. given_value v)
 
--- what is decided of a proof: this is answered and nothing grows, or without an answer it is new, and the journal grows by it
+-- the decision on a proof: this is answered and nothing grows, or without an answer it is new, and the journal grows by
+-- it
 abbrev pub IsSettled : Setting → List Record → Proof → Option (Result Taken Check) → Type 0
 IsSettled here J p (Some answer) = IsDecided here J (given_proof p) answer []
 IsSettled here J p None = IsDecided here J (given_proof p) (Ok New) (Conviction p ∷ [])
 
--- the statement that was found is kept, and the conviction by it stands first in what the journal grows by
+-- the statement that was found is kept, and the conviction by it comes first in what the journal grows by
 pub record IsDueBy (here : Setting) (J : List Record) (s : Signed) (found : Found) : Type 0 where
   pub kept : Signed
   pub more : List Record
@@ -72,7 +73,7 @@ abbrev pub AreJoined : List Update → Option Parents → Type 0
 AreJoined us None = Unit {0}
 AreJoined us (Some p) = IsJoinedRow us p.items.items p.row.items
 
--- An update comes with the row of its parents: with the items at which they stand, and their joined row.
+-- An update comes with its parents' items, and their joined row.
 pub record ComesWithRow (us : List Update) (u : Update) (given : Option Parents) : Type 0 where
   pub behind : Parents
   pub is : given ≡ Some behind
@@ -102,7 +103,7 @@ DecidesNew verifies v s found answer new = (J : List Record) → IsStateOf J v �
 abbrev pub HasGrown : ℕ → List Record → List Record → List Record → Type 0
 HasGrown me J new after = (full_by me J new ≡ None) × (after ≡ J ++ new)
 
--- or this limit was in the way, and it is as before
+-- or this limit was in the way, and it is unchanged
 abbrev pub HadNoRoom : ℕ → List Record → List Record → Full → List Record → Type 0
 HadNoRoom me J new full after = (full_by me J new ≡ Some full) × (after ≡ J)
 

@@ -21,7 +21,8 @@ pub record IsGoodRecord (here : Setting) (J : List Record) (r : Record) (new : L
   pub alone : new ≡ r ∷ []
   pub may : MayFollow here J r
 
--- what is found of a record that stands at its place: it may follow, or this is wrong with it; Memory may stand in place of each answer
+-- what is found of a record that is at its place: it may follow, or this is wrong with it; Memory may come in place of
+-- each answer
 abbrev pub IsRecordChecked : Setting → List Record → Record → Result Fit ReadError → Type 0
 IsRecordChecked here J r (Ok fit) = IsGoodRecord here J r fit.growth
 IsRecordChecked here J r (Err refused.Memory) = Unit {0}
@@ -36,7 +37,8 @@ pub record IsFitFrom (here : Setting) (J : List Record) (text : List ℕ) (new :
   pub place : IsAtPlace J one
   pub may : MayFollow here J one
 
--- what is found of a text but for the room: the record that it is, or what is wrong with it; Memory may stand in place of each answer
+-- what is found of a text but for the room: the record that it is, or what is wrong with it; Memory may come in place
+-- of each answer
 abbrev pub IsFitAs : Setting → List Record → List ℕ → Result Fit ReadError → Type 0
 IsFitAs here J text (Ok fit) = IsFitFrom here J text fit.growth
 IsFitAs here J text (Err refused.Memory) = Unit {0}
@@ -49,7 +51,7 @@ pub record IsReadFrom (here : Setting) (J : List Record) (text : List ℕ) (new 
   pub is : text ≡ text_of_record one
   pub allowed : IsAllowed here J one
 
--- what is found of a text: the record that it is, or what is wrong with it; Memory may stand in place of each answer
+-- what is found of a text: the record that it is, or what is wrong with it; Memory may come in place of each answer
 abbrev pub IsReadAs : Setting → List Record → List ℕ → Result Fit ReadError → Type 0
 IsReadAs here J text (Ok fit) = IsReadFrom here J text fit.growth
 IsReadAs here J text (Err refused.Memory) = Unit {0}
@@ -68,7 +70,7 @@ TakesNew answer decided (Err (refused.Fault fault.Idle)) = answer ≡ Ok Known
 TakesNew answer decided (Err (refused.Fault (fault.Refused c))) = answer ≡ Err c
 TakesNew answer decided (Err e) = ⊥
 
--- a refusal of an update while it is made: it has more than 1,024 entries, or no memory was found
+-- a refusal of an update while it is made: it has more than 1,024 entries, or memory ran out
 abbrev pub HasManyEntries : Update → ReadError → Type 0
 HasManyEntries u refused.Memory = Unit {0}
 HasManyEntries u (refused.Fault fault.NotNext) = MOST_ENTRIES < length u.deps

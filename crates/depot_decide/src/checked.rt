@@ -1,7 +1,7 @@
-//! What is decided of a statement once it was checked.
+//! Decides on a statement that was checked.
 //!
-//! All of it goes by what a state keeps, whatever journal it is the state of: a node asks it over its readings, and a reader over what it
-//! kept of one.
+//! All of it depends on what a state keeps, whatever journal it is the state of: a node asks it of its readings, and a
+//! reader of what it kept of a node.
 ghost use Rattle.std.specs.Prelude.{◌≡◌, List, [], ◌∷◌, Ok, Err, IfOk, Some};
 ghost use Rattle.depot_base.specs.declared.record.Record.{Record};
 ghost use Rattle.depot_base.specs.declared.record.Record.TheVariants.{Conviction};
@@ -22,7 +22,7 @@ use depot_model::{Scheme, Taken};
 use depot_readings::Growth;
 use std::alloc::Global;
 
-/// What is decided of a signed statement of this text, of which the checks over the state say this.
+/// Decides on a signed statement of this text, given the result of its checks over the state.
 pub fn decide_checked<S: Scheme>(
     alloc: Global,
     state: &State<S>,
@@ -52,8 +52,8 @@ pub fn decide_checked<S: Scheme>(
     }
 }
 
-/// A new statement of this text is kept, after the conviction of its writer if one is due. Where the parents of an update stand goes
-/// with it.
+/// Keeps a new statement of this text, after the conviction of its writer if one is due, with the places of an update's
+/// parents.
 fn accept<S: Scheme>(
     alloc: Global,
     state: &State<S>,
@@ -91,7 +91,7 @@ fn items_of(alloc: Global, parents: &Option<Parents>) -> Result<Vec<u32>, Memory
     Ok(items)
 }
 
-/// A new statement of this text, after the conviction of its writer if one is due.
+/// The growth by a new statement of this text, after the conviction of its writer if one is due.
 fn growth_of_new<S: Scheme>(
     alloc: Global,
     state: &State<S>,
@@ -116,7 +116,7 @@ fn growth_of_new<S: Scheme>(
     }
 }
 
-/// A statement is refused by the first check that fails, and the conviction of its writer kept if one is due.
+/// Refuses a statement by the first check that fails, and keeps the conviction of its writer if one is due.
 fn refuse<S: Scheme>(
     alloc: Global,
     state: &State<S>,
@@ -144,7 +144,7 @@ fn refuse<S: Scheme>(
     }
 }
 
-/// The proof by a kept statement and the one that contradicts it.
+/// The proof made of a kept statement and the one that contradicts it.
 fn proof_by<S: Scheme>(state: &State<S>, found: Found, signed: &Signed) -> Result<Proof, Memory>
     requires text { IsSigned signed.now }
     requires due { (J : List Record) × (IsStateOf J state.now × IsDueBy (setting S.verifies state.now) J signed.now found) }

@@ -1,4 +1,4 @@
-//! What a node decides of what it is given.
+//! What a node decides on what it is given.
 ghost use Rattle.std.specs.Prelude.{◌≡◌, [], None};
 ghost use Rattle.depot_decide.specs.Deciding.{AnswersAs};
 
@@ -7,20 +7,20 @@ use depot_base::Check;
 use depot_model::{TakeError, Taken};
 use depot_readings::Growth;
 
-/// What a node answers to what it is given, and what its journal grows by where there is room for that.
+/// What a node answers to what it is given, and what its journal grows by where there is room.
 #[derive(Drop)]
 pub struct Decision {
-    /// What is answered, where there is room for the growth: that it is new or known, or the check that fails first.
+    /// The answer, where there is room for the growth: new, known, or the first check that fails.
     pub answer: Result<Taken, Check>,
-    /// The records that the journal is to grow by: none, one, or a conviction and a statement behind it.
+    /// The records to append: none, one, or a conviction followed by a statement.
     pub growth: Growth,
-    /// The items of the parents of an update that is taken, with their joined row: for `Readings::keep_row`, before the growth is
+    /// The items of a taken update's parents, with their joined row: for `Readings::keep_row` before the growth is
     /// read, so that the rows aren't joined again.
     pub parents: Option<Parents>,
 }
 
 impl Decision {
-    /// An answer by which nothing grows. It takes no memory.
+    /// An answer without a growth. It takes no memory.
     pub fn of(answer: Result<Taken, Check>) -> Decision
         ensures { result ≡ record { answer = answer; growth = []; parents = None } }
     {
@@ -32,7 +32,7 @@ impl Decision {
     }
 }
 
-/// The answer of a decision as a node gives it: a failed check is a refusal. It takes no memory.
+/// The answer of a decision as a node returns it: a failed check is a refusal. It takes no memory.
 pub fn answered(answer: Result<Taken, Check>) -> Result<Taken, TakeError>
     ensures { AnswersAs answer result }
 {

@@ -1,21 +1,22 @@
 //! What a node decides, before anything changes.
 //!
-//! Readings are seen as the list of the records that were read (`depot_readings`), and what is decided over them is what the journal is to
-//! grow by, where there is room for that, and what is then answered. Both are the definition's of that list, and with the growth the
-//! journal stays lawful.
+//! Readings are seen as the list of the records that were read (`depot_readings`). A decision over them is what the
+//! journal is to grow by, where there is room, and what is then answered. Both are the definition's of that list, and
+//! with the growth the journal stays lawful.
 //!
-//! A statement, a proof and a value of others come to a `Decision` (`statement_decision`, `proof_decision`, `value`), a put to a
-//! `Plan` or the limit that it meets (`put_decision`), ids that the node is to vouch for to own vouchers (`voucher_decision`, which
-//! also says of an id whether another's accepted update has it). Why nothing is planned, `plan_errors` says.
+//! - A statement, a proof or a value of others gives a `Decision` (`statement_decision`, `proof_decision`, `value`).
+//! - A put gives a `Plan`, or the limit that it meets (`put_decision`).
+//! - Ids that the node should vouch for give own vouchers (`voucher_decision`, which also says whether an id is that of
+//!   another's accepted update). `plan_errors` has the reasons why nothing is planned.
+//! - The text of a record is checked by the same calls, as if it came now (`record_check`). So `depot_node` reads the
+//!   records of a journal from a disk, and a caller that has their texts reads them into memory alone (`text_checks`).
 //!
-//! By the same calls the text of a record is checked as if it came now (`record_check`). So `depot_node` reads the records of a journal
-//! from a disk, and whoever has their texts reads them here, one behind the other, into memory alone (`text_checks`).
+//! Decisions on statements and proofs ask the readings for their state alone (`decide_checked`, `decide_judged`), so a
+//! caller that keeps a state without readings decides the same.
 //!
-//! What is decided of statements and proofs asks the readings for their state alone (`decide_checked`, `decide_judged`), so one who keeps
-//! a state without readings decides the same.
-//!
-//! Nothing is kept, and but for `take_text` no call changes what was read. What is decided here a node carries out by its one way to
-//! write, which looks for the room. `keep_parents` comes first there: then the rows that a check joined aren't joined again.
+//! Nothing is kept, and no call but `take_text` changes what was read. A node carries a decision out by its one write
+//! path, which checks the room; it calls `keep_parents` first, so that the rows that a check joined aren't joined
+//! again.
 #![tactic(auto)]
 
 mod checked;

@@ -1,4 +1,5 @@
-//! Why nothing is planned of a put, of its update, and of vouchers: what can come before room is asked for, and nothing else.
+//! Why no put, no next update or no vouchers are planned: the errors that can come before room is checked, and no
+//! others.
 ghost use Rattle.std.specs.Prelude.{◌≡◌};
 ghost use Rattle.depot_decide.specs.PlanErrors.{of_next, put_error_of, voucher_error_of};
 ghost use Rattle.depot_decide.specs.declared.plan_errors.NextError.TheVariants as next_error;
@@ -11,9 +12,9 @@ use depot_model::{PutError, VoucherError};
 /// Why no next own update is made.
 #[derive(Clone, Copy, Debug, PartialEq, Eq)]
 pub enum NextError {
-    /// No memory was found.
+    /// Memory ran out.
     Memory,
-    /// It would have so many entries, more than 1,024.
+    /// It would have this many entries, more than 1,024.
     Tips(u32),
 }
 
@@ -25,14 +26,14 @@ impl From<Memory> for NextError {
     }
 }
 
-/// Why nothing is planned of a put.
+/// Why no put is planned.
 #[derive(Clone, Copy, Debug, PartialEq, Eq)]
 pub enum PlanError {
-    /// No memory was found.
+    /// Memory ran out.
     Memory,
-    /// The node has made so many statements, and has no leaf left to sign another.
+    /// The node has made this many statements, and no leaf is left to sign another.
     Spent(u32),
-    /// The update would have so many entries, more than 1,024.
+    /// The update would have this many entries, more than 1,024.
     Tips(u32),
     /// The update's id is 32 zero bytes or that of an accepted update.
     Collides(Hash32),
@@ -73,9 +74,9 @@ impl From<PlanError> for PutError {
 /// Why no vouchers are planned.
 #[derive(Clone, Copy, Debug, PartialEq, Eq)]
 pub enum VoucherPlanError {
-    /// No memory was found.
+    /// Memory ran out.
     Memory,
-    /// The node has made so many statements, and has too few leaves left to sign the vouchers.
+    /// The node has made this many statements, and too few leaves are left to sign the vouchers.
     Spent(u32),
 }
 

@@ -1,4 +1,4 @@
-//! What is decided of a proof.
+//! Decides on a proof.
 ghost use Rattle.std.specs.Prelude.{◌≡◌, List, IfOk};
 ghost use Rattle.depot_base.specs.declared.record.Record.{Record};
 ghost use Rattle.depot_model.specs.Checks.{check_of_point, given_proof, proof_checks};
@@ -18,7 +18,7 @@ use depot_readings::{Growth, Readings};
 use depot_update::decode_proof;
 use std::alloc::Global;
 
-/// What is decided of the text of a proof: a good one is kept, unless its node is convicted already.
+/// Decides on the text of a proof: a good one is kept, unless its node is convicted already.
 pub fn decide_proof<S: Scheme>(
     alloc: Global,
     readings: &Readings<S>,
@@ -34,7 +34,7 @@ pub fn decide_proof<S: Scheme>(
     }
 }
 
-/// What is decided of a proof of this text.
+/// Decides on a proof of this text.
 pub fn decide_decoded<S: Scheme>(
     alloc: Global,
     readings: &Readings<S>,
@@ -49,7 +49,7 @@ pub fn decide_decoded<S: Scheme>(
     decide_judged(alloc, readings.state(), proof, text)
 }
 
-/// What is decided of a proof of this text by what a state keeps, whatever journal it is the state of.
+/// Decides on a proof of this text by what a state keeps, whatever journal it is the state of.
 pub fn decide_judged<S: Scheme>(
     alloc: Global,
     state: &State<S>,
@@ -76,8 +76,8 @@ pub fn decide_judged<S: Scheme>(
     })
 }
 
-/// What is answered to a proof that isn't to be kept: the check that fails first, or that its node is convicted already. None where
-/// it is to be kept.
+/// The answer to a proof that won't be kept: the check that fails first, or that its node is convicted already. None
+/// where it is to be kept.
 fn settled<S: Scheme>(
     alloc: Global,
     state: &State<S>,
@@ -96,8 +96,8 @@ fn settled<S: Scheme>(
     Ok(None)
 }
 
-/// The first check of a proof that fails: what a judge asks of it, and then that it isn't against the node itself. It takes memory
-/// only where a judge does.
+/// The first check of a proof that fails: the judge's points, and then that it isn't against the node itself. It takes
+/// memory only where the judge does.
 #[tactic(auto, unfolding(depot_model::specs::Checks::proof_checks))]
 fn failed_check<S: Scheme>(
     alloc: Global,

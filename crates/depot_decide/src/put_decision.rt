@@ -1,4 +1,4 @@
-//! What is decided of a put.
+//! Decides on a put.
 ghost use Rattle.std.specs.Prelude.{◌≡◌, ◌<◌, ◌≤◌, ◌↔◌, ◌∷◌, ◌++◌, [], List, length, map, IfOk, IfErr, IsTrue, true, false, nat_lt};
 ghost use Rattle.std.specs.Option.{ForSome, option_to_list};
 ghost use Rattle.std.specs.List.{AllByRecursion};
@@ -23,18 +23,18 @@ use depot_readings::{Growth, Readings};
 use depot_update::encode_own_put;
 use std::alloc::Global;
 
-/// What a put is to append, and what it then tells.
+/// What a put is to append, and what it then reports.
 #[derive(Drop)]
 pub struct Plan {
-    /// What is to be told of the update once its record stands.
+    /// What to report of the update once its record is appended.
     pub done: PutDone,
-    /// The record that the journal is to grow by, where there is room for it.
+    /// The record to append, where there is room for it.
     pub growth: Growth,
 }
 
-/// What is decided of a put of 1 to 16 changes, whose keys rise strictly: the next own update, unless no leaf is left to sign it
-/// (`Spent`), it has more than 1,024 entries (`Tips`), or its id isn't fresh (`Collides`), asked in this order. Whether there is
-/// room for its record is left open. `Memory` may come in place of each answer.
+/// Decides on a put of 1 to 16 changes, whose keys rise strictly: the next own update, unless no leaf is left to sign
+/// it (`Spent`), it has more than 1,024 entries (`Tips`), or its id isn't fresh (`Collides`), checked in this order.
+/// Whether there is room for its record isn't checked. `Memory` may come in place of each answer.
 pub fn decide_put<S: Scheme>(
     alloc: Global,
     readings: &Readings<S>,
@@ -67,7 +67,7 @@ pub fn decide_put<S: Scheme>(
     Ok(Plan { done, growth })
 }
 
-/// Whether the node has a leaf of this number to sign by.
+/// Whether the node has a leaf of this number to sign with.
 #[tactic(auto, unfolding(depot_model::specs::Own::leaf_count))]
 pub fn has_leaf<S: Scheme>(readings: &Readings<S>, leaf: u32) -> bool
     ensures { result ≡ nat_lt leaf (leaf_count readings.now.listed readings.now.me) }
@@ -83,8 +83,8 @@ pub fn has_leaf<S: Scheme>(readings: &Readings<S>, leaf: u32) -> bool
 pub struct Next {
     /// The next own update.
     pub update: Update,
-    /// The items at which its parents were found, that of its prev first, as `Growth::put` takes them. No clause speaks of
-    /// them, since none rests on them.
+    /// The items of its parents, that of its prev first, as hints for `Growth::put`. No clause speaks of them, since
+    /// none depends on them.
     pub parents: Vec<u32>,
 }
 
@@ -124,7 +124,7 @@ pub fn next_own<S: Scheme>(
     })
 }
 
-/// The item of a prev, if there is one, and behind it those of the entries.
+/// The item of a prev, if there is one, followed by those of the entries.
 fn with_prev(alloc: Global, prev: Option<u32>, entries: &[u32]) -> Result<Vec<u32>, Memory>
     ensures { IfOk result (λ items. items.items ≡ option_to_list prev ++ entries.now) }
 {

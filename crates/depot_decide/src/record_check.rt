@@ -1,4 +1,4 @@
-//! A record of a journal is checked as if it came now.
+//! Checks a record of a journal as if it came now.
 ghost use Rattle.std.specs.Prelude.{◌≡◌, ◌↔◌, ◌<◌, ◌≤◌, ◌∷◌, ◌++◌, ℕ, List, Err, true, length, map, IfOk, IfErr, IsTrue};
 ghost use Rattle.std.specs.List.{AllByRecursion};
 ghost use Rattle.depot_base.specs.Writes.{sizes_of};
@@ -35,7 +35,7 @@ use std::alloc::Global;
 /// Why a record isn't read.
 #[derive(Clone, Copy, Debug, PartialEq, Eq)]
 pub enum ReadError {
-    /// No memory was found.
+    /// Memory ran out.
     Memory,
     /// It may not follow the records before it.
     Fault(RecordFault),
@@ -58,7 +58,8 @@ pub struct Fit {
     pub parents: Option<Parents>,
 }
 
-/// The record of a text, where it is allowed behind those that were read. Else the first fault that it has.
+/// Checks the text of a record: returns the record where it is allowed after those that were read, and else its first
+/// fault.
 pub fn check_record<S: Scheme>(
     alloc: Global,
     readings: &Readings<S>,
@@ -78,7 +79,7 @@ pub fn check_record<S: Scheme>(
     Ok(fit)
 }
 
-/// The same, but for the room, which isn't looked at.
+/// The same without the check of the room.
 pub fn check_text<S: Scheme>(
     alloc: Global,
     readings: &Readings<S>,
@@ -109,7 +110,7 @@ fn is_at_place<S: Scheme>(readings: &Readings<S>, item: &Record) -> bool
     }
 }
 
-/// A record that stands at its place, where it may follow but for the room.
+/// Checks a record that is at its place, without the check of the room.
 fn check_item<S: Scheme>(
     alloc: Global,
     readings: &Readings<S>,
@@ -131,7 +132,7 @@ fn check_item<S: Scheme>(
     }
 }
 
-/// A birth, where it is that of the node and its roster.
+/// Checks a birth: it must be that of the node and its roster.
 fn check_birth<S: Scheme>(
     readings: &Readings<S>,
     node: NodeId,
@@ -158,7 +159,7 @@ fn is_own_birth<S: Scheme>(readings: &Readings<S>, node: NodeId, roster: &Hash32
     node == readings.me() && roster == readings.roster().hash()
 }
 
-/// An own update and its values, where a put would append just these.
+/// Checks an own update and its values: a put must append just these.
 fn check_put<S: Scheme>(
     alloc: Global,
     readings: &Readings<S>,
@@ -179,8 +180,9 @@ fn check_put<S: Scheme>(
     })
 }
 
-/// The items of the parents of an own update with this id, where a put would append just this update and these values. Nothing is
-/// encoded: the values are compared with the writes, and the update with the one that a put of these writes would make.
+/// The items of the parents of an own update with this id, where a put would append just this update and these values.
+/// Nothing is encoded: the values are compared with the writes, and the update with the one that a put of these writes
+/// would make.
 fn parents_of_put<S: Scheme>(
     alloc: Global,
     readings: &Readings<S>,
@@ -210,7 +212,8 @@ fn parents_of_put<S: Scheme>(
     Ok(next.parents)
 }
 
-/// Whether these values are those of the writes that are no deletions, in their order, as their hashes tell. The lengths agree.
+/// Whether these values are those of the writes that are no deletions, in their order, by their hashes. The lengths
+/// agree.
 fn are_values_of(writes: &[Write], values: &[Value]) -> bool
     requires { map (λ v. length v) values.now ≡ sizes_of writes.now }
     ensures { IsTrue result ↔ (writes.now ≡ map write_of (changes_of writes.now values.now)) }
@@ -231,7 +234,7 @@ fn are_values_of(writes: &[Write], values: &[Value]) -> bool
     true
 }
 
-/// The next own update with these writes. It is refused where it would have too many entries.
+/// The next own update with these writes. Refused where it would have too many entries.
 fn next_put<S: Scheme>(
     alloc: Global,
     readings: &Readings<S>,
@@ -248,7 +251,7 @@ fn next_put<S: Scheme>(
     }
 }
 
-/// An own voucher, where the node may make it.
+/// Checks an own voucher: it must be one that the node may make.
 fn check_voucher<S: Scheme>(
     alloc: Global,
     readings: &Readings<S>,
@@ -294,7 +297,7 @@ fn are_foreign<S: Scheme>(readings: &Readings<S>, ids: &[Hash32]) -> bool
     true
 }
 
-/// Another's statement, where it is new and the conviction of its writer isn't due.
+/// Checks another's statement: it must be new, and the conviction of its writer not due.
 fn check_foreign<S: Scheme>(
     alloc: Global,
     readings: &Readings<S>,
@@ -315,7 +318,7 @@ fn check_foreign<S: Scheme>(
     Ok(fit)
 }
 
-/// A conviction, where its proof is new.
+/// Checks a conviction: its proof must be new.
 fn check_conviction<S: Scheme>(
     alloc: Global,
     readings: &Readings<S>,
@@ -331,7 +334,7 @@ fn check_conviction<S: Scheme>(
     fit_of_new(decision)
 }
 
-/// A value of others, where it is new.
+/// Checks a value of others: it must be new.
 fn check_held<S: Scheme>(
     alloc: Global,
     readings: &Readings<S>,
@@ -345,7 +348,7 @@ fn check_held<S: Scheme>(
     fit_of_new(decision)
 }
 
-/// What is decided of something new, as it is to be read.
+/// What was decided on something new, as a record to read.
 fn fit_of_new(decision: Decision) -> Result<Fit, ReadError>
     ensures taken { TakesNew decision.answer decision.growth result }
     ensures parents { IfOk result (λ fit. fit.parents ≡ decision.parents) }
@@ -365,7 +368,7 @@ fn fit_of_new(decision: Decision) -> Result<Fit, ReadError>
     }
 }
 
-/// What is wrong with a record by what is answered to it, if it isn't new.
+/// What is wrong with a record, from the answer to it, if it isn't new.
 fn fault_of(answer: &Result<Taken, Check>) -> Option<RecordFault>
     ensures { result ≡ record_fault_of answer.now }
 {

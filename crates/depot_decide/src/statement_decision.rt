@@ -1,4 +1,4 @@
-//! What is decided of a statement.
+//! Decides on a statement.
 ghost use Rattle.std.specs.Prelude.{◌≡◌, IfOk};
 ghost use Rattle.depot_model.specs.Checks.{given_statement};
 ghost use Rattle.depot_model.specs.Journal.{accepted};
@@ -14,7 +14,7 @@ use depot_readings::Readings;
 use depot_update::decode_signed;
 use std::alloc::Global;
 
-/// What is decided of the text of a signed statement: what the checks say.
+/// Decides on the text of a signed statement, by the checks.
 pub fn decide_statement<S: Scheme>(
     alloc: Global,
     readings: &Readings<S>,
@@ -31,7 +31,7 @@ pub fn decide_statement<S: Scheme>(
     }
 }
 
-/// What is decided of a signed statement of this text. Its body is hashed once.
+/// Decides on a signed statement of this text. Its body is hashed once.
 pub fn decide_signed<S: Scheme>(
     alloc: Global,
     readings: &Readings<S>,

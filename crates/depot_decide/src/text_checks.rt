@@ -1,4 +1,4 @@
-//! Records are checked one by one, each behind those before it, and read into memory alone.
+//! Checks records one by one, each after those before it, and reads them into memory alone.
 ghost use Rattle.std.specs.Prelude.{◌≡◌, [], IfOk, IfErr, OnOk, OnErr};
 ghost use Rattle.depot_model.specs.Journal.{accepted};
 ghost use Rattle.depot_readings.specs.ReadingsView.{standing};
@@ -13,7 +13,7 @@ use depot_readings::Readings;
 use depot_sign::Roster;
 use std::alloc::Global;
 
-/// A record that isn't lawful behind those before it.
+/// A record that isn't lawful after those before it.
 #[derive(Clone, Copy, Debug, PartialEq, Eq)]
 pub struct PlaceFault {
     /// Its place, from 0.
@@ -22,8 +22,9 @@ pub struct PlaceFault {
     pub fault: RecordFault,
 }
 
-/// The first of these texts that isn't the record of a lawful journal of the node and roster, behind those before it, and what is
-/// wrong with it. None exactly where they are the texts of a lawful journal, which may have no records yet.
+/// Finds the first of these texts that isn't the record of a lawful journal of the node and roster, after those before
+/// it, and what is wrong with it. None exactly where they are the texts of a lawful journal, which may have no records
+/// yet.
 pub fn check_records<S: Scheme>(
     alloc: Global,
     me: NodeId,
@@ -39,7 +40,7 @@ pub fn check_records<S: Scheme>(
     found
 }
 
-/// Takes the records of texts, up to the first that has a fault.
+/// Reads the records of texts, up to the first that has a fault.
 fn take_texts<S: Scheme>(
     alloc: Global,
     readings: &mut Readings<S>,
@@ -63,7 +64,7 @@ fn take_texts<S: Scheme>(
     Ok(None)
 }
 
-/// What a node of a roster has read before its first record.
+/// The readings of a node of a roster before its first record.
 pub fn no_records<S: Scheme>(
     alloc: Global,
     me: NodeId,
@@ -77,8 +78,8 @@ pub fn no_records<S: Scheme>(
     Ok(Readings::new(alloc, state))
 }
 
-/// Takes the record of a text behind those that were read, where it is allowed there. Else it has the fault that is answered. After
-/// each error the records are as before.
+/// Reads the record of a text after those that were read, where it is allowed there; else returns its fault. On each
+/// error the records are unchanged.
 pub fn take_text<S: Scheme>(
     alloc: Global,
     readings: &mut Readings<S>,
@@ -95,7 +96,7 @@ pub fn take_text<S: Scheme>(
     Ok(())
 }
 
-/// Keeps the joined row of an update's parents, where there is one, till the update is read. What was read stays.
+/// Keeps the joined row of an update's parents, if there is one, until the update is read. What was read stays.
 pub fn keep_parents<S: Scheme>(readings: &mut Readings<S>, parents: Option<Parents>)
     requires { AreJoined (accepted readings.old.records) parents }
     ensures { readings.new ≡ readings.old }

@@ -1,4 +1,4 @@
-//! What is decided of a value.
+//! Decides on a value.
 ghost use Rattle.std.specs.Prelude.{IfOk};
 ghost use Rattle.depot_base.specs.Sized.{IsValue};
 ghost use Rattle.depot_model.specs.Checks.{given_value};
@@ -13,7 +13,7 @@ use depot_model::{Scheme, Taken, hash_of};
 use depot_readings::{Growth, Readings};
 use std::alloc::Global;
 
-/// What is decided of a value: it is kept where an accepted update names its hash and its length, unless one of its hash is
+/// Decides on a value: it is kept where an accepted update names its hash and its length, unless one of its hash is
 /// held.
 pub fn decide_value<S: Scheme>(
     alloc: Global,
@@ -29,7 +29,7 @@ pub fn decide_value<S: Scheme>(
     decide_short(alloc, readings, text)
 }
 
-/// What is decided of a value of at most 65,536 bytes. It is hashed once.
+/// Decides on a value of at most 65,536 bytes. It is hashed once.
 pub fn decide_short<S: Scheme>(
     alloc: Global,
     readings: &Readings<S>,

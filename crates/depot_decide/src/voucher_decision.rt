@@ -1,4 +1,4 @@
-//! What is decided of the vouchers that a node makes for what it took from others, and which ids it may vouch for.
+//! Decides on the vouchers that a node makes for what it took from others, and which ids it may vouch for.
 ghost use Rattle.std.specs.Prelude.{◌≡◌, ◌<◌, ◌+◌, ◌^◌, length, true, false, not, nat_lt, IfOk, IfErr};
 ghost use Rattle.std.specs.List.{AllByRecursion};
 ghost use Rattle.depot_base.specs.declared.limits.TheConstants.{MOST_IDS};
@@ -31,9 +31,10 @@ pub fn is_foreign<S: Scheme>(readings: &Readings<S>, id: &Hash32) -> bool
     }
 }
 
-/// What is decided of ids that the node is to vouch for, which are apart and of accepted updates of others: own vouchers, one for
-/// each 256 ids in the order given, unless too few leaves are left to sign them (`Spent`, with the number of the node's statements).
-/// Whether there is room for their records is left open. `Memory` may come in place of each answer.
+/// Decides on ids that the node should vouch for, which are distinct and of accepted updates of others: own vouchers,
+/// one for each 256 ids in the order given, unless too few leaves are left to sign them (`Spent`, with the number of
+/// the node's statements). Whether there is room for their records isn't checked. `Memory` may come in place of each
+/// answer.
 pub fn decide_vouchers<S: Scheme>(
     alloc: Global,
     readings: &Readings<S>,
@@ -56,14 +57,14 @@ pub fn decide_vouchers<S: Scheme>(
     Ok(growth)
 }
 
-/// Whether the node's tree has so many leaves.
+/// Whether the node's tree has at least `count` leaves.
 fn has_leaves<S: Scheme>(readings: &Readings<S>, count: u32) -> bool
     ensures { result ≡ not (nat_lt (leaf_count readings.now.listed readings.now.me) count) }
 {
     count == 0 || has_leaf(readings, count - 1)
 }
 
-/// The vouchers of a node for these ids, one for each 256 in the order given, the seqs from `seq` on.
+/// The vouchers of a node for these ids, one for each 256 in the order given, with the seqs from `seq` on.
 fn vouchers_for(
     alloc: Global,
     node: NodeId,

@@ -10,7 +10,7 @@ use Rattle.depot_fork.specs.declared.settled.Settled.{Settled}
 
 -- ---- one more
 
--- a link behind the others is the newest of its mark
+-- a link after the others is the newest of its mark
 pub newest_pushed : (before : Option ℕ) (fs : List Fresh) (f : Fresh) (mark : StatementMark) → newest_of before (fs ++ f ∷ []) mark ≡ (if same_mark f.mark mark then Some f.link else newest_of before fs mark)
 newest_pushed before [] f mark = refl
 newest_pushed before (g ∷ fs) f mark = newest_pushed (if same_mark g.mark mark then Some g.link else before) fs f mark

@@ -103,7 +103,7 @@ next_linked links next i d linked is =
 below_or_last : (i n : ℕ) → i < suc n → (i < n) ⊎ (i ≡ n)
 below_or_last i n low = grind arith
 
--- by what the links behind give
+-- by what the links after give
 with_same : (o : Option Link) (f g : Option ℕ → List ℕ) → ((x : Option ℕ) → f x ≡ g x) → link_places o f ≡ link_places o g
 with_same None f g same = refl
 with_same (Some l) f g same = ap (λ (ps : List ℕ). l.place ∷ ps) (same l.before)

@@ -38,7 +38,7 @@ other_way x y differ = by_test (bytes_eq y x) refl
 
 -- ---- a statement that has none of the marks that are asked for
 
--- one that isn't named as a prev isn't stepped behind
+-- one that isn't named as a prev isn't stepped after
 not_back : (t u : Update) → bytes_eq (id_of_update t) u.prev ≡ false → goes_back t u ≡ false
 not_back t u differ = by_test (bytes_eq u.prev zeros)
   where

@@ -36,7 +36,7 @@ use Rattle.depot_fork.proofs.FirstOpponents.{first_of_both}
 
 -- ---- the first that contradicts
 
--- one more in front, by how it contradicts
+-- one more at the front, by how it contradicts
 abbrev in_front : Signed → List Signed → Statement → Option Kind → Option (Signed × Kind)
 in_front g gs s o = elim o [
   | None ↦ opponent gs s
@@ -79,7 +79,7 @@ answered es s (Some f) here before =
     let none : (j : ℕ) (g : Signed) → j < f.index → slice_get (map kept_signed es) j ≡ Some g → kind_of g.statement s ≡ None = λ j g low is. by_entry es s j g (λ e read. before j e low read) is in
     record { signed = kept_signed mine.entry; at = at; kind = mine.kind; before = none; opponent = opponent_first _ s f.index (kept_signed mine.entry) f.kind at mine.kind none }
 
--- the same of the first at places where each that contradicts the statement is listed
+-- the same for the first at places where each that contradicts the statement is listed
 first_answered : (es : List KeptStatement) (s : Statement) (places : List ℕ) (found : Option Found) → IsFirstOf es places s found → ((place : ℕ) (e : KeptStatement) → slice_get es place ≡ Some e → IsIn place places ⊎ (kind_of e.statement s ≡ None)) → IsContradiction (map kept_signed es) s found
 first_answered es s places found first all = answered es s found first.here before
   where

@@ -7,7 +7,7 @@ use Rattle.depot_fork.specs.declared.heads.Heads.{Heads}
 use Rattle.depot_fork.specs.Links.{same_mark}
 use Rattle.depot_fork.specs.Settled.{settled}
 
--- the newest link of a mark, where this is the one before these, the oldest of which is the first
+-- the newest link of a mark, given the newest one before these links, of which the first is the oldest
 abbrev pub newest_of : Option ℕ → List Fresh → StatementMark → Option ℕ
 newest_of before [] mark = before
 newest_of before (f ∷ fs) mark = newest_of (if same_mark f.mark mark then Some f.link else before) fs mark
@@ -16,6 +16,6 @@ newest_of before (f ∷ fs) mark = newest_of (if same_mark f.mark mark then Some
 unfoldable pub head : Heads → StatementMark → Option ℕ
 head heads mark = newest_of (settled heads.settled mark) heads.fresh.items mark
 
--- how many links more have their memory
+-- how many links more have reserved memory
 unfoldable pub spare_heads : Heads → ℕ
 spare_heads heads = vec_capacity heads.fresh - vec_len heads.fresh

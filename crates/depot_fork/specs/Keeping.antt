@@ -20,7 +20,7 @@ is_under mark e = has_mark e.statement e.id mark
 unfoldable pub places_under : StatementMark → List KeptStatement → List ℕ
 places_under mark es = places_before (is_under mark) 0 es []
 
--- Just the places of the entries with a mark are listed under it, so that going through them costs no more than they do.
+-- Exactly the places of the entries with a mark are listed under it, so that scanning them costs no more than they do.
 pub record IsKeeping (es : List KeptStatement) (table : PlaceTable) : Type 0 where
   pub entries : AreEntries es
   pub listed : (mark : StatementMark) → places_with_mark table mark ≡ places_under mark es

@@ -8,7 +8,7 @@ use Rattle.depot_model.specs.Texts.{text_of_statement}
 use Rattle.depot_model.specs.Contradictions.{kind_of}
 use Rattle.depot_model.specs.Checks.{opponent}
 
--- what is seen: the signed statements in the order in which they were kept, and how many more have their memory
+-- what is seen: the signed statements in the order in which they were kept, and how many more have reserved memory
 pub record KeptSigned : Type 0 where
   pub kept : List Signed
   pub room : ℕ

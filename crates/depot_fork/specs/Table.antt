@@ -14,6 +14,6 @@ places_with_mark table mark = places_from table.links.items (length table.links.
 unfoldable pub link_count : PlaceTable → ℕ
 link_count table = length table.links.items
 
--- how many places more have their memory
+-- how many places more have reserved memory
 unfoldable pub spare_places : PlaceTable → ℕ
 spare_places table = min (spare_heads table.newest) (vec_capacity table.links - vec_len table.links)

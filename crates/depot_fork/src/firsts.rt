@@ -1,4 +1,4 @@
-//! The first kept statement, of those at some places, that a statement contradicts.
+//! The first kept statement at some places that a statement contradicts.
 ghost use Rattle.std.specs.Prelude.{◌≡◌, ◌<◌, [], ◌∷◌, length};
 ghost use Rattle.depot_model.specs.Texts.{IsStatement, id_of_statement};
 ghost use Rattle.depot_fork.specs.Entries.{AreEntries};

@@ -10,11 +10,11 @@ use crate::settled::Settled;
 use depot_base::Memory;
 use std::alloc::Global;
 
-/// The number of the newest link of each mark. Strangers pick the marks, so none is hashed: a look-up takes logarithmic
-/// time, whatever they are.
+/// The newest link of each mark, by number. Strangers pick the marks, so none is hashed: a look-up takes logarithmic
+/// time for any marks.
 ///
-/// A new link goes behind a few others that are looked at one by one, where there is room for it. Those go into the map
-/// when more room is asked for, which is the one call that may lack memory.
+/// A new link is appended to a short list, which is searched one by one and for which memory is reserved. Reserving
+/// more memory moves that list into the map; it is the one call that may run out of memory.
 #[derive(Drop)]
 pub(crate) struct Heads {
     settled: Settled,
@@ -55,7 +55,7 @@ impl Heads {
         newest
     }
 
-    /// Finds the memory for so many links more.
+    /// Reserves memory for `count` more links.
     #[tactic(auto, using(crate::proofs::HeadLaws::head_laws), unfolding(crate::specs::Heads::head, crate::specs::Heads::spare_heads))]
     pub(crate) fn reserve(&mut self, count: usize) -> Result<(), Memory>
         ensures same { (mark : StatementMark) → head self.new mark ≡ head self.old mark }
@@ -70,7 +70,7 @@ impl Heads {
         Ok(())
     }
 
-    /// Puts the links that aren't in the map yet into it.
+    /// Moves the links that aren't in the map yet into it.
     #[tactic(auto, using(crate::proofs::HeadLaws::head_laws), unfolding(crate::specs::Heads::head))]
     fn settle(&mut self) -> Result<(), Memory>
         ensures { (mark : StatementMark) → head self.new mark ≡ head self.old mark }
@@ -91,7 +91,7 @@ impl Heads {
     }
 }
 
-/// The newest link of a mark, where one more link is behind the one before.
+/// The newest link of a mark, with one more link after the one before.
 fn newest_with(fresh: &Fresh, mark: &StatementMark, before: Option<u32>) -> Option<u32>
     ensures { result ≡ (if same_mark fresh.now.mark mark.now then Some fresh.now.link else before) }
 {
@@ -102,8 +102,8 @@ fn newest_with(fresh: &Fresh, mark: &StatementMark, before: Option<u32>) -> Opti
     }
 }
 
-/// Puts links into a map, each in place of an older one. Where memory runs out, some may be there: with all of them before
-/// it, the map still gives the same.
+/// Inserts links into a map, each in place of an older one. Where memory runs out, some may be inserted: a look-up in
+/// the list of all of them and then in the map still gives the same.
 fn settle_all(map: &mut Settled, fresh: &[Fresh]) -> Result<(), Memory>
     ensures ok { OnOk result ((mark : StatementMark) → settled map.new mark ≡ newest_of (settled map.old mark) fresh.now mark) }
     ensures err { OnErr result ((mark : StatementMark) → newest_of (settled map.new mark) fresh.now mark ≡ newest_of (settled map.old mark) fresh.now mark) }

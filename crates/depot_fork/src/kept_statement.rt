@@ -6,7 +6,7 @@ ghost use Rattle.depot_model.specs.Contradictions.{kind_of};
 use crate::kinds::{have_one_body, kind_between};
 use depot_base::{Bytes, Hash32, Kind, Statement};
 
-/// A kept statement with its signature and its id. Its text isn't kept: it is made of the statement where it is asked for.
+/// A kept statement with its signature and its id. Its text isn't kept: it is encoded again where it is asked for.
 #[derive(Drop)]
 pub struct KeptStatement {
     /// The statement.

@@ -34,7 +34,7 @@ pub(crate) fn kind_between(
     kind_behind_number(kept, kept_id, came, came_id)
 }
 
-/// The first kind but that of the number, of two statements of one writer with different bodies and numbers.
+/// The first kind except that of the number, for two statements of one writer with different bodies and numbers.
 #[tactic(auto, using(crate::proofs::KindLaws::kinds))]
 fn kind_behind_number(
     kept: &Statement,
@@ -77,7 +77,7 @@ fn kind_of_updates(
     None
 }
 
-/// Whether an update names another as its prev, and doesn't go on from it.
+/// Whether an update names another as its prev, and its seq or its clock isn't greater.
 fn is_back(parent: &Update, parent_id: &Hash32, child: &Update) -> bool
     requires { parent_id.now ≡ id_of_update parent.now }
     ensures { result ≡ goes_back parent.now child.now }

@@ -1,14 +1,14 @@
-//! Contradictions among the signed statements that a node took from others.
+//! Contradictions among the signed statements that a node took from others: equivocation, and steps back.
 //!
-//! A set of kept statements, seen as their list in the order in which they were kept, and the number of statements more that
-//! have their memory. A statement that came is looked up among them: the first that it contradicts, and how. Each is kept with
-//! its id, so that nothing is hashed twice, and without its body, which is the text of the statement. Whether a contradiction is
-//! a fork that convicts its writer, this crate doesn't know.
+//! A set of kept statements is seen as their list in the order in which they were kept, and the number of statements
+//! for which memory is reserved. A new statement is looked up in it: the first kept one that it contradicts, and how.
+//! Each is kept with its id, so that nothing is hashed twice, and without its body, which is the text of the statement.
+//! Whether a contradiction is a fork that convicts its writer, this crate doesn't know.
 //!
-//! Kept statements are listed under marks: each under its writer and seq, an update under its writer and prev, and under its
-//! id. Two statements that contradict each other share such a mark, or one's prev is the other's id. So `contradiction` goes
-//! through at most four of these lists, and `find` through one: what a look-up costs grows with the kept statements that have a
-//! mark that it asks for, not with all that are kept.
+//! Kept statements are listed under marks: each under its writer and seq, an update also under its writer and prev, and
+//! under its id. Two statements that contradict each other share such a mark, or one's prev is the other's id. So
+//! `contradiction` searches at most four of these lists, and `find` one: a look-up costs in proportion to the kept
+//! statements with a mark that it asks for, not to all kept ones.
 #![tactic(auto)]
 
 mod firsts;
@@ -45,7 +45,7 @@ use std::marker::Model;
 pub struct Found {
     /// How the two contradict each other.
     pub kind: Kind,
-    /// The kept statement, from 0 in the order in which they were kept.
+    /// The kept statement, numbered from 0 in the order in which they were kept.
     pub index: u32,
 }
 
@@ -82,7 +82,8 @@ impl SeenStatements {
         }
     }
 
-    /// Finds the memory to keep this signed statement: after it the next `add` can't fail. After Memory the same are kept.
+    /// Reserves memory to keep this signed statement: the next `add` can't fail. On `Memory` the kept statements are
+    /// unchanged.
     pub fn reserve(&mut self, _signed: &Signed) -> Result<(), Memory>
         ensures same { self.new.kept ≡ self.old.kept }
         ensures room { OnOk result (0 < self.new.room) }
@@ -92,8 +93,8 @@ impl SeenStatements {
         self.table.reserve(MARKS)
     }
 
-    /// Keeps a signed statement behind the others. `id` is SHA-256 of its body. Where room was found before, it can't fail;
-    /// after Memory the same are kept.
+    /// Appends a signed statement. `id` is SHA-256 of its body. Where memory was reserved, it can't fail; on `Memory`
+    /// the kept statements are unchanged.
     pub fn add(&mut self, signed: Signed, id: Hash32) -> Result<(), Memory>
         requires text { IsSigned signed }
         requires id { id ≡ id_of_statement signed.statement }
@@ -120,8 +121,8 @@ impl SeenStatements {
         Ok(())
     }
 
-    /// The first kept statement that this one contradicts, and how. None exactly where it contradicts none. `id` is SHA-256 of
-    /// the statement's body. It takes no memory.
+    /// The first kept statement that this one contradicts, and how. None exactly where it contradicts none. `id` is
+    /// SHA-256 of its body. It takes no memory.
     pub fn contradiction(&self, statement: &Statement, id: &Hash32) -> Option<Found>
         requires text { IsStatement statement.now }
         requires id { id.now ≡ id_of_statement statement.now }
@@ -174,8 +175,8 @@ impl SeenStatements {
         self.table.places(&StatementMark::Id(*id)).last()
     }
 
-    /// How this statement contradicts the kept one of an index. None exactly where it doesn't. `id` is SHA-256 of the
-    /// statement's body. It takes no memory.
+    /// How this statement contradicts the kept one of an index. None exactly where it doesn't. `id` is SHA-256 of its
+    /// body. It takes no memory.
     pub fn kind_with(&self, index: u32, statement: &Statement, id: &Hash32) -> Option<Kind>
         requires index { index < length self.now.kept }
         requires text { IsStatement statement.now }

@@ -1,4 +1,4 @@
-//! What statements that contradict each other share.
+//! The marks that contradicting statements share.
 use depot_base::{Hash32, NodeId};
 
 /// What a kept statement is listed under.

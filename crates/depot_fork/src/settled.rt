@@ -9,7 +9,7 @@ use depot_base::{Hash32, Memory, NodeId};
 use std::alloc::Global;
 use std::collections::BTreeMap;
 
-/// A map for each kind of mark, so that a mark takes no more memory than its kind needs.
+/// One map for each kind of mark, so that a mark takes no more memory than its kind needs.
 #[derive(Drop)]
 pub(crate) struct Settled {
     numbers: BTreeMap<Number, u32>,
@@ -58,7 +58,7 @@ impl Settled {
         }
     }
 
-    /// Makes a link the newest of its mark. After Memory all is as before.
+    /// Makes a link the newest of its mark. On `Memory` all is unchanged.
     pub(crate) fn insert(&mut self, mark: StatementMark, link: u32) -> Result<(), Memory>
         ensures ok { OnOk result ((other : StatementMark) → settled self.new other ≡ (if same_mark mark other then Some link else settled self.old other)) }
         ensures err { OnErr result ((other : StatementMark) → settled self.new other ≡ settled self.old other) }

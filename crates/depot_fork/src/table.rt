@@ -42,7 +42,7 @@ impl PlaceTable {
         }
     }
 
-    /// Finds the memory to list so many places more.
+    /// Reserves memory to list `count` more places.
     #[tactic(auto, using(crate::proofs::LinkLaws::link_laws), unfolding(crate::specs::Table::link_count, crate::specs::Table::places_with_mark, crate::specs::Table::spare_places))]
     pub(crate) fn reserve(&mut self, count: usize) -> Result<(), Memory>
         ensures same { (mark : StatementMark) → places_with_mark self.new mark ≡ places_with_mark self.old mark }
@@ -55,7 +55,7 @@ impl PlaceTable {
         Ok(())
     }
 
-    /// Lists a place under a mark, before those that are there.
+    /// Lists a place under a mark, ahead of those that are listed already.
     #[tactic(auto, using(crate::proofs::LinkLaws::link_laws), unfolding(crate::specs::Table::link_count, crate::specs::Table::places_with_mark, crate::specs::Table::spare_places))]
     pub(crate) fn add(&mut self, mark: StatementMark, place: u32)
         requires room { 0 < spare_places self.old }

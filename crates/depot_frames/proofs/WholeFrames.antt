@@ -1,4 +1,4 @@
--- A whole frame stands whole among the bytes that begin with it.
+-- A whole frame is whole among the bytes that begin with it.
 use Rattle.std.proofs.Common.{◌≡◌, ℕ, suc, ◌+◌, ◌≤◌, List, [], ◌∷◌, length, take, drop, Bool, true, false, not, cond, ◌||◌, ◌-◌, refl, sym, ap, ◌∙◌, arith}
 use Rattle.std.specs.Prelude.{nat_lt}
 use Rattle.std.specs.Int.{w32, from_be_bytes}
@@ -25,7 +25,7 @@ by_tests false false false tag n bytes f few_is short_is e =
     let all = enough n (length (drop 4 bytes)) short_is in
     omega (arith, long, front, head, all, length-drop 4 bytes)
 
--- its five bytes and its payload stand among them
+-- its five bytes and its payload are among them
 pub whole_within : (bytes : List ℕ) (f : Frame) → frame_at bytes ≡ whole_frame f → 5 + length f.payload ≤ length bytes
 unfolding frame_at
 whole_within [] f e = absurd cc
@@ -33,7 +33,7 @@ whole_within (tag ∷ bytes) f e = by_tests (not (is_tag tag) || goes_astray tag
 
 -- ---- at a place
 
--- what stands at a place is a whole frame, and this is the place behind it
+-- what is at a place is a whole frame, and this is the place after it
 pub record IsWholeAt (stream : List ℕ) (at tag : ℕ) (payload : List ℕ) : Type 0 where
   pub is : frame_at (drop at stream) ≡ whole_frame (record { tag = tag; payload = payload })
   pub within : 5 + length payload ≤ length (take (length stream - at) (drop at stream))

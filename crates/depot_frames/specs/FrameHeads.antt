@@ -13,17 +13,18 @@ use Rattle.depot_frames.specs.declared.frame.FrameAt.TheVariants as place
 abbrev pub most_frame : ℕ
 most_frame = 5 + MOST_PAYLOAD
 
--- The most bytes that may come in one go: behind the five bytes of its head those of the payload that are missing, else one.
+-- The most bytes that may be read at once: after the five bytes of its head those of the payload that are missing, else
+-- one.
 unfoldable pub bytes_missing : List ℕ → ℕ
 bytes_missing bytes = if nat_lt (length bytes) 5 then 1 else (5 + from_be_bytes w32 (take 4 (drop 1 bytes))) - length bytes
 
--- this is what stands there, from a frame's start on
+-- this is what is there, from a frame's start on
 abbrev pub IsFrameStart : FrameAt → FrameStart → Type 0
 IsFrameStart at starts.Open = at ≡ open_frame
 IsFrameStart at (starts.Whole tag payload) = at ≡ whole_frame (record { tag = frame_byte tag; payload = payload.now })
 IsFrameStart at starts.Nothing = at ≡ no_frame
 
--- this is what stands at a place of a stream: a frame by its tag, and by the place behind its five bytes and its payload
+-- this is what is at a place of a stream: a frame by its tag, and by the place after its five bytes and its payload
 abbrev pub StandsAt : FrameAt → ℕ → Place → Type 0
 StandsAt found at place.Open = found ≡ open_frame
 StandsAt found at (place.Frame tag end) = (payload : List ℕ) × ((found ≡ whole_frame (record { tag = frame_byte tag; payload = payload })) × (end ≡ at + (5 + length payload)))

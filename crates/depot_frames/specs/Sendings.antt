@@ -1,4 +1,4 @@
--- What a bundle sends of updates and values, frame by frame, as far as it is chosen.
+-- The updates and values that a bundle sends, frame by frame, as far as they are chosen.
 use Rattle.std.specs.Prelude.{◌≡◌, ℕ, ◌+◌, ◌≤◌, List, ◌++◌, length, map, sum_by, Bool, true, false, Result, Ok, Err}
 use Rattle.std.specs.Borrow.{Bor}
 use Rattle.std.specs.List.{AllByRecursion, flat_map}
@@ -37,7 +37,7 @@ ArePayloads texts = AllByRecursion (λ t. length t ≤ MOST_PAYLOAD) texts
 abbrev pub frames_under : ℕ → List (List ℕ) → List Frame
 frames_under tag texts = map (λ t. record { tag = tag; payload = t }) texts
 
--- the frames of the texts of statements, and of the values behind them
+-- the frames of the texts of statements, and of the values after them
 abbrev pub parcel_frames : List (List ℕ) → List (List ℕ) → List Frame
 parcel_frames statements values = frames_under 2 statements ++ frames_under 3 values
 
@@ -46,7 +46,7 @@ pub record IsShort (s : Sending) : Type 0 where
   pub within : length s.frames ≤ MOST_BUNDLE
   pub few : s.updates + s.values ≤ MOST_BUNDLE_FRAMES
 
--- these frames stand behind those before them
+-- these frames follow those before them
 pub record HasAdded (s t : Sending) (statements behind : List (List ℕ)) : Type 0 where
   pub frames : t.frames ≡ s.frames ++ flat_map text_of_frame (parcel_frames statements behind)
   pub updates : t.updates ≡ s.updates + length statements

@@ -1,4 +1,4 @@
-//! What stands at the start of a frame.
+//! Recognising a frame at its start.
 ghost use Rattle.std.specs.Prelude.{◌≡◌, ◌≤◌, ◌++◌, ◌-◌, take, drop, length, replicate};
 ghost use Rattle.std.specs.Int.{w32, from_be_bytes};
 ghost use Rattle.depot_base.specs.Tags.{frame_byte};
@@ -8,10 +8,10 @@ ghost use Rattle.depot_frames.specs.FrameHeads.{bytes_missing, IsFrameStart, Sta
 use depot_base::FrameTag;
 use depot_base::limits::MOST_PAYLOAD;
 
-/// What bytes are, from the start of a frame on.
+/// What bytes are, from the start of a frame.
 #[derive(Clone, Copy)]
 pub enum FrameStart<'a> {
-    /// The beginning of a frame.
+    /// The beginning of a frame, as yet incomplete.
     Open,
     /// A whole frame.
     Whole {
@@ -20,27 +20,27 @@ pub enum FrameStart<'a> {
         /// Its payload.
         payload: &'a [u8],
     },
-    /// The beginning of none, whatever may come.
+    /// No frame's beginning, whatever may follow.
     Nothing,
 }
 
-/// What stands at a place of a stream of frames.
+/// What is at a place of a stream of frames.
 #[derive(Clone, Copy, Debug, PartialEq, Eq)]
 pub enum FrameAt {
     /// A whole frame.
     Frame {
         /// Its tag.
         tag: FrameTag,
-        /// The place behind it. Its payload begins five bytes behind its start.
+        /// The place after it. Its payload begins five bytes after its start.
         end: usize,
     },
     /// The beginning of a frame, or no byte.
     Open,
-    /// The beginning of none, whatever may come.
+    /// No frame's beginning, whatever may follow.
     Ill,
 }
 
-/// The least and the greatest number whose four bytes begin so.
+/// The least and the greatest number whose four bytes begin with these.
 fn reach(bytes: &[u8]) -> (u32, u32)
     ensures least { result.0 ≡ from_be_bytes w32 (take 4 bytes.now ++ replicate (4 - length (take 4 bytes.now)) 0) }
     ensures greatest { result.1 ≡ from_be_bytes w32 (take 4 bytes.now ++ replicate (4 - length (take 4 bytes.now)) 255) }
@@ -77,7 +77,7 @@ fn lengths(tag: FrameTag) -> (u32, u32)
     }
 }
 
-/// Whether a payload's front is neither 0 nor 1.
+/// Whether a payload's first byte is neither 0 nor 1.
 fn is_no_flag(payload: &[u8]) -> bool
     ensures { result ≡ is_no_flag payload.now }
 {
@@ -87,7 +87,7 @@ fn is_no_flag(payload: &[u8]) -> bool
     }
 }
 
-/// Whether a frame with this tag can't go on with these bytes.
+/// Whether no frame with this tag continues with these bytes.
 fn goes_astray(tag: FrameTag, bytes: &[u8]) -> bool
     ensures { result ≡ goes_astray (frame_byte tag) (take 4 bytes.now) (drop 4 bytes.now) }
 {
@@ -97,7 +97,8 @@ fn goes_astray(tag: FrameTag, bytes: &[u8]) -> bool
     !within || (tag == FrameTag::End && is_no_flag(bytes.get(4..).unwrap_or(&[])))
 }
 
-/// What these bytes are, from the start of a frame on. That they are no frame's is said at the first byte that decides it.
+/// What these bytes are, from the start of a frame. That they are no frame's is reported at the first byte that decides
+/// it.
 #[tactic(auto, unfolding(depot_model::specs::Frames::frame_at))]
 pub fn frame_start(bytes: &[u8]) -> FrameStart<'_>
     ensures { IsFrameStart (frame_at bytes.now) result }
@@ -125,8 +126,8 @@ pub fn frame_start(bytes: &[u8]) -> FrameStart<'_>
     }
 }
 
-/// What stands at a place of a stream: a frame goes by its tag, its length and the byte of End alone, whatever its payload is. The
-/// place is at most the stream's length. It takes no memory.
+/// What is at a place of a stream: whether a frame is there depends on its tag, its length and End's byte alone,
+/// whatever its payload is. The place is at most the stream's length. It takes no memory.
 pub fn frame_at(stream: &[u8], at: usize) -> FrameAt
     requires { at ≤ length stream.now }
     ensures { StandsAt (frame_at (drop at stream.now)) at result }
@@ -145,8 +146,8 @@ pub fn frame_at(stream: &[u8], at: usize) -> FrameAt
     }
 }
 
-/// The most bytes that may come in one go behind these of an open frame: those of the payload that are missing, or one of its
-/// head.
+/// The most bytes that a reader may ask for at once after these of an open frame: those of the payload that are
+/// missing, or one of its head.
 #[tactic(auto, unfolding(crate::specs::FrameHeads::bytes_missing))]
 pub fn missing(begun: &[u8]) -> usize
     ensures { result ≡ bytes_missing begun.now }

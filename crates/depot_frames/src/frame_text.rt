@@ -6,7 +6,7 @@ ghost use Rattle.depot_model.specs.Frames.{text_of_frame};
 
 use depot_base::{Bytes, FrameTag, Memory};
 
-/// Writes a frame at the end: its tag, the length of its payload in four bytes, and the payload, of at most 131,072 bytes.
+/// Appends a frame: its tag, the length of its payload in four bytes, and the payload, of at most 131,072 bytes.
 #[tactic(auto, using(depot_base::proofs::Writing::texts))]
 pub fn put_frame(out: &mut Bytes, tag: FrameTag, payload: &[u8]) -> Result<(), Memory>
     requires { length payload.now ≤ MOST_PAYLOAD }

@@ -16,7 +16,7 @@ use depot_base::{Bytes, DecodeError, Fields, Ids, Memory, Nodes};
 use depot_model::{Hello, HelloLeaves};
 use std::alloc::Global;
 
-/// So many nodes, rising strictly.
+/// Reads `count` nodes, rising strictly.
 #[tactic(auto, unfolding(depot_base::specs::Format::list_of))]
 fn nodes_in(alloc: Global, fields: &mut Fields<'_>, count: u16) -> Result<Nodes, Fault>
     ensures { Reads result fields.new ((list_of count node_number node_rises).read fields.old) }
@@ -25,7 +25,7 @@ fn nodes_in(alloc: Global, fields: &mut Fields<'_>, count: u16) -> Result<Nodes,
     Ok(Nodes::from_vec(nodes))
 }
 
-/// Reads so many leaves, rising strictly by (writer, id).
+/// Reads `count` leaves, rising strictly by (writer, id).
 #[tactic(auto, unfolding(depot_base::specs::Format::list_of))]
 pub fn leaves_in(alloc: Global, fields: &mut Fields<'_>, count: u16) -> Result<HelloLeaves, Fault>
     ensures { Reads result fields.new ((list_of count hello_leaf hello_leaf_rises).read fields.old) }
@@ -34,7 +34,7 @@ pub fn leaves_in(alloc: Global, fields: &mut Fields<'_>, count: u16) -> Result<H
     Ok(HelloLeaves::from_vec(leaves))
 }
 
-/// So many hashes, rising strictly.
+/// Reads `count` hashes, rising strictly.
 #[tactic(auto, unfolding(depot_base::specs::Format::list_of))]
 fn hashes_in(alloc: Global, fields: &mut Fields<'_>, count: u16) -> Result<Ids, Fault>
     ensures { Reads result fields.new ((digests count).read fields.old) }
@@ -43,7 +43,7 @@ fn hashes_in(alloc: Global, fields: &mut Fields<'_>, count: u16) -> Result<Ids, 
     Ok(Ids::from_vec(hashes))
 }
 
-/// A hello.
+/// Reads a hello.
 #[tactic(auto, unfolding(depot_model::specs::Hello::hello))]
 fn hello_in(alloc: Global, fields: &mut Fields<'_>) -> Result<Hello, Fault>
     ensures { Reads result fields.new (hello.read fields.old) }
@@ -67,7 +67,7 @@ fn hello_in(alloc: Global, fields: &mut Fields<'_>) -> Result<Hello, Fault>
     })
 }
 
-/// The same, of all the bytes that are left.
+/// Reads a hello from all the bytes that are left.
 fn whole_hello(alloc: Global, fields: &mut Fields<'_>) -> Result<Hello, Fault>
     ensures { Gives result (whole hello fields.old) }
 {
@@ -75,15 +75,15 @@ fn whole_hello(alloc: Global, fields: &mut Fields<'_>) -> Result<Hello, Fault>
     at_end(fields, found)
 }
 
-/// The hello whose text this is (docs/FORMATS.md). `IllFormed` comes exactly where it is no hello's text, with the offset in
-/// bytes of its first fault. Whether a roster has its node isn't asked.
+/// Decodes a hello (docs/FORMATS.md). `IllFormed` comes exactly where this is no hello's text, with the offset in bytes
+/// of the first fault. Whether a roster has its node isn't checked.
 pub fn decode_hello(alloc: Global, text: &[u8]) -> Result<Hello, DecodeError>
     ensures { Decodes hello text.now result }
 {
     answer(whole_hello(alloc, &mut Fields::new(text)))
 }
 
-/// Writes entries behind their count, two bytes.
+/// Writes entries after their count, two bytes.
 #[tactic(auto, using(depot_base::proofs::Writing::texts))]
 pub fn put_list<E: Entry>(out: &mut Bytes, list: &[E]) -> Result<(), Memory>
     requires { length list.now < 2 ^ 16 }
@@ -108,7 +108,7 @@ fn put_hello(out: &mut Bytes, hello: &Hello) -> Result<(), Memory>
     put_list(out, hello.wanted.as_slice())
 }
 
-/// The hello's one text, of 42 to 172,620 bytes (docs/FORMATS.md).
+/// Encodes a hello, in 42 to 172,620 bytes (docs/FORMATS.md).
 pub fn encode_hello(alloc: Global, hello: &Hello) -> Result<Bytes, Memory>
     requires { IsHello hello.now }
     ensures { IfOk result (λ text. text ≡ text_of_hello hello.now) }

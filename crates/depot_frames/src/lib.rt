@@ -1,12 +1,13 @@
 //! The texts that nodes send one another, and a bundle's frames as they are chosen.
 //!
-//! A hello is read and written in one way. A frame is a tag, the length of its payload and the payload; what stands at the start of
-//! bytes is said at the first byte that decides it, and so is how many bytes may come in one go before a frame can end.
+//! - A hello has one text, and a text at most one hello.
+//! - A frame is a tag, the length of its payload, and the payload. What the next bytes are is reported at the first
+//!   byte that decides it, and so is how many bytes may be read at once before a frame can end.
+//! - A `Sending` is seen as what it has: the frames of updates and values, one after another, their numbers, and the
+//!   ids of the updates of others among them. A statement is added with its values, and only where all of them fit into
+//!   a bundle.
 //!
-//! A `Sending` is seen as what it has: the frames of updates and values, one behind another, their numbers, and the ids of the
-//! updates of others among them. A statement is added with the values behind it, and only where all of them fit into a bundle.
-//!
-//! All of it goes by bytes alone: no node is asked, and nothing here says what is sent or what is taken.
+//! All of this depends on bytes alone: no node is asked, and nothing here says what is sent or what is taken.
 #![tactic(auto)]
 
 mod frame;

@@ -23,7 +23,7 @@ pub struct Sending {
     pub values: u32,
     /// The ids of the updates that the node didn't write, in their order.
     pub ids: Ids,
-    /// Whether something that was to be sent had no room.
+    /// Whether something that should be sent had no room.
     pub more: bool,
 }
 
@@ -66,8 +66,8 @@ impl Sending {
         }
     }
 
-    /// Adds the frames of signed statements, and those of the values behind them, where all fit into a bundle behind what is
-    /// chosen: at most 17 of them. Says whether they do. Where they don't, nothing is added.
+    /// Adds the frames of signed statements and of the values after them, at most 17 of them, where all fit into the
+    /// bundle after what is chosen already. Returns whether they do. Where they don't, nothing is added.
     pub fn add(&mut self, statements: &[&[u8]], values: &[&[u8]]) -> Result<bool, Memory>
         requires short { IsShort self.old }
         requires few { length statements.now + length values.now ≤ 1 + MOST_WRITES }

@@ -211,7 +211,7 @@ same_place n len le = elim (cases_lt n len) [
       ∙ (ap (λ (b : Bool). cond b (Some (len + 1)) None) (le-ltb (len + 1) (len + 1) (omega arith)) ∙ sym (ap (λ (b : Bool). cond b (Some n) None) (le-ltb n len ge)))
 ]
 
--- where an id that isn't the last's stands
+-- where an id that isn't the last's is
 place_of_id-push : (h : List ℕ) (us : List Update) (u : Update) → bytes_eq (id_of_update u) h ≡ false → place_of_id h (us ++ u ∷ []) ≡ place_of_id h us
 place_of_id-push h us u other =
     let test : Update → Bool = λ v. bytes_eq (id_of_update v) h in

@@ -32,7 +32,7 @@ use Rattle.depot_graph.proofs.Sorting.{standing_is, is_standing}
 
 -- ---- the places where a test holds
 
--- an update that passes the test stands there, so many places behind the first, which has the number n
+-- an update that passes the test is there, this many places after the first, which has the number n
 record IsWhere (test : Update → Bool) (n : ℕ) (us : List Update) (m : ℕ) : Type 0 where
   pub place : ℕ
   pub is : m ≡ n + place
@@ -91,7 +91,7 @@ pub is_child : (us : List Update) (p c : ℕ) → IsChild us p c → IsIn c (chi
 is_child us p c k =
     subst (λ (o : Option Update). IsIn c (children_by us o)) (sym k.at_above) (where_stands (λ (u : Update). is_among (id_of_update k.above) (prevs u)) us c k.below k.at_below (among_from (id_of_update k.above) (prevs k.below) k.named))
 
--- a parent stands earlier
+-- a parent occurs earlier
 earlier : (ids : List (List ℕ)) (us : List Update) (p c : ℕ) (t u : Update) → IsCausal ids us → slice_get us p ≡ Some t → slice_get us c ≡ Some u → IsIn (id_of_update t) (parents u) → p < c
 earlier ids [] p c t u causal at also named = absurd cc
 earlier ids (x ∷ xs) zero zero t u causal at also named =
@@ -124,7 +124,7 @@ prevs_are_earlier us causal item p kept =
 
 -- ---- the leaves of all
 
--- the leaves stand in the list
+-- the leaves are in the list
 pub leaf_within : (us : List Update) (leaves : List ℕ) (n : ℕ) → AreLeaves us leaves → IsIn n leaves → n < length us
 leaf_within us leaves n are on =
     let w = stands_where (λ t. not (is_prev_in us (id_of_update t))) us n (are.only n on) in
@@ -184,7 +184,7 @@ leaf_last us items n t c at on =
           absurd cc;
     }
 
--- what stands at the last places is the leaves of the past
+-- what is at the last places is the leaves of the past
 pub last_are_leaves : (us : List Update) (items found : List ℕ) → IsCausal [] us → AreLast us items found → HaveSame (updates_at_places us found) (leaves_of (closure_of items us))
 unfolding leaves_of
 last_are_leaves us items found c are = record {
@@ -201,7 +201,7 @@ last_are_leaves us items found c are = record {
 pub spots_long : (us : List Update) → length (spots (prev_places us)) ≡ length us
 spots_long us = (all_placed (prev_places us)).size ∙ length-map us (λ (t : Update). place_of_prev t.prev us)
 
--- what stands in a chain is one of the updates
+-- what is in a chain is one of the updates
 pub at_within : (us : List Update) (n chain place : ℕ) → IsSpotAt (prev_places us) n chain place → n < length us
 at_within us n chain place at = omega (arith, slice_get_within (spots (prev_places us)) n _ at, spots_long us)
 
@@ -212,7 +212,7 @@ next_is_child us n m chain place at next =
     let same : b.prev ≡ n = (all_placed (prev_places us)).once b.prev n (record { chain = chain; place = place }) b.spot at in
     subst (λ (k : ℕ). IsChild us k m) same (prev_is us m b.prev b.is)
 
--- the way back on a chain, from its last item: none that stands before the place was passed
+-- the way back on a chain, from its last item: none that comes before the place was passed
 pub record IsReached (us : List Update) (chain count n : ℕ) : Type 0 where
   pub place : ℕ
   pub at : IsSpotAt (prev_places us) n chain place
@@ -221,7 +221,7 @@ pub record IsReached (us : List Update) (chain count n : ℕ) : Type 0 where
 pub tip_is_reached : (us : List Update) (chain count tip : ℕ) → IsCausal [] us → IsTip (spots (prev_places us)) chain tip → IsReached us chain count tip
 tip_is_reached us chain count tip causal t = record { place = t.place; at = t.own; last = λ m other at low. tip_is_highest (prev_places us) chain tip (prevs_are_earlier us causal) t m other at }
 
--- the item before one that stands at the place or behind it
+-- the item before one that is at the place or after it
 pub before_is_reached : (us : List Update) (chain count n : ℕ) → (count ≡ 0 → ⊥) → (r : IsReached us chain count n) → count ≤ r.place → (p : ℕ) × ((slice_get (prev_places us) n ≡ Some (Some p)) × IsReached us chain count p)
 before_is_reached us chain count n some r high = by_place r.place r.at high r.last where
   by_place : (place : ℕ) → IsSpotAt (prev_places us) n chain place → count ≤ place → ((m other : ℕ) → IsSpotAt (prev_places us) m chain other → other < count → other ≤ place) → (p : ℕ) × ((slice_get (prev_places us) n ≡ Some (Some p)) × IsReached us chain count p)

@@ -66,7 +66,7 @@ preceding us items a b t u c at_a at_b p =
 there : (us : List Update) (items : List ChainItem) (b : ℕ) (u : Update) → AreClocked us items → slice_get us b ≡ Some u → (x : ChainItem) × (slice_get items b ≡ Some x)
 there us items b u c at = at_place items b (omega (arith, slice_get_within us b u at, c.long))
 
--- one of the updates stands at a place
+-- one of the updates is at a place
 pub place_of : (us : List Update) (t : Update) → IsIn t us → (n : ℕ) × (slice_get us n ≡ Some t)
 place_of [] t never = absurd never
 place_of (u ∷ us) t (inl here) = (0, ap (λ (v : Update). Some v) here)
@@ -166,7 +166,7 @@ sum_by-map : {X Y : Type 0} (f : Y → ℕ) (g : X → Y) (xs : List X) → sum_
 sum_by-map f g [] = refl
 sum_by-map f g (x ∷ xs) = sum_by-cons f (g x) (map g xs) ∙ (ap (λ (n : ℕ). f (g x) + n) (sum_by-map f g xs) ∙ sym (sum_by-cons (λ y. f (g y)) x xs))
 
--- the items stand where their updates do in the forest by prev
+-- the items are where their updates are in the forest by prev
 abbrev pub AreSpotted : List ChainItem → List Spot → Type 0
 AreSpotted items placed = map (λ x. record { chain = x.chain; place = x.place }) items ≡ placed
 

@@ -84,7 +84,7 @@ clock_items_behind-push front (t ∷ us) u =
 pub clock_items-push : (us : List Update) (u : Update) → clock_items (us ++ u ∷ []) ≡ clock_items us ++ clock_item us u ∷ []
 clock_items-push us u = clock_items_behind-push [] us u
 
--- what holds of the items of some updates, and of those behind
+-- what holds of the items of some updates, and of those after
 record IsKept (us : List Update) (items : List ChainItem) : Type 0 where
   pub clocked : AreClocked us items
   pub spotted : AreSpotted items (spots (prev_places us))
@@ -121,7 +121,7 @@ all_kept us c = kept_behind [] us [] c none_kept
 pub clock_long : (us : List Update) → IsCausal [] us → length (clock_items us) ≡ length us
 clock_long us c = (all_kept us c).clocked.long
 
--- the items stand where their updates do in the forest by prev
+-- the items are where their updates are in the forest by prev
 pub clock_spotted : (us : List Update) → IsCausal [] us → AreSpotted (clock_items us) (spots (prev_places us))
 clock_spotted us c = (all_kept us c).spotted
 
@@ -129,7 +129,7 @@ clock_spotted us c = (all_kept us c).spotted
 pub clock_precedes : (us : List Update) (a b : ℕ) → IsCausal [] us → a < length us → b < length us → (ItemPrecedes (clock_items us) a b → PrecedesAt us a b) × (PrecedesAt us a b → ItemPrecedes (clock_items us) a b)
 clock_precedes us a b c low_a low_b = clocked_precedes us (clock_items us) a b (all_kept us c).clocked low_a low_b
 
--- the same of items that are those of the updates
+-- the same for items that are those of the updates
 pub item_low : (us : List Update) (items : List ChainItem) (a : ℕ) → IsCausal [] us → items ≡ clock_items us → a < length us → a < length items
 item_low us items a c clocked low = omega (arith, low, ap length clocked, clock_long us c)
 
@@ -159,7 +159,7 @@ clock_linked us u c later =
 
 -- ---- what the next item brings to them
 
--- the items are those of the updates, and u stands behind them at this spot, with these parents
+-- the items are those of the updates, and u follows them at this spot, with these parents
 pub record IsNextIn (us : List Update) (u : Update) (items : List ChainItem) (spot : Spot) (parents : List ℕ) : Type 0 where
   pub causal : IsCausal [] us
   pub clocked : items ≡ clock_items us

@@ -31,7 +31,7 @@ use Rattle.depot_graph.proofs.ChainLeaves.{spots_long}
 
 -- ---- the items of ids
 
--- what is named stands among the updates, and one of the ids is its id
+-- what is named is among the updates, and one of the ids is its id
 record IsNamed (us : List Update) (ids : List (List ℕ)) (n : ℕ) : Type 0 where
   pub update : Update
   pub at : slice_get us n ≡ Some update

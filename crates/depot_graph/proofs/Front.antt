@@ -1,4 +1,4 @@
--- The front of a list in which each parent stands before its children.
+-- A prefix of a list in which each parent comes before its children.
 use Rattle.std.proofs.Common.{◌≡◌, ℕ, List, [], ◌∷◌, ◌++◌, true, refl, ap, subst, ◌∙◌, inl, inr}
 use Rattle.std.specs.Str.{bytes_eq}
 use Rattle.std.proofs.lemmas.Slice.Eq.{bytes_eq-Decides}
@@ -13,9 +13,9 @@ use Rattle.depot_model.proofs.Pasts.{past_in}
 
 -- ---- places
 
--- ---- what stands in front
+-- ---- what comes first
 
--- no id stands in front and behind
+-- no id comes first and after
 pub apart : (ids : List (List ℕ)) (us vs : List Update) (t u : Update) → IsCausal ids (us ++ vs) → IsIn t us → IsIn u vs → id_of_update t ≡ id_of_update u → ⊥
 unfolding IsCausal
 apart ids [] vs t u c never on e = never
@@ -37,11 +37,11 @@ path_in_front us vs t (w ∷ stops) u c u_in path =
     let later = path_in_front us vs w stops u c u_in path.1 in
     (step_in_front us vs t w c (precedes_from us w u (record { stops = stops; path = later })) path.0, later)
 
--- what precedes an update in front stands in front
+-- what precedes an update of the prefix comes first
 pub precedes_in_front : (us vs : List Update) (t u : Update) → IsCausal [] (us ++ vs) → IsIn u us → Precedes (us ++ vs) t u → Precedes us t u
 precedes_in_front us vs t u c u_in p = record { stops = p.stops; path = path_in_front us vs t p.stops u c u_in p.path }
 
--- an update behind others precedes none of them
+-- an update after others precedes none of them
 pub last_precedes_none : (us : List Update) (t u : Update) → IsCausal [] (us ++ u ∷ []) → IsIn t us → Precedes (us ++ u ∷ []) u t → ⊥
 last_precedes_none us t u c on p = apart [] us (u ∷ []) u u c (precedes_from us u t (precedes_in_front us (u ∷ []) u t c on p)) (inl refl) refl
 

@@ -36,7 +36,7 @@ first_place test xs x on e = let lt = passes_within test xs x on e in rw (lt-ltb
 
 -- ---- the place of an id
 
--- what stands at the place of an id has it
+-- what is at the place of an id has it
 pub has_place : (h : List ℕ) (us : List Update) (n : ℕ) → place_of_id h us ≡ Some n → (t : Update) × ((slice_get us n ≡ Some t) × (id_of_update t ≡ h))
 has_place h us n e = let f = found_at (λ u. bytes_eq (id_of_update u) h) us n e in (f.0, (f.1.0, (bytes_eq-Decides (id_of_update f.0) h).0 f.1.1))
 
@@ -46,7 +46,7 @@ has_no_place h us u e on same =
     let there = first_place (λ u. bytes_eq (id_of_update u) h) us u on ((bytes_eq-Decides (id_of_update u) h).1 same) in
     absurd cc
 
--- the place of an update's own id is where it stands
+-- the place of an update's own id is where it is
 pub own_place : (us : List Update) (n : ℕ) (t : Update) → IsCausal [] us → slice_get us n ≡ Some t → place_of_id (id_of_update t) us ≡ Some n
 own_place us n t c at =
     let place = first_place (λ u. bytes_eq (id_of_update u) (id_of_update t)) us t (in_at us n t at) ((bytes_eq-Decides (id_of_update t) (id_of_update t)).1 refl) in

@@ -29,7 +29,7 @@ place_of_key h us =
     ap (λ (n : ℕ). cond (nat_lt n (length (map id_of_update us))) (Some n) None) same
     ∙ ap (λ (m : ℕ). cond (nat_lt (position_or_len (λ (u : Update). bytes_eq (id_of_update u) h) us) m) (Some (position_or_len (λ (u : Update). bytes_eq (id_of_update u) h) us)) None) (length-map us id_of_update)
 
--- the first key that is an id stands where the first update with it does
+-- the first key that is an id is where the first update with it is
 pub found_by_key : (h : List ℕ) (es : List (List ℕ × Update)) (place : Option ℕ) → keys_of es ≡ map id_of_update (updates_in es) → place ≡ position (bytes_eq h) (keys_of es) → place ≡ place_of_id h (updates_in es)
 found_by_key h es place ids e = e ∙ (ap (position (bytes_eq h)) ids ∙ place_of_key h (updates_in es))
 

@@ -47,7 +47,7 @@ entry_is_known ids deps i d lt here known one h on =
       | inr new ↦ elim new [ inl same ↦ subst (λ (k : List ℕ). IsIn k ids) same one | inr never ↦ absurd never ]
     ]
 
--- an update whose parents are here and whose id isn't fits behind
+-- an update whose parents are here and whose id isn't fits after
 pub fits_behind : (us : List Update) (u : Update) (id : List ℕ) (o : Option ℕ) → IsCausal [] us → id ≡ id_of_update u → o ≡ place_of_id id us → is_some o ≡ false → ((h : List ℕ) → IsIn h (prevs u) → IsIn h (map id_of_update us))
     → ((h : List ℕ) → IsIn h (map (λ d. d.id) u.deps) → IsIn h (map id_of_update us)) → IsCausal [] (us ++ u ∷ [])
 fits_behind us u id o c own found none prev entries =

@@ -135,7 +135,7 @@ entries_are us me h last leaves unseen c are is each =
 
 -- ---- one item after the other
 
--- what is unseen of the first so many items
+-- what is unseen of the first this many items
 pub record AreUnseen (us : List Update) (items : List ℕ) (me : ℕ) (last : Option ℕ) (unseen : List ℕ) (i : ℕ) : Type 0 where
   pub inside : AllByRecursion (λ n. n < length us) unseen
   pub only : (n : ℕ) → IsIn n unseen → IsIn n (take i items) × IsUnseen us me last n

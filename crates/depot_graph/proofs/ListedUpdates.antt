@@ -16,7 +16,7 @@ use Rattle.depot_graph.specs.Listing.{ListedAt}
 use Rattle.depot_graph.specs.OrderLaws.{at_both, listed_both, one_place}
 use Rattle.depot_graph.proofs.ClockedItems.{place_of}
 
--- a test of two updates tells the order of their places
+-- a test of two updates decides the order of their places
 pub listed_tells : (us : List Update) (a b : ℕ) (t u : Update) (told : Bool) → slice_get us a ≡ Some t → slice_get us b ≡ Some u → told ≡ is_lt (listed t u) → (IsTrue told → ListedAt us a b) × (ListedAt us a b → IsTrue told)
 listed_tells us a b t u told at_a at_b is = (
   (λ yes_. (t, (at_a, (u, (at_b, sym is ∙ yes_))))),

@@ -35,7 +35,7 @@ updates_at-front us vs [] below = refl
 updates_at-front us vs (n ∷ ns) below =
     ap (λ (o : Option Update). option_to_list o ++ updates_at (us ++ vs) ns) (get_front us vs n below.0) ∙ ap (λ (ts : List Update). option_to_list (slice_get us n) ++ ts) (updates_at-front us vs ns below.1)
 
--- the update at a place in front
+-- the update at a place at the front
 at_cons : (us : List Update) (n : ℕ) (ns : List ℕ) (t : Update) → slice_get us n ≡ Some t → updates_at us (n ∷ ns) ≡ t ∷ updates_at us ns
 at_cons us n ns t e = ap (λ (o : Option Update). option_to_list o ++ updates_at us ns) e
 
@@ -130,7 +130,7 @@ behind_places key front (u ∷ us) ns c old =
     subst (λ (ws : List Update). AreLatestPlaces key ws (latest_behind key (front ++ u ∷ []) next us)) whole
     (behind_places key (front ++ u ∷ []) us next causal (next_places (writes key u) key front u ns refl (causal_front [] (front ++ u ∷ []) us causal) old))
 
--- what is mended update by update are the latest writes
+-- what is changed update by update are the latest writes
 pub are_latest_places : (key : List ℕ) (us : List Update) → IsCausal [] us → AreLatestPlaces key us (latest_places key us)
 are_latest_places key us c = behind_places key [] us [] c (record {
   below = tt;

@@ -22,7 +22,7 @@ in_found us place None u at never = absurd never
 in_found us place (Some t) u at (inl same) = subst (λ (w : Update). IsIn w us) same (in_at us place t at)
 in_found us place (Some t) u at (inr never) = absurd never
 
--- what stands at some places is one of the list
+-- what is at some places is one of the list
 pub at_places : (us : List Update) (places : List ℕ) (u : Update) → IsIn u (updates_at us places) → IsIn u us
 at_places us [] u never = absurd never
 at_places us (n ∷ ns) u on = elim (in_parts u (option_to_list (slice_get us n)) (updates_at us ns) on) [
@@ -30,7 +30,7 @@ at_places us (n ∷ ns) u on = elim (in_parts u (option_to_list (slice_get us n)
   | inr there ↦ at_places us ns u there
 ]
 
--- one of the list with the id of one at these places stands at them
+-- one of the list with the id of one at these places is at them
 pub of_places : (us : List Update) (places : List ℕ) (t : Update) → IsCausal [] us → IsIn t us → IsIn (id_of_update t) (map id_of_update (updates_at us places)) → IsIn t (updates_at us places)
 of_places us places t c t_in named =
     let u = from_map id_of_update (id_of_update t) (updates_at us places) named in
@@ -100,9 +100,9 @@ path_is_reached : (ids : List (List ℕ)) (us : List Update) (u : Update) → Is
 path_is_reached ids us u c on t [] t_in path = reached_takes [] ids us t u c t_in on path.named
 path_is_reached ids us u c on t (w ∷ stops) t_in path = reached_takes [] ids us t w c t_in (path_is_reached ids us u c on w stops path.0.below path.1) path.0.named
 
--- ---- what stands at some places with all that precedes it
+-- ---- what is at some places with all that precedes it
 
--- an update that stands at one of these places, or precedes one that does
+-- an update that is at one of these places, or precedes one that does
 abbrev pub IsUpTo : List Update → List ℕ → Update → Type 0
 IsUpTo us places t = IsIn t (updates_at us places) ⊎ ((u : Update) × (IsIn u (updates_at us places) × Precedes us t u))
 
@@ -130,7 +130,7 @@ unfolding past reached
 past_is_reached u [] = refl
 past_is_reached u (t ∷ ts) = ap (λ (rest : List Update). cond (is_among (id_of_update t) (parents u) || is_named t rest) (t ∷ rest) rest) (past_is_reached u ts)
 
--- no id stands twice in what is reached
+-- no id occurs twice in what is reached
 pub reached_apart : (ids : List (List ℕ)) (us : List Update) → HaveOwnIds us → HaveOwnIds (reached ids us)
 unfolding reached
 reached_apart ids [] apart = tt

@@ -8,7 +8,7 @@ use Rattle.depot_model.specs.Texts.{id_of_update}
 use Rattle.depot_model.specs.Order.{listed, RisesStrictly}
 use Rattle.depot_model.proofs.LatestLaws.{listed_trans, listed_back}
 
--- u put in front of the first before which it stands
+-- u put before the first before which it comes
 unfoldable pub put_listed : Update → List Update → List Update
 put_listed u [] = u ∷ []
 put_listed u (t ∷ ts) = cond (is_lt (listed u t)) (u ∷ t ∷ ts) (t ∷ put_listed u ts)

@@ -18,7 +18,7 @@ use Rattle.depot_graph.proofs.ClockedUpdates.{clock_spotted, clock_long, clock_n
 
 -- ---- items and their spots
 
--- an item stands in the forest where its clocks say
+-- an item is in the forest where its clocks say
 to_spot : (us : List Update) (a : ℕ) (x : ChainItem) → IsCausal [] us → slice_get (clock_items us) a ≡ Some x → SpotIsAt (prev_places us) a x.chain x.place
 to_spot us a x c at =
     let f : ChainItem → Spot = λ y. record { chain = y.chain; place = y.place } in
@@ -140,7 +140,7 @@ joined_row_is us items ms row c clocked inside joined =
           (slice_index ms k.0, (in_place ms k.0 k.1.0, up_to us a (slice_index ms k.0) c (low_at us a x.it c x.at) (inside k.0 k.1.0) k.1.1));
     }
 
--- what another is up to, or is up to another, stands among them
+-- what another is up to, or is up to another, is among them
 up_inside : (us : List Update) (a m : ℕ) → a < length us → IsUpToAt us a m → m < length us
 up_inside us a m low (inl same) = omega (arith, low, same)
 up_inside us a m low (inr p) = let both = both_at us a m (Precedes us) p in slice_get_within us m both.second both.at_second
@@ -170,7 +170,7 @@ joined_row_from us items ms row c clocked joined = subst (λ (xs : List ChainIte
   };
 })
 
--- where memory was found for it
+-- where memory was reserved for it
 pub joined_row_if : {T E : Type 0} (us : List Update) (items : List ChainItem) (ms : List ℕ) (view : T → List ℕ) (r : Result T E) → IsCausal [] us → items ≡ clock_items us → ((k : ℕ) → k < length ms → slice_index ms k < length us)
     → IfOk r (λ v. IsRowJoined items ms (view v)) → IfOk r (λ v. IsJoinedRow us ms (view v))
 joined_row_if us items ms view (Ok v) c clocked inside joined = joined_row_is us items ms (view v) c clocked inside joined

@@ -29,7 +29,7 @@ use Rattle.depot_graph.proofs.Reaching.{of_places, at_places}
 abbrev pub leaf_cmp : Leaf → Leaf → Ordering
 leaf_cmp a b = ordering_then (nat_cmp a.writer b.writer) (ordering_then (slice_cmp nat_cmp a.id b.id) (ordering_then (nat_cmp a.clock b.clock) (nat_cmp a.item b.item)))
 
--- which of the two stands first
+-- which of the two comes first
 pub decided : {X : Type 0} (p q rest : Ordering) (before same behind : X) → (q ≡ Equal → ⊥)
     → match_ordering (ordering_then (ordering_reverse p) (ordering_then (ordering_reverse q) rest)) before same behind ≡ cond (is_lt (ordering_then p q)) behind before
 decided Less q rest before same behind apart = refl
@@ -62,7 +62,7 @@ insert_put us t (u ∷ ts) apart =
 
 -- ---- what is in already
 
--- the lower one stands first
+-- the lower one comes first
 stays_behind : {X : Type 0} (p q rest : Ordering) (before same behind : X) → is_lt (ordering_then p q) ≡ true
     → match_ordering (ordering_then (ordering_reverse p) (ordering_then (ordering_reverse q) rest)) before same behind ≡ behind
 stays_behind Less q rest before same behind e = refl
@@ -106,9 +106,9 @@ insert_same us t (u ∷ ts) rise (inr there) =
     ∙ stays_behind (nat_cmp u.writer t.writer) (slice_cmp nat_cmp (id_of_update u) (id_of_update t)) rest before same behind (all_at (λ (x : Update). is_lower u x ≡ true) ts t rise.0 there)
     ∙ ap (λ (ls : List Leaf). leaf_in us u ∷ ls) (insert_same us t ts rise.1 there)
 
--- ---- what stands at some places
+-- ---- what is at some places
 
--- those that stand at some places are the updates there
+-- those that are at some places are the updates there
 pub standing_is : (us : List Update) (places : List ℕ) (t : Update) → IsCausal [] us → IsIn t (updates_at_places us places) → IsIn t (updates_at us places)
 standing_is us places t c on =
     let f = from_filter (λ (u : Update). is_among (id_of_update u) (map id_of_update (updates_at us places))) t us on in
@@ -135,7 +135,7 @@ sort_begins us keys none = none ∙ ap (λ (ts : List Update). map (leaf_in us) 
   none_stands [] = refl
   none_stands (t ∷ ts) = none_stands ts
 
--- the members then, where t stood before and where it didn't
+-- the members then, where t came before and where it didn't
 more_same : (us : List Update) (front more : List ℕ) (t : Update) → IsCausal [] us → updates_at us more ≡ updates_at us front ++ t ∷ [] → IsIn t (updates_at_places us front) → HaveSame (updates_at_places us front) (updates_at_places us more)
 more_same us front more t c are there = record {
   to = λ u on. is_standing us more u (subst (λ (ts : List Update). IsIn u ts) (sym are) (in_left u (updates_at us front) (t ∷ []) (standing_is us front u c on)));
@@ -183,7 +183,7 @@ sort_more us places i n t keys new c lt is at_n are now = by_test (is_among (id_
       put ∙ insert_put us t (by_id old) (λ u on. apart u (from_by_id u old on))
       ∙ ap (map (leaf_in us)) (same_by_id (t ∷ old) (updates_at_places us (take (i + 1) places)) (all_from (λ (u : Update). id_of_update u ≡ id_of_update t → ⊥) old apart, standing_apart us (take i places) c) (standing_apart us (take (i + 1) places) c) (more_new us (take i places) (take (i + 1) places) t c longer))
 
--- ---- what stands at a place
+-- ---- what is at a place
 
 -- the leaf made at a place is that of the update there
 pub made_at : (us : List Update) (n : ℕ) (t : Update) (id : List ℕ) → IsCausal [] us → slice_get us n ≡ Some t → id ≡ id_of_update t

@@ -8,7 +8,7 @@ use Rattle.depot_graph.specs.Clocked.{parent_places}
 use Rattle.depot_graph.specs.Kept.{child_lists, leaf_places, prev_places}
 use Rattle.depot_graph.specs.Kin.{with_siblings}
 
--- what u adds where it stands behind us
+-- what u adds where it follows us
 pub record IsAdditionBy (u : Update) (us : List Update) (addition : Addition) : Type 0 where
   pub prev : addition.prev ≡ place_of_prev u.prev us
   pub spot : addition.spot ≡ next_spot (prev_places us) (spots (prev_places us)) (place_of_prev u.prev us)

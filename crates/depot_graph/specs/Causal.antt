@@ -8,7 +8,7 @@ use Rattle.depot_model.specs.Texts.{id_of_update}
 use Rattle.depot_model.specs.Order.{parents, IsCausal}
 use Rattle.depot_model.proofs.Members.{among_from, all_among_to}
 
--- each parent of each update stands before it, and no id stands twice; these ids stand before them all
+-- each parent of each update comes before it, and no id occurs twice; these ids come before them all
 abbrev pub is_causal : List (List ℕ) → List Update → Bool
 is_causal ids [] = true
 is_causal ids (u ∷ us) = list_all (λ h. is_among h ids) (parents u) && (not (is_among (id_of_update u) ids) && is_causal (id_of_update u ∷ ids) us)

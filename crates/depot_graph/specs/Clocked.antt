@@ -12,7 +12,7 @@ use Rattle.depot_graph.specs.Kept.{prev_places}
 abbrev pub parent_places : List Update → Update → List ℕ
 parent_places us u = places_of us (parents u)
 
--- u behind us, as an item
+-- u after us, as an item
 abbrev pub clock_item : List Update → Update → ChainItem
 clock_item us u = record {
   chain = (next_spot (prev_places us) (spots (prev_places us)) (place_of_prev u.prev us)).chain;
@@ -20,7 +20,7 @@ clock_item us u = record {
   parents = parent_places us u;
 }
 
--- each of some updates, which stand behind others, as an item
+-- each of some updates, which follow others, as an item
 unfoldable pub clock_items_behind : List Update → List Update → List ChainItem
 clock_items_behind front [] = []
 clock_items_behind front (u ∷ us) = clock_item front u ∷ clock_items_behind (front ++ u ∷ []) us

@@ -5,6 +5,6 @@ use Rattle.depot_base.specs.declared.update.Update.{Update}
 use Rattle.depot_model.specs.Order.{listed}
 use Rattle.depot_model.specs.Items.{at}
 
--- the update at place a stands before the one at place b in the listed order
+-- the update at place a comes before the one at place b in the listed order
 abbrev pub ListedAt : List Update → ℕ → ℕ → Type 0
 ListedAt us a b = at us a (λ t. at us b (λ u. is_lt (listed t u) ≡ true))

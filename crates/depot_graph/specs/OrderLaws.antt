@@ -38,7 +38,7 @@ precedes_on us a b d p q =
 
 -- ---- by ids
 
--- no id stands at two places
+-- no id is at two places
 pub one_place : (ids : List (List ℕ)) (us : List Update) (i j : ℕ) (t u : Update) → IsCausal ids us → slice_get us i ≡ Some t → slice_get us j ≡ Some u → id_of_update t ≡ id_of_update u → i ≡ j
 one_place ids [] i j t u c at also same = absurd cc
 one_place ids (x ∷ xs) zero zero t u c at also same = refl
@@ -55,7 +55,7 @@ one_place ids (x ∷ xs) (suc i) (suc j) t u c at also same = ap suc (one_place 
 abbrev ListedBefore : Update → Update → Type 0
 ListedBefore t u = is_lt (listed t u) ≡ true
 
--- the same of the listed order
+-- the same for the listed order
 pub listed_both : (us : List Update) (a b : ℕ) (t u : Update) → slice_get us a ≡ Some t → slice_get us b ≡ Some u → ListedAt us a b → is_lt (listed t u) ≡ true
 listed_both us a b t u at_a at_b p =
     let both = both_at us a b ListedBefore p in
@@ -73,7 +73,7 @@ lists_on us a b d p q =
     let first = listed_both us a b before.first behind.first before.at_first behind.at_first p in
     (before.first, (before.at_first, (behind.second, (behind.at_second, listed_trans before.first behind.first behind.second first behind.holds))))
 
--- of two places one is listed before the other, since no id stands at both
+-- of two places one is listed before the other, since no id is at both
 lists_either : (b : Bool) (us : List Update) (x y : ℕ) (t u : Update) → is_lt (listed t u) ≡ b → slice_get us x ≡ Some t → slice_get us y ≡ Some u → (id_of_update u ≡ id_of_update t → ⊥) → ListedAt us x y ⊎ ListedAt us y x
 lists_either true us x y t u e at_x at_y apart = inl (t, (at_x, (u, (at_y, e))))
 lists_either false us x y t u e at_x at_y apart = inr (u, (at_y, (t, (at_x, listed_back t u e apart))))

@@ -23,7 +23,7 @@ pub record IsLastOfChain (us : List Update) (items : List ℕ) (n : ℕ) : Type 
 abbrev pub AreLast : List Update → List ℕ → List ℕ → Type 0
 AreLast us items found = (n : ℕ) → n < length us → (IsIn n found ↔ IsLastOfChain us items n)
 
--- the item is the last of its chain that stands before this place
+-- the item is the last of its chain that comes before this place
 pub record IsLastCounted (us : List Update) (chain count n : ℕ) : Type 0 where
   pub place : ℕ
   pub at : IsSpotAt (prev_places us) n chain place

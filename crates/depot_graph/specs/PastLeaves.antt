@@ -17,7 +17,7 @@ row_of l = numeral w16 l.writer ++ (numeral w64 l.clock ++ l.id)
 abbrev pub leaf_in : List Update → Update → Leaf
 leaf_in us t = record { writer = t.writer; id = id_of_update t; clock = t.clock; item = unwrap_or (place_of_id (id_of_update t) us) 0 }
 
--- the updates that stand at these places, each once, in the order of the list
+-- the updates that are at these places, each once, in the order of the list
 abbrev pub updates_at_places : List Update → List ℕ → List Update
 updates_at_places us places = filter (λ t. is_among (id_of_update t) (map id_of_update (updates_at us places))) us
 
@@ -26,6 +26,7 @@ pub record IsUnseen (us : List Update) (me : ℕ) (last : Option ℕ) (n : ℕ) 
   pub other : at us n (λ t. t.writer ≡ me → ⊥)
   pub apart : (p : ℕ) → last ≡ Some p → PrecedesAt us n p → ⊥
 
--- Where the update of this id, the last of a node, stands at this place, these are the places of the entries of the node's next update.
+-- Where the update of this id, the last of a node, is at this place, these are the places of the entries of the node's
+-- next update.
 abbrev pub AreNextEntries : ℕ → List Update → Option ℕ → List ℕ → Type 0
 AreNextEntries me us prev items = (id : List ℕ) → place_of_prev id us ≡ prev → updates_at us items ≡ next_entries me us id

@@ -1,4 +1,4 @@
--- Rows of updates: of each chain of the forest by prev, how many of its items are an item or precede it.
+-- Rows of updates: for each chain of the forest by prev, how many of its items are an item or precede it.
 use Rattle.std.specs.Prelude.{◌≡◌, ◌<◌, ◌≤◌, ◌⊎◌, ℕ, List, length, slice_index}
 use Rattle.depot_base.specs.declared.update.Update.{Update}
 use Rattle.depot_model.specs.Items.{PrecedesAt}
@@ -20,7 +20,7 @@ pub record IsCountAt (us : List Update) (chain item n : ℕ) : Type 0 where
   pub counted : (a place : ℕ) → IsSpotAt (prev_places us) a chain place → IsUpToAt us a item → place < n
   pub only : (a place : ℕ) → IsSpotAt (prev_places us) a chain place → place < n → IsUpToAt us a item
 
--- each item that is this one or precedes it stands, in its chain, at a place below the row's entry
+-- each item that is this one or precedes it is, in its chain, at a place below the row's entry
 abbrev pub CountsAllAt : List Update → ℕ → List ℕ → Type 0
 CountsAllAt us item row = (a chain place : ℕ) → IsSpotAt (prev_places us) a chain place → IsUpToAt us a item → place < slice_index row chain
 

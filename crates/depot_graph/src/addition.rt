@@ -2,18 +2,18 @@
 
 use depot_virtual::Spot;
 
-/// What an update adds, found before the first write.
+/// What an update adds, computed before the first write.
 #[derive(Drop)]
 pub struct Addition {
     /// The item of its prev, if it has one.
     pub prev: Option<u32>,
-    /// Where it stands in the forest by prev.
+    /// Its place in the forest by prev.
     pub spot: Spot,
     /// The items of its parents.
     pub parents: Vec<u32>,
-    /// The leaves then.
+    /// The leaves after it.
     pub leaves: Vec<u32>,
-    /// The children of the prev then.
+    /// The children of the prev after it.
     pub siblings: Vec<u32>,
     /// Its own children, of which there are none.
     pub none: Vec<u32>,

@@ -12,7 +12,7 @@ use depot_model::Past;
 use std::marker::Brand;
 use std::sync::ledger::{Blank, Ledger};
 
-/// Whether the item `a` precedes the item `b`. The step is counted for nobody.
+/// Whether the item `a` precedes the item `b`. Nobody counts the step.
 pub fn precedes(graph: &Graph, a: u32, b: u32) -> bool
     requires a { a < length (⟦<Graph as Past>⟧.updates graph.now) }
     requires b { b < length (⟦<Graph as Past>⟧.updates graph.now) }
@@ -21,7 +21,7 @@ pub fn precedes(graph: &Graph, a: u32, b: u32) -> bool
     precedes_with::<Brand>(graph, a, b, Blank::new(1))
 }
 
-/// The same, where the step goes into a ledger that is still blank.
+/// The same, with the step in a ledger that is still blank.
 fn precedes_with<L: Ledger>(graph: &Graph, a: u32, b: u32, blank: Blank) -> bool
     requires name { blank.name ≡ L.name }
     requires parts { blank.parts ≡ L.parts }

@@ -1,4 +1,4 @@
-//! The history hash, and what the next own update names.
+//! The history hash, as the article names it, and what the next own update names.
 ghost use Rattle.std.specs.Prelude.{◌≡◌, ◌<◌, ◌↔◌, ℕ, List, Option, length, map, IfOk, IsTrue};
 ghost use Rattle.std.specs.Option.{ForSome};
 ghost use Rattle.std.specs.List.{AllByRecursion};
@@ -55,7 +55,7 @@ pub fn history_hash(alloc: Global, graph: &Graph, parents: &[u32]) -> Result<Has
     history_of_row(alloc, graph, row.as_slice())
 }
 
-/// The same, of the items whose joined row this is.
+/// The same, for the items with this joined row.
 pub fn history_of_row(alloc: Global, graph: &Graph, row: &[u32]) -> Result<Hash32, Memory>
     requires { length row.now ≡ chain_count (prev_places (⟦<Graph as Past>⟧.updates graph.now)) }
     ensures { (items : List ℕ) → IsJoinedRow (⟦<Graph as Past>⟧.updates graph.now) items row.now → IfOk result (λ hash. hash ≡ hash_of_history (closure_of items (⟦<Graph as Past>⟧.updates graph.now))) }
@@ -90,7 +90,7 @@ pub fn changed_leaves(
     items_of(alloc, &leaves)
 }
 
-/// Those of the items that are of other writers than this node, and don't precede its last one.
+/// The items of other writers that don't precede the node's last one.
 fn unseen_of(
     alloc: Global,
     graph: &Graph,

@@ -16,7 +16,7 @@ pub struct Leaf {
     pub writer: NodeId,
     pub id: Hash32,
     pub clock: u64,
-    /// The item of the set that it is.
+    /// Its item.
     pub item: u32,
 }
 

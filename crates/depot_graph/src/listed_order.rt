@@ -58,7 +58,7 @@ impl Precedes for Order<'_> {
     ghost lists_all = { λ o a b has_a has_b. one_is_first (updates_in o.items.now.entries) a b (causal_from_test [] (updates_in o.items.now.entries) o.causal) has_a has_b };
 }
 
-/// How two updates with these ids stand in the listed order: by clock, writer, seq and id.
+/// How two updates with these ids are in the listed order: by clock, writer, seq and id.
 fn compare(update: &Update, id: &Hash32, other: &Update, other_id: &Hash32) -> Ordering
     requires id { id.now ≡ id_of_update update.now }
     requires other_id { other_id.now ≡ id_of_update other.now }

@@ -12,7 +12,7 @@ use depot_base::Memory;
 use depot_model::Past;
 use std::alloc::Global;
 
-/// The last item of a chain that stands before this place, if one does.
+/// The last item of a chain before this place, if there is one.
 fn last_before(graph: &Graph, chain: u32, place: u32) -> Option<u32>
     requires { chain < chain_count (prev_places (⟦<Graph as Past>⟧.updates graph.now)) }
     ensures some { IfSome result (IsLastCounted (⟦<Graph as Past>⟧.updates graph.now) chain place) }
@@ -28,8 +28,8 @@ fn last_before(graph: &Graph, chain: u32, place: u32) -> Option<u32>
     Some(item)
 }
 
-/// The leaves of what some items are with all that precedes one of them, by the joined row of these items: of each chain at most
-/// one, the last item that the row counts.
+/// The leaves of some items with all that precede them, by the joined row of these items: at most one of each chain,
+/// the last item that the row counts.
 pub fn leaves_of_past(alloc: Global, graph: &Graph, row: &[u32]) -> Result<Vec<u32>, Memory>
     requires { length row.now ≡ chain_count (prev_places (⟦<Graph as Past>⟧.updates graph.now)) }
     ensures leaves { (items : List ℕ) → IsJoinedRow (⟦<Graph as Past>⟧.updates graph.now) items row.now → IfOk result (λ found. AreLast (⟦<Graph as Past>⟧.updates graph.now) items found.items) }

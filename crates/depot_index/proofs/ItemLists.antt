@@ -76,7 +76,7 @@ all_put Q xs zero item all holds = (holds, all)
 all_put Q [] (suc n) item all holds = (holds, tt)
 all_put Q (y ∷ ys) (suc n) item all holds = (all.0, all_put Q ys n item all.1 holds)
 
--- an item put behind those that are listed before it
+-- an item put after those that are listed before it
 pub put_rises : (listed : ℕ → ℕ → Type 0) (xs : List ℕ) (n item : ℕ) → AllPairsByRecursion listed xs → n ≤ length xs → ((k : ℕ) → k < n → listed (get_or xs k 0) item) → AllByRecursion (listed item) (drop n xs) → AllPairsByRecursion listed (take n xs ++ item ∷ drop n xs)
 put_rises listed xs zero item rises low before behind = (behind, rises)
 put_rises listed [] (suc n) item rises low before behind = absurd (omega (arith, low))
@@ -89,7 +89,7 @@ all_from : (listed : ℕ → ℕ → Type 0) (item y : ℕ) (rest : List ℕ) �
 all_from listed item y [] on all = tt
 all_from listed item y (z ∷ zs) on all = (on z (inl refl) all.0, all_from listed item y zs (λ w there. on w (inr there)) all.1)
 
--- an item that is listed before one of a rising list is listed before all behind it
+-- an item that is listed before one of a rising list is listed before all after it
 pub behind_rises : (listed : ℕ → ℕ → Type 0) (xs : List ℕ) (n item : ℕ) → AllPairsByRecursion listed xs → (n < length xs → listed item (get_or xs n 0)) → ((y z : ℕ) → IsIn y xs → IsIn z xs → listed item y → listed y z → listed item z) → AllByRecursion (listed item) (drop n xs)
 behind_rises listed [] zero item rises first on = tt
 behind_rises listed (y ∷ ys) zero item rises first on =
@@ -98,7 +98,7 @@ behind_rises listed (y ∷ ys) zero item rises first on =
 behind_rises listed [] (suc n) item rises first on = tt
 behind_rises listed (y ∷ ys) (suc n) item rises first on = behind_rises listed ys n item rises.1 (λ low. first (omega (arith, low))) (λ v w v_in w_in. on v w (inr v_in) (inr w_in))
 
--- ---- a list that is gone over
+-- ---- a list that is scanned
 
 pub all_of_in : (P : ℕ → Type 0) (xs : List ℕ) → ((x : ℕ) → IsIn x xs → P x) → All P xs
 all_of_in P xs each k d low = each (get_or xs k d) (in_read (get_or xs k d) xs k low (get_or_default xs k (get_or xs k d) d low))

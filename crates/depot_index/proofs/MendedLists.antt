@@ -17,7 +17,7 @@ pub record Orders (precedes listed : ℕ → ℕ → Type 0) (item : ℕ) (items
 abbrev pub IsApart : (ℕ → ℕ → Type 0) → ℕ → ℕ → Type 0
 IsApart precedes item a = precedes a item → ⊥
 
--- an item of the list that isn't listed behind the new one is listed before it
+-- an item of the list that isn't listed after the new one is listed before it
 listed_before : (precedes listed : ℕ → ℕ → Type 0) (item a : ℕ) (items : List ℕ) → Orders precedes listed item items → IsIn a items → (a ≡ item → ⊥) → (listed item a → ⊥) → listed a item
 listed_before precedes listed item a items o on other never = elim (o.all a on) [
   | inl same ↦ absurd (other same)
@@ -29,7 +29,7 @@ get_in [] k low = absurd (omega (arith, low))
 get_in (x ∷ xs) zero low = inl refl
 get_in (x ∷ xs) (suc k) low = inr (get_in xs k (omega (arith, low)))
 
--- the mended list rises
+-- the updated list rises
 mended_rises : (precedes listed : ℕ → ℕ → Type 0) (item : ℕ) (old kept : List ℕ) (place : ℕ) → Orders precedes listed item old → ((a : ℕ) → IsIn a old → a ≡ item → ⊥) → AreKept (IsApart precedes item) old kept → IsPlaceFor listed item kept place → AllPairsByRecursion listed old → AllPairsByRecursion listed (take place kept ++ item ∷ drop place kept)
 mended_rises precedes listed item old kept place o other k p rises =
     let from : (a : ℕ) → IsIn a kept → IsIn a old = λ a on. (in_kept (IsApart precedes item) old kept a k on).0 in
@@ -40,7 +40,7 @@ mended_rises precedes listed item old kept place o other k p rises =
     listed_before precedes listed item (get_or kept j 0) old o on (other (get_or kept j 0) on) (p.behind j lt))
     (behind_rises listed kept place item up p.first (λ y z y_in z_in. o.on y z (from y y_in) (from z z_in)))
 
--- where a list has the latest of some items, the mended one has the latest of these and of the new one
+-- where a list has the latest of some items, the updated one has the latest of these and of the new one
 pub latest_mended : (precedes listed : ℕ → ℕ → Type 0) (item : ℕ) (among old new : List ℕ) → Orders precedes listed item old → IsMended precedes listed item old new → IsNewest precedes among item → AreLatestOf precedes listed among old → AreLatestOf precedes listed (among ++ item ∷ []) new
 latest_mended precedes listed item among old new o (kept, (place, (k, (is_place, is)))) newest latest =
     let made : List ℕ = take place kept ++ item ∷ drop place kept in
@@ -99,7 +99,7 @@ no_other_first listed x y xs ys no_self on all_x all_y (inl here) y_in = here
 no_other_first listed x y xs ys no_self on all_x all_y (inr later) (inl here) = sym here
 no_other_first listed x y xs ys no_self on all_x all_y (inr later) (inr also) = absurd (no_self (on (all_at (listed x) xs y all_x also) (all_at (listed y) ys x all_y later)))
 
--- behind the same first item stand the same items
+-- after the same first item come the same items
 same_behind : (listed : ℕ → ℕ → Type 0) (x y : ℕ) (xs ys : List ℕ) → y ≡ x → (listed x x → ⊥) → AllByRecursion (listed x) xs → ((a : ℕ) → IsIn a (x ∷ xs) → IsIn a (y ∷ ys)) → (a : ℕ) → IsIn a xs → IsIn a ys
 same_behind listed x y xs ys same no_self all from a on = elim (from a (inr on)) [
   | inl here ↦ absurd (no_self (subst (listed x) (sym here ∙ same) (all_at (listed x) xs a all on)))

@@ -12,7 +12,7 @@ pub record AreLatestOf (precedes listed : ℕ → ℕ → Type 0) (among latest 
   pub only : (a : ℕ) → Contains latest a → IsLatestOf precedes among a
   pub rising : AllPairsByRecursion listed latest
 
--- Whatever these items are, as long as the order has them: the latest of them, as they are listed, are one list.
+-- The latest of any items that the order has, as they are listed, are one list.
 abbrev pub HaveOneLatest : (ℕ → Type 0) → (ℕ → ℕ → Type 0) → (ℕ → ℕ → Type 0) → Type 0
 HaveOneLatest has precedes listed = (among latest others : List ℕ) → All has among
     → AreLatestOf precedes listed among latest → AreLatestOf precedes listed among others → latest ≡ others
@@ -21,12 +21,12 @@ HaveOneLatest has precedes listed = (among latest others : List ℕ) → All has
 abbrev pub IsNewest : (ℕ → ℕ → Type 0) → List ℕ → ℕ → Type 0
 IsNewest precedes among item = (a : ℕ) → Contains among a → (a ≡ item → ⊥) × (precedes item a → ⊥)
 
--- Whatever items the old list has the latest of, where the item is none of these and precedes none, the new list has the
--- latest of these and the item.
+-- Where the old list has the latest of some items, and the new item is none of these and precedes none, the new list
+-- has the latest of these and the item.
 abbrev pub IsLatestWith : (ℕ → ℕ → Type 0) → (ℕ → ℕ → Type 0) → ℕ → List ℕ → List ℕ → Type 0
 IsLatestWith precedes listed item old new = (among : List ℕ) → IsNewest precedes among item → AreLatestOf precedes listed among old → AreLatestOf precedes listed (among ++ item ∷ []) new
 
--- ---- how a list is mended
+-- ---- how a list is updated
 
 -- these are the items of a list that a fact holds of, in the list's order
 abbrev pub AreKept : (ℕ → Type 0) → List ℕ → List ℕ → Type 0
@@ -39,6 +39,6 @@ pub record IsPlaceFor (listed : ℕ → ℕ → Type 0) (item : ℕ) (items : Li
   pub behind : (k : ℕ) → k < place → listed item (slice_index items k) → ⊥
   pub first : place < length items → listed item (slice_index items place)
 
--- the list with the items left out that precede this one, and the item where it is listed
+-- the list without the items that precede this one, and with the item where it is listed
 abbrev pub IsMended : (ℕ → ℕ → Type 0) → (ℕ → ℕ → Type 0) → ℕ → List ℕ → List ℕ → Type 0
 IsMended precedes listed item old new = (kept : List ℕ) × ((place : ℕ) × (AreKept (λ a. precedes a item → ⊥) old kept × (IsPlaceFor listed item kept place × (new ≡ take place kept ++ item ∷ drop place kept))))

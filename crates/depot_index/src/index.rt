@@ -10,8 +10,8 @@ use std::collections::BTreeMap;
 use std::marker::Model;
 use std::sync::ledger::Ledger;
 
-/// Of each key its latest items, in a map that keeps the keys in order. A stranger picks the keys, so none is hashed: a
-/// look-up takes logarithmic time, whatever they are.
+/// The latest items of each key, in a map ordered by key. A stranger picks the keys, so none is hashed: a look-up takes
+/// logarithmic time for any keys.
 #[derive(Drop)]
 pub struct KeyIndex {
     lists: BTreeMap<Vec<u8>, Vec<u32>>,
@@ -38,8 +38,8 @@ impl KeyIndex {
         }
     }
 
-    /// Finds the memory for one item more of this key, whatever other keys memory is found for or items are added to before
-    /// it. The latest items stay.
+    /// Reserves memory for one more item of this key, whatever other keys are reserved or added to before it. The
+    /// latest items stay.
     pub fn reserve(&mut self, key: &Key) -> Result<(), Memory>
         ensures same { (other : List ℕ) → latest_of other self.new ≡ latest_of other self.old }
         ensures room { OnOk result (0 < room_of key.now self.new) }
@@ -56,11 +56,11 @@ impl KeyIndex {
         Ok(())
     }
 
-    /// Adds an item of this key, in an order in which it precedes no item here. After Memory the latest items are as
-    /// before. It takes a step for each latest item that the key had.
+    /// Adds an item of this key, in an order in which it precedes no item here. On `Memory` the latest items are
+    /// unchanged. It takes a step for each latest item that the key had.
     ///
-    /// The order has the item and the key's latest items in use. Where these are the latest of some items in this order, the
-    /// item being none of them, they are from now on the latest of those and the item.
+    /// The order has the item and the key's latest items in use. Where these are the latest of some items in this
+    /// order, not counting the new item, the call makes them the latest of those and the item.
     pub fn add<P: Precedes, L: Ledger>(
         &mut self,
         order: &P,
@@ -82,7 +82,7 @@ impl KeyIndex {
         Ok(())
     }
 
-    /// Mends the list of a key, for which there is room.
+    /// Updates the list of a key, for which memory is reserved.
     fn mend_list<P: Precedes, L: Ledger>(
         &mut self,
         order: &P,
@@ -104,7 +104,7 @@ impl KeyIndex {
         }
     }
 
-    /// Whether there is memory for one item more of a key.
+    /// Whether there is memory for one more item of a key.
     fn has_room(&self, key: &Key) -> bool
         ensures { IsTrue result ↔ (0 < room_of key.now self.now) }
     {

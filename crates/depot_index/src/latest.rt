@@ -1,4 +1,4 @@
-//! How the latest items of a key are mended when an item more is written.
+//! How a new item changes the latest items of a key.
 ghost use Rattle.std.specs.Prelude.{◌≡◌, ◌<◌, ◌≤◌, ◌+◌, length, All, vec_len};
 ghost use Rattle.std.specs.Vec.{vec_capacity};
 ghost use Rattle.depot_index.specs.LatestItems.{AreKept, HaveOneLatest, IsPlaceFor, IsMended};
@@ -6,8 +6,8 @@ ghost use Rattle.depot_index.specs.LatestItems.{AreKept, HaveOneLatest, IsPlaceF
 use depot_base::{Precedes, Steps};
 use std::sync::ledger::Ledger;
 
-/// Leaves out of a list the items that precede this one, and puts it where it is listed. There is room for it. A step is
-/// taken for each item of the list.
+/// Removes the items that precede this one from a list, and inserts this one where it is listed. There is room for it.
+/// It takes a step for each item of the list.
 pub fn mend<P: Precedes, L: Ledger>(list: &mut Vec<u32>, order: &P, item: u32, steps: &mut Steps<L>)
     requires room { vec_len list.old < vec_capacity list.old }
     requires item { P.has order.now item }
@@ -20,7 +20,7 @@ pub fn mend<P: Precedes, L: Ledger>(list: &mut Vec<u32>, order: &P, item: u32, s
     let _ = list.insert(place, item);
 }
 
-/// Leaves out of a list the items that precede this one. A step is taken for each item of the list.
+/// Removes the items that precede this one from a list. It takes a step for each item of the list.
 fn leave_out<P: Precedes, L: Ledger>(
     list: &mut Vec<u32>,
     order: &P,
@@ -60,7 +60,7 @@ fn place_among<P: Precedes>(list: &[u32], order: &P, item: u32) -> usize
     list.len()
 }
 
-/// The latest of some items, in an order and as it lists them, are one list, whatever the order is.
+/// The latest of some items, in an order and as it lists them, are one list, for any order.
 pub fn latest_items_are_one_list<P: Precedes>(order: &P)
     ensures { HaveOneLatest (P.has order.now) (P.precedes order.now) (P.listed order.now) }
 {

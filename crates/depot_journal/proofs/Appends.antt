@@ -32,7 +32,7 @@ limit_counted old new records bytes full_of.Records number many long p = (p.0, o
 limit_counted old new records bytes full_of.Bytes number many long p = (p.0, omega (arith, p.1, many), omega (arith, p.2, long))
 limit_counted old new records bytes full_of.Writers number many long p = p
 
--- a front of records for which there is room keeps to the limits
+-- a prefix of records for which there is room keeps to the limits
 pub front_within : (old new : List (List ℕ)) (n records bytes : ℕ) → FitsFile old records bytes → records ≡ length new → bytes ≡ length (blocks new) → AreWithinLimits (old ++ take n new)
 front_within old new n records bytes room many long =
     let parts : length (blocks new) ≡ length (blocks (take n new)) + length (blocks (drop n new)) = ap (λ (l : List (List ℕ)). length (blocks l)) (sym (take-append-drop n new)) ∙ blocks-append (take n new) (drop n new) in
@@ -60,7 +60,7 @@ reserved_less records bytes held long spans_capacity bytes_capacity disk_bytes d
       calls_fit = omega (arith, r.calls_fit, left, calls_left);
     }
 
--- the file as it stands before the first of them
+-- the file as it comes before the first of them
 first : (file image : List ℕ) (old : List (List ℕ)) (end : ℕ) → StandsTo file old end → AreWithinLimits old → image ≡ file → IsFileOf image old
 first file image old end stands within e = subst (λ (l : List ℕ). IsFileOf l old) (sym e) (inr (stands_of file old end stands, within))
 
@@ -68,7 +68,7 @@ first file image old end stands within e = subst (λ (l : List ℕ). IsFileOf l 
 none_of : (old new : List (List ℕ)) (image : List ℕ) → IsFileOf image old → HasBodyFront old new image
 none_of old new image has = record { count = 0; is = subst (IsFileOf image) (sym (append-nil old)) has }
 
--- with so many of them
+-- with this many of them
 some : (old at new : List (List ℕ)) (image : List ℕ) (records bytes : ℕ) → FitsFile old records bytes → records ≡ length new → bytes ≡ length (blocks new) → at ≡ old → StandsBetween at new image → HasBodyFront old new image
 some old at new image records bytes room many long same s = record {
   count = s.count;
@@ -81,13 +81,13 @@ module _ {D : Type 0} (moment : D → ℕ) (left_since : D → ℕ → List ℕ 
       → ((image : List ℕ) → left_since old (moment old) image → may_leave image) → LeavesOnly moment left_since old old (λ image. IsFileOf image records)
   unmoved old may_leave file records end stands within only now = started moment left_since old (λ image. IsFileOf image records) (λ image left. first file image records end stands within (only image (now image left)))
 
-  -- memory was found, and nothing was written
+  -- memory was reserved, and nothing was written
   pub found : (old mid : D) (may_leave may_leave' : List ℕ → Type 0) (file : List ℕ) (records : List (List ℕ)) (end : ℕ) → StandsTo file records end → AreWithinLimits records → Only file may_leave
       → ((image : List ℕ) → left_since old (moment old) image → may_leave image) → Elapses (moment old) (moment mid) (left_since old) (left_since mid) may_leave' → Within may_leave may_leave' → LeavesOnly moment left_since old mid (λ image. IsFileOf image records)
   found old mid may_leave may_leave' file records end stands within only now time images =
       goes_on moment left_since old old mid (λ image. IsFileOf image records) may_leave' (unmoved old may_leave file records end stands within only now) time (λ image here. first file image records end stands within (only image (images image here)))
 
-  -- so no new record stands there
+  -- so no new record is there
   pub with_none : (old mid : D) (records new : List (List ℕ)) → LeavesOnly moment left_since old mid (λ image. IsFileOf image records) → LeavesOnly moment left_since old mid (HasBodyFront records new)
   with_none old mid records new one = weaker moment left_since old mid (λ image. IsFileOf image records) (HasBodyFront records new) one (none_of records new)
 

@@ -1,4 +1,4 @@
--- What a stop leaves of a journal at rest, and what a later start makes of it.
+-- The crash images of a journal at rest, and what a later start makes of it.
 use Rattle.std.proofs.Common.{◌≡◌, inl, inr, ℕ, List, [], ◌∷◌, ◌++◌, take, get_or, Bool, true, refl, sym, ◌∙◌, ap, subst, append-nil, append_assoc}
 use Rattle.std.proofs.lemmas.List.{take_more}
 use Rattle.depot_base.specs.Disk.{Only}

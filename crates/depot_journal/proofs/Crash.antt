@@ -1,4 +1,4 @@
--- What a stop leaves in each of the two steps of an append.
+-- The crash images of the two steps of an append.
 use Rattle.std.proofs.Common.{◌≡◌, ◌≢◌, ◌⊎◌, inl, inr, ⊎_elim, ℕ, ◌+◌, List, [], ◌∷◌, ◌++◌, length, get_or, take, drop, sym, ◌∙◌, ap, arith, append_assoc, length-append, take-append-drop}
 use Rattle.std.proofs.lemmas.Bool.{cases_eq}
 use Rattle.std.proofs.lemmas.List.{take_at, drop_at, drop_more}
@@ -10,13 +10,13 @@ use Rattle.depot_journal.proofs.RecordBlocks.{blocks_push}
 closed_front : (bodies : List (List ℕ)) (gate : ℕ) (rest : List ℕ) (end : ℕ) → end ≡ length (blocks bodies) → take (end + 1) (blocks bodies ++ gate ∷ rest) ≡ blocks bodies ++ gate ∷ []
 closed_front bodies gate rest end at = ap (take (end + 1)) (sym (append_assoc (blocks bodies) (gate ∷ []) rest)) ∙ take_at (blocks bodies ++ gate ∷ []) rest (end + 1) (omega (arith, at, length-append (blocks bodies) (gate ∷ [])))
 
--- the closed gate stands in each image of the first write
+-- the closed gate is in each image of the first write
 pub torn_behind : (base c : List ℕ) (bodies : List (List ℕ)) (body : List ℕ) (end n : ℕ) → StandsTo base bodies end → (c ≡ base) ⊎ IsTorn (end + 1) n base c → IsBeforeOrAfter bodies body c
 torn_behind base c bodies body end n (gate, rest, closed, file, at) (inl same) = inl (gate, rest, closed, same ∙ file)
 torn_behind base c bodies body end n (gate, rest, closed, file, at) (inr torn) =
     inl (gate, drop (end + 1) c, closed, sym (take-append-drop (end + 1) c) ∙ ap (λ (l : List ℕ). l ++ drop (end + 1) c) (torn.before ∙ ap (take (end + 1)) file ∙ closed_front bodies gate rest end at) ∙ append_assoc (blocks bodies) (gate ∷ []) (drop (end + 1) c))
 
--- The record stands whole behind the closed gate.
+-- The record is whole after the closed gate.
 abbrev pub IsStaged : List ℕ → List (List ℕ) → List ℕ → Type 0
 IsStaged file bodies body = (gate : ℕ) × (more : List ℕ) × (gate ≢ 1) × (file ≡ blocks bodies ++ (gate ∷ (framed body ++ 0 ∷ more)))
 
@@ -31,7 +31,7 @@ gated bodies body more gate c e = ⊎_elim
     (λ (closed : gate ≢ 1). inl (gate, framed body ++ 0 ∷ more, closed, e))
     (cases_eq gate 1)
 
--- the record stands whole in each image of the second, whatever its gate
+-- the record is whole in each image of the second, whatever its gate
 pub torn_gate : (base c : List ℕ) (bodies : List (List ℕ)) (body : List ℕ) (end : ℕ) → end ≡ length (blocks bodies) → IsStaged base bodies body → (c ≡ base) ⊎ IsTorn end 1 base c → IsBeforeOrAfter bodies body c
 torn_gate base c bodies body end at (gate, more, closed, is) (inl same) = gated bodies body more gate c (same ∙ is)
 torn_gate base c bodies body end at (gate, more, closed, is) (inr torn) =

@@ -14,12 +14,12 @@ one_record : blocks ((7 ∷ []) ∷ []) ≡ 1 ∷ 0 ∷ 0 ∷ 0 ∷ 1 ∷ 7 ∷ 
 unfolding framed numeral
 one_record = refl
 
--- what an append of it writes behind the closed gate
+-- what an append of it writes after the closed gate
 its_block : closed_block (7 ∷ []) ≡ 0 ∷ 0 ∷ 0 ∷ 1 ∷ 7 ∷ 0 ∷ []
 unfolding framed numeral
 its_block = refl
 
--- The four calls of an append to the empty journal: the write behind the gate, a sync, the write of the gate, a sync.
+-- The four calls of an append to the empty journal: the write after the gate, a sync, the write of the gate, a sync.
 
 first_write : IsWritten (0 ∷ []) 1 (closed_block (7 ∷ [])) (0 ∷ 0 ∷ 0 ∷ 0 ∷ 1 ∷ 7 ∷ 0 ∷ [])
 unfolding framed numeral
@@ -64,13 +64,13 @@ opened_gate_holds_it = (0, [], omega arith, refl)
 one_byte : IsFileOf (1 ∷ []) []
 one_byte = inl (omega arith, refl)
 
--- four bytes say 2, and one byte and no gate stand behind them
+-- four bytes say 2, and one byte and no gate follow them
 is_cut : (body : List ℕ) (gate : ℕ) (more : List ℕ) → 0 ∷ 0 ∷ 0 ∷ 2 ∷ 7 ∷ [] ≡ framed body ++ gate ∷ more → ⊥
 unfolding framed numeral
 is_cut [] gate more e = cc
 is_cut (b ∷ body) gate more e = absurd (omega (arith, ap length e, length-append (framed (b ∷ body)) (gate ∷ more), framed_long (b ∷ body)))
 
--- an open gate with no whole record behind it
+-- an open gate with no whole record after it
 cut_body : IsDamagedAt (1 ∷ 0 ∷ 0 ∷ 0 ∷ 2 ∷ 7 ∷ []) 0
 cut_body = record {
   good = [];
@@ -88,7 +88,7 @@ cut_body = record {
 torn_before : IsTorn 1 6 (0 ∷ []) (9 ∷ []) → ⊥
 torn_before t = let changed : 9 ∷ [] ≡ 0 ∷ [] = t.before in cc
 
--- an open gate with nothing behind it is no journal
+-- an open gate with nothing after it is no journal
 open_alone : IsFileOf (1 ∷ 0 ∷ []) [] → ⊥
 open_alone (inl p) = let few : 2 ≤ 1 = p.0 in omega arith
 open_alone (inr ((gate, rest, closed, parts), within)) = let same : 1 ∷ 0 ∷ [] ≡ gate ∷ rest = parts in closed cc
@@ -133,6 +133,6 @@ one_mirrored : IsMirror (1 ∷ 0 ∷ 0 ∷ 0 ∷ 1 ∷ 7 ∷ []) (record { start
 unfolding framed numeral
 one_mirrored = record { parts = refl; within = (omega arith, omega arith, tt) }
 
--- a span that ends behind the bytes
+-- a span that ends after the bytes
 beyond : IsMirror (1 ∷ 0 ∷ 0 ∷ 0 ∷ 1 ∷ 7 ∷ []) (record { start = 5; end = 7 } ∷ []) → ⊥
 beyond m = let most : 7 ≤ 6 = m.within.1 in omega arith

@@ -47,7 +47,7 @@ cut_mirror file spans end stands within =
 
 -- ---- a file that is longer than a journal may be
 
--- what stands in a front of the file stands in the file
+-- what is in a prefix of the file is in the file
 pub stands_in : (file front : List ℕ) (n : ℕ) (bodies : List (List ℕ)) (end : ℕ) → front ≡ take n file → StandsTo front bodies end → StandsTo file bodies end
 stands_in file front n bodies end is (gate, rest, closed, parts, at) =
     (gate, rest ++ drop n file, closed, sym (take-append-drop n file) ∙ ap (λ (l : List ℕ). l ++ drop n file) (sym is ∙ parts) ∙ append_assoc (blocks bodies) (gate ∷ rest) (drop n file), at)
@@ -57,7 +57,7 @@ begins_with : (a b c d : List ℕ) → a ++ b ≡ c ++ d → length c ≤ length
 begins_with a b c d e short =
     sym (take-append-drop (length c) a) ∙ ap (λ (l : List ℕ). l ++ drop (length c) a) (sym (take-append-le (length c) a b short) ∙ ap (take (length c)) e ∙ take_at c d (length c) refl)
 
--- the front, which is all of the file or as much as a journal may have, is damaged where the file is
+-- the prefix, which is all of the file or as much as a journal may have, is damaged where the file is
 pub damaged_in : (file front : List ℕ) (n at : ℕ) → front ≡ take n file → (length file ≤ n) ⊎ (n ≡ MOST_JOURNAL) → IsDamagedAt front at → IsDamagedAt file at
 damaged_in file front n at is enough d = record {
   good = d.good;
@@ -85,7 +85,7 @@ damage_in file front n is enough journal_error.Memory d = tt
 damage_in file front n is enough journal_error.Disk d = tt
 damage_in file front n is enough (journal_error.Damaged at) d = damaged_in file front n at is enough d
 
--- the same of the first bytes as they are read
+-- the same for the first bytes as they are read
 pub damage_of : (file front : List ℕ) (n size : ℕ) → front ≡ take n file → n ≡ min size MOST_JOURNAL → size ≡ length file → (e : JournalError) → IsDamage front e → IsDamage file e
 damage_of file front n size is least whole e d = elim (cases_lt size MOST_JOURNAL) [
   | inl less ↦ damage_in file front n is (inl (omega (arith, least, whole, less))) e d

@@ -12,7 +12,7 @@ use Rattle.depot_journal.specs.Mirrored.{EndWithin, IsMirror, bodies_at, cut}
 use Rattle.depot_base.proofs.CallLaws.{framed_long, numeral_long}
 use Rattle.depot_journal.proofs.RecordBlocks.{blocks_push}
 
--- bytes that are added behind change no span before
+-- bytes that are added after change no span before
 pub cut_grown : (bytes more : List ℕ) (s : Span) → s.start ≤ s.end → s.end ≤ length bytes → cut (bytes ++ more) s ≡ cut bytes s
 cut_grown bytes more s order within = grind (arith, common_steps)
 
@@ -25,7 +25,7 @@ pub within_more : (long long' : ℕ) (spans : List Span) (s : Span) → long ≤
 within_more long long' [] s grown within order end = (order, end, tt)
 within_more long long' (t ∷ spans) s grown within order end = (within.0, omega (arith, within.1), within_more long long' spans s grown within.2 order end)
 
--- the body of a record stands behind its gate and its length
+-- the body of a record follows its gate and its length
 pub cut_last : (bytes text : List ℕ) (s : Span) → s.start ≡ length bytes + 5 → s.end ≡ length bytes + 5 + length text → cut (bytes ++ (1 ∷ framed text)) s ≡ text
 unfolding framed
 cut_last bytes text s start end =
@@ -57,13 +57,13 @@ closed_long body = omega (arith, length-append (framed body) (0 ∷ []), framed_
 pub put_long : (old new text : List ℕ) → new ≡ old ++ (1 ∷ closed_block text) → length new ≡ length old + (6 + length text)
 put_long old new text put = ap length put ∙ omega (arith, length-append old (1 ∷ closed_block text), closed_long text)
 
--- what is written behind the gate
+-- what is written after the gate
 pub behind_gate : (old new whole text : List ℕ) (gate : ℕ) → whole ≡ new → new ≡ old ++ (1 ∷ closed_block text) → gate ≡ length old → take (length whole - (gate + 1)) (drop (gate + 1) whole) ≡ closed_block text
 behind_gate old new whole text gate is put at =
     let rest : drop (gate + 1) whole ≡ closed_block text = ap (drop (gate + 1)) (is ∙ put ∙ sym (append_assoc old (1 ∷ []) (closed_block text))) ∙ drop_at (old ++ 1 ∷ []) (closed_block text) (gate + 1) (omega (arith, at, length-append old (1 ∷ []))) in
     take_all (length whole - (gate + 1)) (drop (gate + 1) whole) (omega (arith, length-drop (gate + 1) whole)) ∙ rest
 
--- without the closed gate behind it
+-- without the closed gate after it
 pub open_block : (old new text : List ℕ) (end : ℕ) → new ≡ old ++ (1 ∷ closed_block text) → end + 1 ≡ length new → take end new ≡ old ++ (1 ∷ framed text)
 open_block old new text end put at =
     let parts : new ≡ (old ++ (1 ∷ framed text)) ++ 0 ∷ [] = put ∙ sym (append_assoc old (1 ∷ framed text) (0 ∷ [])) in

@@ -36,7 +36,7 @@ first_of g r h s e = cc
 rest_of : (g : ℕ) (r : List ℕ) (h : ℕ) (s : List ℕ) → g ∷ r ≡ h ∷ s → r ≡ s
 rest_of g r h s e = cc
 
--- the block at the front of each
+-- the block at the start of each
 both_open : (x y u v : List ℕ) (a b : List (List ℕ)) → length (blocks (x ∷ a)) < 2 ^ 32 → length (blocks (y ∷ b)) < 2 ^ 32 → blocks (x ∷ a) ++ u ≡ blocks (y ∷ b) ++ v → (x ≡ y) × (blocks a ++ u ≡ blocks b ++ v)
 both_open x y u v a b short_a short_b e =
     framed_one x y (blocks a ++ u) (blocks b ++ v) (head_short x a (2 ^ 32) short_a) (head_short y b (2 ^ 32) short_b)
@@ -44,7 +44,7 @@ both_open x y u v a b short_a short_b e =
 
 -- ---- two lists of records
 
--- One of them goes on where the other one's blocks end, with what stands there: a whole record.
+-- One of them continues where the other one's blocks end, with what is there: a whole record.
 pub record GoesOn (a b : List (List ℕ)) (rest : List ℕ) : Type 0 where
   pub body : List ℕ
   pub more : List (List ℕ)
@@ -53,7 +53,7 @@ pub record GoesOn (a b : List (List ℕ)) (rest : List ℕ) : Type 0 where
   pub longer : a ≡ b ++ body ∷ more
   pub stands : rest ≡ framed body ++ gate ∷ behind
 
--- a gate stands behind the first block, too
+-- a gate follows the first block, too
 behind_block : (x : List ℕ) (a : List (List ℕ)) (gate : ℕ) (r rest : List ℕ) → (framed x ++ blocks a) ++ gate ∷ r ≡ rest → (h : ℕ) × (s : List ℕ) × (rest ≡ framed x ++ h ∷ s)
 behind_block x [] gate r rest e = (gate, r, sym e ∙ ap (λ (l : List ℕ). l ++ gate ∷ r) (append-nil (framed x)))
 behind_block x (y ∷ a) gate r rest e = (1, (framed y ++ blocks a) ++ gate ∷ r, sym e ∙ append_assoc (framed x) (blocks (y ∷ a)) (gate ∷ r))
@@ -61,7 +61,7 @@ behind_block x (y ∷ a) gate r rest e = (1, (framed y ++ blocks a) ++ gate ∷ 
 deeper : (x : List ℕ) (a b : List (List ℕ)) (y rest : List ℕ) → x ≡ y → GoesOn a b rest → GoesOn (x ∷ a) (y ∷ b) rest
 deeper x a b y rest same g = record { body = g.body; more = g.more; gate = g.gate; behind = g.behind; longer = ap (λ (l : List ℕ). l ∷ a) same ∙ ap (λ (l : List (List ℕ)). y ∷ l) g.longer; stands = g.stands }
 
--- where an open gate stands behind the second list, the first goes on; it ends at a closed gate
+-- where an open gate follows the second list, the first continues; it ends at a closed gate
 pub open_goes_on : (a b : List (List ℕ)) (gate : ℕ) (r rest : List ℕ) → gate ≢ 1 → length (blocks a) < 2 ^ 32 → length (blocks b) < 2 ^ 32 → blocks a ++ gate ∷ r ≡ blocks b ++ 1 ∷ rest → GoesOn a b rest
 open_goes_on [] [] gate r rest closed short_a short_b e = absurd (closed (first_of gate r 1 rest e))
 open_goes_on [] (y ∷ b) gate r rest closed short_a short_b e = absurd (closed (first_of gate r 1 ((framed y ++ blocks b) ++ 1 ∷ rest) e))
@@ -72,7 +72,7 @@ open_goes_on (x ∷ a) (y ∷ b) gate r rest closed short_a short_b e =
     let both = both_open x y (gate ∷ r) (1 ∷ rest) a b short_a short_b e in
     deeper x a b y rest both.0 (open_goes_on a b gate r rest closed (tail_short x a (2 ^ 32) short_a) (tail_short y b (2 ^ 32) short_b) both.1)
 
--- closed gates stand behind one list alone
+-- closed gates follow one list alone
 pub closed_one : (a b : List (List ℕ)) (g h : ℕ) (r s : List ℕ) → g ≢ 1 → h ≢ 1 → length (blocks a) < 2 ^ 32 → length (blocks b) < 2 ^ 32 → blocks a ++ g ∷ r ≡ blocks b ++ h ∷ s → a ≡ b
 closed_one [] [] g h r s closed_g closed_h short_a short_b e = refl
 closed_one [] (y ∷ b) g h r s closed_g closed_h short_a short_b e = absurd (closed_g (first_of g r 1 ((framed y ++ blocks b) ++ h ∷ s) e))
@@ -81,7 +81,7 @@ closed_one (x ∷ a) (y ∷ b) g h r s closed_g closed_h short_a short_b e =
     let both = both_open x y (g ∷ r) (h ∷ s) a b short_a short_b e in
     ap (λ (l : List ℕ). l ∷ a) both.0 ∙ ap (λ (l : List (List ℕ)). y ∷ l) (closed_one a b g h r s closed_g closed_h (tail_short x a (2 ^ 32) short_a) (tail_short y b (2 ^ 32) short_b) both.1)
 
--- of two open gates one stands behind the other, or they are one
+-- of two open gates one follows the other, or they are one
 pub open_both : (a b : List (List ℕ)) (r s : List ℕ) → length (blocks a) < 2 ^ 32 → length (blocks b) < 2 ^ 32 → blocks a ++ 1 ∷ r ≡ blocks b ++ 1 ∷ s → (a ≡ b) ⊎ (GoesOn a b s ⊎ GoesOn b a r)
 open_both [] [] r s short_a short_b e = inl refl
 open_both [] (y ∷ b) r s short_a short_b e =
@@ -103,7 +103,7 @@ open_both (x ∷ a) (y ∷ b) r s short_a short_b e =
 short : (a : List (List ℕ)) → AreWithinLimits a → length (blocks a) < 2 ^ 32
 short a within = omega (arith, within.bytes)
 
--- a front keeps to the limits where the whole does
+-- a prefix keeps to the limits where the whole does
 front_fits : (a b more : List (List ℕ)) (body : List ℕ) → a ≡ b ++ body ∷ more → AreWithinLimits a → AreWithinLimits (b ++ body ∷ [])
 front_fits a b more body longer within =
     let parts : a ≡ (b ++ body ∷ []) ++ more = longer ∙ sym (append_assoc b (body ∷ []) more) in
@@ -112,7 +112,7 @@ front_fits a b more body longer within =
       bytes = omega (arith, ap (λ (l : List (List ℕ)). length (blocks l)) parts, blocks-append (b ++ body ∷ []) more, within.bytes);
     }
 
--- a record that goes on behind a damaged place isn't there
+-- a record that continues after a damaged place isn't there
 not_on : (file : List ℕ) (at : ℕ) (d : IsDamagedAt file at) (a : List (List ℕ)) → AreWithinLimits a → GoesOn a d.good d.rest → ⊥
 not_on file at d a within on =
     let fits = front_fits a d.good on.more on.body on.longer within in

@@ -19,7 +19,7 @@ one_more file rest after body bodies bodies' read split pushed =
 pub one_longer : (end : ℕ) (body : List ℕ) (bodies bodies' : List (List ℕ)) → end ≡ length (blocks bodies) → bodies' ≡ bodies ++ body ∷ [] → end + (5 + length body) ≡ length (blocks bodies')
 one_longer end body bodies bodies' at pushed = omega (arith, ap length (ap blocks pushed ∙ blocks_push bodies body), length-append (blocks bodies) (1 ∷ framed body), framed_long body)
 
--- the file with a record behind the closed gate, and then with the gate opened
+-- the file with a record after the closed gate, and then with the gate opened
 pub opened : (s0 s1 s2 block : List ℕ) (gate : ℕ) → gate < length s0 → IsWritten s0 (gate + 1) block s1 → IsWritten s1 gate (1 ∷ []) s2 → s2 ≡ take gate s0 ++ (1 ∷ (block ++ drop (gate + 1 + length block) s0))
 opened s0 s1 s2 block gate h w1 w2 =
     let front : take gate s1 ≡ take gate s0 = ap (take gate) w1 ∙ grind (arith, common_steps) in

@@ -6,7 +6,7 @@ use Rattle.depot_base.proofs.Blocks.{blocks-append}
 use Rattle.depot_journal.specs.WriteSteps.{IsBeforeOrAfter, StandsBetween, StandsTo}
 use Rattle.depot_journal.proofs.RecordBlocks.{one_longer}
 
--- the gate behind the records so far
+-- the gate after the records so far
 pub gate_behind : (bytes bytes' : List ℕ) (old at front : List (List ℕ)) → bytes ≡ blocks old → bytes' ≡ blocks at → at ≡ old ++ front → length bytes' ≡ length bytes + length (blocks front)
 gate_behind bytes bytes' old at front was is more = omega (arith, ap length was, ap length is, ap (λ (l : List (List ℕ)). length (blocks l)) more, blocks-append old front)
 
@@ -14,11 +14,11 @@ gate_behind bytes bytes' old at front was is more = omega (arith, ap length was,
 pub blocks_next : (texts : List (List ℕ)) (i : ℕ) → i < length texts → length (blocks (take (i + 1) texts)) ≡ length (blocks (take i texts)) + (5 + length (get_or texts i []))
 blocks_next texts i h = sym (one_longer (length (blocks (take i texts))) (get_or texts i []) (take i texts) (take (i + 1) texts) refl (take_more texts i [] h))
 
--- a front is no longer than all
+-- a prefix is no longer than all
 pub blocks_front : (texts : List (List ℕ)) (i : ℕ) → length (blocks (take i texts)) ≤ length (blocks texts)
 blocks_front texts i = omega (arith, ap (λ (l : List (List ℕ)). length (blocks l)) (sym (take-append-drop i texts)), blocks-append (take i texts) (drop i texts))
 
--- the bytes of the next record come behind
+-- the bytes of the next record come after
 pub next_long : (texts : List (List ℕ)) (i : ℕ) (text : List ℕ) → take (i + 1) texts ≡ take i texts ++ text ∷ [] → length (blocks (take (i + 1) texts)) ≡ length (blocks (take i texts)) + (5 + length text)
 next_long texts i text next = sym (one_longer (length (blocks (take i texts))) text (take i texts) (take (i + 1) texts) refl next)
 

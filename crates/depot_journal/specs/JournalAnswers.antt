@@ -11,8 +11,8 @@ use Rattle.depot_base.specs.File.{FitsFile, IsDamagedAt, IsFileOf, PassesLimit, 
 use Rattle.depot_journal.specs.JournalView.{JournalContents}
 use Rattle.depot_outside.specs.declared.disk.Back.{Back}
 
--- Full comes exactly where these records, of so many bytes with their gates and lengths, would pass a limit, and names the first such
--- limit. A stopped journal doesn't look.
+-- Full comes exactly where these records, of this many bytes with their gates and lengths, would pass a limit, and
+-- names the first such limit. A stopped journal doesn't check.
 abbrev pub KeepsLimits : List (List ℕ) → ℕ → ℕ → Result (Unit {0}) AppendError → Type 0
 KeepsLimits bodies records bytes (Ok x) = FitsFile bodies records bytes
 KeepsLimits bodies records bytes (Err (refused.Full full)) = PassesLimit bodies records bytes full.what full.number
@@ -28,11 +28,12 @@ UnlessDisk (Err refused.Memory) P = P
 UnlessDisk (Err (refused.Full full)) P = P
 UnlessDisk (Err refused.Stopped) P = P
 
--- Where the disk tells its bytes and the journal ran, each image of each moment since then has this property.
+-- Where the disk's bytes are visible and the journal ran, each image of each moment since then has this property.
 abbrev pub LeavesRunning : {D : Type 0} → (D → Bool) → (D → ℕ) → (D → ℕ → List ℕ → Type 0) → JournalContents D → JournalContents D → (List ℕ → Type 0) → Type 0
 LeavesRunning tells moment left_since old new P = IsTrue (tells old.disk) → old.is_stopped ≡ false → LeavesOnly moment left_since old.disk new.disk P
 
--- The journal is as it was, and no more than time went by for its disk: the records and the file, what a stop leaves, and the memory found.
+-- The journal is unchanged, and its disk has only aged: the records and the file, the crash images, and the reserved
+-- memory.
 pub record IsJournalUnchanged {D : Type 0} (tells : D → Bool) (seen : D → List ℕ) (may_leave : D → List ℕ → Type 0) (moment : D → ℕ) (left_since : D → ℕ → List ℕ → Type 0) (old new : JournalContents D) : Type 0 where
   pub records : new.records ≡ old.records
   pub running : new.is_stopped ≡ old.is_stopped
@@ -40,7 +41,7 @@ pub record IsJournalUnchanged {D : Type 0} (tells : D → Bool) (seen : D → Li
   pub images : Within (may_leave old.disk) (may_leave new.disk)
   pub records_kept : old.room_records ≤ new.room_records
   pub bytes_kept : old.room_bytes ≤ new.room_bytes
-  -- a stop at any moment leaves the records
+  -- every crash image of the call has the records
   pub idle : LeavesRunning tells moment left_since old new (λ file. IsFileOf file old.records)
 
 -- The disk is the same one, and the journal made these calls on it: those that append these texts, up to the one that fails, or none. It failed
@@ -55,7 +56,7 @@ pub record MakesCalls {D : Type 0} (handle : D → ℕ) (tells : D → Bool) (fa
   pub cause : HasCause (faults old.disk) (faults new.disk) (IsErrOf result refused.Disk)
   pub faultless : is_faultless old.disk → is_faultless new.disk × (faults new.disk ≡ faults old.disk)
 
--- Of the memory found no more was taken than for these texts.
+-- Of the reserved memory no more was taken than for these texts.
 pub record HasRoomLeft {D : Type 0} (old new : JournalContents D) (texts : List (List ℕ)) : Type 0 where
   pub records : old.room_records ≤ new.room_records + length texts
   pub bytes : old.room_bytes + 5 * length texts ≤ new.room_bytes + length (blocks texts)

@@ -7,7 +7,8 @@ use Rattle.depot_outside.specs.declared.disk.Disk as disk_of
 use Rattle.depot_journal.specs.declared.journal_room.Room.{Room}
 use Rattle.depot_journal.specs.declared.mirror.Mirror.{Mirror}
 
--- its records, its disk, whether a call on the disk has failed, and for how many more records and bytes of bodies there is memory
+-- its records, its disk, whether a call on the disk has failed, and for how many more records and bytes of bodies
+-- memory is reserved
 pub record JournalContents (D : Type 0) : Type 0 where
   pub records : List (List ℕ)
   pub disk : D
@@ -23,12 +24,12 @@ view_code {D} code_of =
     code_by (List (List ℕ) × (D × (Bool × (ℕ × ℕ)))) (coded× (coded_list (coded_list coded_ℕ)) (coded× code_of (coded× coded_bool (coded× coded_ℕ coded_ℕ))))
     (λ v. (v.records, (v.disk, (v.is_stopped, (v.room_records, v.room_bytes))))) view_of (λ _. refl)
 
--- The memory found covers these records: a record takes 5 bytes more than its body.
+-- The reserved memory covers these records: a record takes 5 bytes more than its body.
 abbrev pub HasMemoryFor : {D : Type 0} → JournalContents D → List (List ℕ) → Type 0
 HasMemoryFor v texts = (length texts ≤ v.room_records) × (length (blocks texts) ≤ v.room_bytes + 5 * length texts)
 
--- For so many records and bytes there is memory, beside the records held and their blocks, as far as the journal may hold them: in the
--- list of spans, in the bytes of the blocks, and on the disk for bytes and calls.
+-- Memory is reserved for this many records and bytes, beside the records held and their blocks, as far as the journal
+-- may hold them: in the list of spans, in the bytes of the blocks, and on the disk for bytes and calls.
 pub record IsReserved (records bytes held long spans_capacity bytes_capacity disk_bytes disk_calls : ℕ) : Type 0 where
   pub spans_fit : held + min records (MOST_RECORDS - held) ≤ spans_capacity
   pub blocks_fit : long + (6 * min records (MOST_RECORDS - held) + bytes) ≤ bytes_capacity

@@ -1,4 +1,5 @@
--- The records of a journal in memory: the bytes of their blocks, as they stand in the file, and where each body stands in them.
+-- The records of a journal in memory: the bytes of their blocks, as they are in the file, and where each body is in
+-- them.
 use Rattle.std.specs.Prelude.{◌≡◌, ◌≤◌, ℕ, List, [], ◌∷◌, length, map, slice_range}
 use Rattle.depot_journal.specs.declared.mirror.Mirror.{Mirror}
 use Rattle.depot_journal.specs.declared.span.Span.{Span}
@@ -16,7 +17,7 @@ bodies_at bytes spans = map (cut bytes) spans
 abbrev pub mirror_records : {D : Type 0} → Mirror D → List (List ℕ)
 mirror_records mirror = bodies_at mirror.bytes.items mirror.spans.items
 
--- the spans end within so many bytes
+-- the spans end within this many bytes
 abbrev pub EndWithin : ℕ → List Span → Type 0
 EndWithin long [] = Unit {0}
 EndWithin long (s ∷ spans) = (s.start ≤ s.end) × (s.end ≤ long) × EndWithin long spans

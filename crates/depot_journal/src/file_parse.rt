@@ -10,14 +10,14 @@ use crate::span::Span;
 use depot_base::limits::{MOST_JOURNAL, MOST_RECORDS};
 use std::alloc::Global;
 
-/// The records found in a file: where their bodies stand, and the offset of the closed gate behind them.
+/// The records found in a file: where their bodies are, and the offset of the closed gate after them.
 #[derive(Drop)]
 pub struct Parsed {
     pub spans: Vec<Span>,
     pub end: usize,
 }
 
-/// The body of the record at the front, and what follows it, where a whole record stands there behind an open gate.
+/// The body of the next record, and what follows it, where a whole record follows an open gate.
 #[tactic(auto, unfolding(depot_base::specs::File::framed, depot_base::specs::Cursor::numeral))]
 fn split_record(rest: &[u8]) -> Option<(&[u8], &[u8])>
     ensures record { IfSome result (λ p. rest.now ≡ 1 ∷ (framed p.0.now ++ p.1.now)) }
@@ -34,7 +34,7 @@ fn split_record(rest: &[u8]) -> Option<(&[u8], &[u8])>
     Some(after.split_at(count))
 }
 
-/// Whether a closed gate stands at the front.
+/// Whether the next gate is closed.
 fn is_closed(rest: &[u8]) -> bool
     ensures closed { IsTrue result → (gate : ℕ) × (more : List ℕ) × (gate ≢ 1) × (rest.now ≡ gate ∷ more) }
     ensures open { result ≡ false → 1 ≤ length rest.now → (more : List ℕ) × (rest.now ≡ 1 ∷ more) }
@@ -46,7 +46,7 @@ fn is_closed(rest: &[u8]) -> bool
     }
 }
 
-/// Finds the records of a file of more than one byte, and of at most as many as a journal may have.
+/// Finds the records of a file of more than one byte, at most as many as a journal may have.
 pub fn parse(alloc: Global, file: &[u8]) -> Result<Parsed, JournalError>
     requires long { 2 ≤ length file.now }
     requires short { length file.now ≤ MOST_JOURNAL }

@@ -19,11 +19,11 @@ use depot_outside::{Back, Disk};
 use std::alloc::Global;
 use std::marker::Model;
 
-/// Records on a disk, in their order. Contracts see them, the disk, whether the journal is stopped, and for how many more
-/// records and bytes of bodies memory was found.
+/// A list of records on a disk. Contracts see the records, the disk, whether the journal is stopped, and for how many
+/// more records and bytes of bodies memory is reserved.
 ///
-/// While it isn't stopped, the file of the disk has these records, and a stop leaves that file. Once it is stopped, each file
-/// that a stop may leave has them, and behind them at most the one on which the disk failed.
+/// While it isn't stopped, the file has these records, and it is the only crash image. Once it is stopped, each crash
+/// image has them, followed at most by the one on which the disk failed.
 #[derive(Drop)]
 pub struct Journal<D: Disk> {
     mirror: Mirror<D>,
@@ -69,8 +69,8 @@ impl<D: Disk> Journal<D> {
         &self.mirror.bytes[span.start as usize..span.end as usize]
     }
 
-    /// Whether an append failed on the disk. The journal then touches the disk no more; it is started again from it. Stopped or
-    /// not, its records keep to the limits.
+    /// Whether an append failed on the disk. The journal then accesses the disk no more; start it again from the disk.
+    /// Stopped or not, its records keep to the limits.
     pub fn is_stopped(&self) -> bool
         ensures stopped { result ≡ self.now.is_stopped }
         ensures stable { IsTrue (D.tells self.now.disk) → LeavesAllBodies self.now.records self.now.is_stopped (D.may_leave self.now.disk) }
@@ -79,15 +79,15 @@ impl<D: Disk> Journal<D> {
         self.stopped
     }
 
-    /// The disk as it stands, also of a stopped journal. It takes no memory.
+    /// Returns the disk as it is, also of a stopped journal. It takes no memory.
     pub fn into_disk(self) -> D
         ensures { result ≡ self.disk }
     {
         self.mirror.disk
     }
 
-    /// Finds the memory for so many more records, with so many bytes of bodies in all: to append them answers no Memory then.
-    /// No record and no byte of the file changes, whatever is answered.
+    /// Reserves memory for `records` more records, with `bytes` bytes of bodies in all: appending them then never
+    /// returns Memory. No record and no byte of the file changes, whatever is answered.
     pub fn reserve(&mut self, records: u32, bytes: u32) -> Result<(), Memory>
         ensures records { OnOk result (records ≤ self.new.room_records) }
         ensures bytes { OnOk result (bytes ≤ self.new.room_bytes) }
@@ -110,8 +110,8 @@ impl<D: Disk> Journal<D> {
 }
 
 impl<D: Disk> Journal<D> {
-    /// Whether so many records more, which take so many bytes in the file, keep to the limits of a journal: a record takes
-    /// its text and five bytes. `Full` has which limit they pass, and how many records or bytes the file has.
+    /// Whether `records` more records, which take `bytes` bytes in the file, keep to the limits of a journal. A record
+    /// takes its text and five bytes. `Full` has the limit that they pass, and how many records or bytes the file has.
     pub fn room(&self, records: u32, bytes: u32) -> Result<(), Full>
         ensures room { OnOk result (FitsFile self.now.records records bytes) }
         ensures full { IfErr result (λ full. PassesLimit self.now.records records bytes full.what full.number) }
@@ -126,12 +126,13 @@ impl<D: Disk> Journal<D> {
 }
 
 impl<D: Disk> Journal<D> {
-    /// Appends records: their texts, and behind the last text the rest; without texts none. Memory and limits are settled for all
-    /// of them before the first write; where memory was found for them before, none is wanting.
+    /// Appends the records of these texts and syncs them; `rest` is appended to the last text. Without texts it appends
+    /// nothing. Memory and limits are checked for all of them before the first write; where memory was reserved for
+    /// them, it doesn't run out.
     ///
-    /// After `Memory` and `Full` the records, the file and what a stop may leave are as before, and the memory that was found
-    /// before is kept. After `Disk` the records before the failing one are stable, the failing one may be, and the journal is
-    /// stopped. After `Stopped` nothing has changed.
+    /// On `Memory` and `Full` the records, the file and the crash images are unchanged, and reserved memory stays
+    /// reserved. On `Disk` the records before the failing one are stable, the failing one may be, and the journal is
+    /// stopped. On `Stopped` nothing has changed.
     pub fn append_all(&mut self, texts: &[Bytes], rest: &[u8]) -> Result<(), AppendError>
         ensures ok { OnOk result (self.new.records ≡ self.old.records ++ with_rest texts.now rest.now) }
         ensures unchanged { UnlessDisk result (IsJournalUnchanged D.tells D.seen D.may_leave D.moment D.left_since self.old self.new) }
@@ -146,9 +147,9 @@ impl<D: Disk> Journal<D> {
         ensures calls { MakesCalls D.handle D.tells D.faults D.is_faultless D.after self.old self.new (with_rest texts.now rest.now) result }
         ensures file { IsTrue (D.tells self.old.disk) → self.new.is_stopped ≡ false → IsFileOf (D.seen self.new.disk) self.new.records }
         ensures stable { IsTrue (D.tells self.old.disk) → self.new.is_stopped ≡ false → Only (D.seen self.new.disk) (D.may_leave self.new.disk) }
-        // Whatever was answered, a stop leaves all records of the journal.
+        // Whatever was answered, every crash image has all records of the journal.
         ensures stands { IsTrue (D.tells self.old.disk) → LeavesAllBodies self.new.records self.new.is_stopped (D.may_leave self.new.disk) }
-        // A stop at any moment leaves the records from before the call, and then a front of the new ones.
+        // Every crash image of the call has the records from before the call, and then a prefix of the new ones.
         ensures any_moment { LeavesRunning D.tells D.moment D.left_since self.old self.new (HasBodyFront self.old.records (with_rest texts.now rest.now)) }
     {
         if self.stopped {
@@ -184,14 +185,14 @@ impl<D: Disk> Journal<D> {
 }
 
 impl<D: Disk> Journal<D> {
-    /// Reads the records of a disk, which it syncs first. A file of at most one byte has none, and gets a closed gate.
+    /// Syncs a disk and reads its records. A file of at most one byte has none, and gets a closed gate.
     ///
-    /// A file of more bytes stays as it is. `Damaged` comes exactly where the file is damaged, with the offset. After it and
-    /// after `Memory` the file reads as before, and after `Disk` as one that a stop in the call may leave. Of a file that is
-    /// longer than a journal may be its first bytes alone are read.
+    /// A longer file stays as it is. `Damaged` comes exactly where the file is damaged, with the offset. On `Damaged`
+    /// and `Memory` the file reads as before, on `Disk` as a crash image of the call. If the file is longer than a
+    /// journal may be, only its first bytes are read.
     pub fn start(alloc: Global, disk: D) -> Result<Journal<D>, Back<JournalError, D>>
         ensures running { IfOk result (λ j. j.is_stopped ≡ false) }
-        // The records are those of the file, and the file as it stands now has them, stably.
+        // The records are those of the file, and the file now has them, synced.
         ensures read { IfOk result (λ j. IsTrue (D.tells disk) → IsFileOf (D.seen disk) j.records) }
         ensures file { IfOk result (λ j. IsTrue (D.tells disk) → IsFileOf (D.seen j.disk) j.records) }
         ensures within { IfOk result (λ j. AreWithinLimits j.records) }
@@ -205,7 +206,7 @@ impl<D: Disk> Journal<D> {
         ensures cause { IfErr result (λ b. HasCause (D.faults disk) (D.faults b.disk) (b.error ≡ JournalError.Disk)) }
         ensures calm { IfOk result (λ j. D.faults j.disk ≡ D.faults disk) }
 
-        // Images of the moments of the call.
+        // The crash images of the call.
         ensures any_moment { IsTrue (D.tells disk) → LeavesOnly D.moment D.left_since disk (disk_of result) (StartLeavesFile (D.may_leave disk) (D.seen disk)) }
 
         // The calls on the disk, and where one of them failed, those up to it.

@@ -10,13 +10,13 @@ use thiserror::Error;
 /// Why a disk gives no journal.
 #[derive(Clone, Copy, Debug, Drop, PartialEq, Eq, Error)]
 pub enum JournalError {
-    /// No memory was found.
+    /// Memory ran out.
     #[error("no memory was found")]
     Memory,
     /// The disk failed.
     #[error("the disk failed")]
     Disk,
-    /// At this offset in bytes an open gate stands, and no whole record with which the journal keeps to its limits.
+    /// At this offset in bytes is an open gate, with no whole record after it that keeps to the journal's limits.
     #[error("the journal is damaged at offset {0}")]
     Damaged(u64),
 }
@@ -24,10 +24,10 @@ pub enum JournalError {
 /// Why records weren't appended.
 #[derive(Clone, Copy, Debug, Drop, PartialEq, Eq, Error)]
 pub enum AppendError {
-    /// No memory was found. Nothing has changed.
+    /// Memory ran out. Nothing has changed.
     #[error("no memory was found")]
     Memory,
-    /// The disk failed. The records before the failing one are stable, the failing one may be, and the journal is stopped.
+    /// The disk failed. The records before the failing one are stable, that one may be, and the journal is stopped.
     #[error("the disk failed")]
     Disk,
     /// A limit would be passed. Nothing has changed.

@@ -8,7 +8,8 @@ pub fn files_have_one_list()
     ensures { (file : List ℕ) (some other : List (List ℕ)) → IsFileOf file some → IsFileOf file other → some ≡ other }
 {}
 
-/// A file that has records isn't damaged. So a start refuses no good file as damaged, and takes no damaged one.
+/// A file that has records isn't damaged. So a start never refuses a good file as damaged, and never accepts a damaged
+/// one.
 pub fn good_files_are_undamaged()
     ensures { (file : List ℕ) (records : List (List ℕ)) (at : ℕ) → IsFileOf file records → IsDamagedAt file at → ⊥ }
 {}
@@ -18,14 +19,14 @@ pub fn damage_has_one_place()
     ensures { (file : List ℕ) (at place : ℕ) → IsDamagedAt file at → IsDamagedAt file place → at ≡ place }
 {}
 
-/// A file in which records stand, within the limits, isn't damaged, and is read as these records.
+/// A file with these records, within the limits, isn't damaged, and is read as these records.
 pub fn standing_records_are_read()
     ensures undamaged { (file : List ℕ) (records : List (List ℕ)) (at : ℕ) → StandsFor file records → AreWithinLimits records → IsDamagedAt file at → ⊥ }
     ensures read { (file : List ℕ) (records read : List (List ℕ)) → StandsFor file records → AreWithinLimits records → IsFileOf file read → read ≡ records }
 {}
 
-/// A file that a stop leaves of a journal isn't damaged, and is read as all its records, and behind them at most what the
-/// disk failed on. So a later start answers these.
+/// A crash image of a journal isn't damaged. It is read as all of the journal's records, followed at most by the one on
+/// which the disk failed. So a later start returns these.
 pub fn what_a_stop_leaves_is_read()
     ensures undamaged { (records : List (List ℕ)) (stopped : Bool) (file : List ℕ) (at : ℕ) → HasAllOf records stopped file → IsDamagedAt file at → ⊥ }
     ensures read { (records read : List (List ℕ)) (stopped : Bool) (file : List ℕ) → HasAllOf records stopped file → IsFileOf file read → BeginsWithAll records stopped read }

@@ -1,4 +1,4 @@
-//! The limits of a journal, and the memory that is found before an append.
+//! The limits of a journal, and the memory that is reserved before an append.
 ghost use Rattle.std.specs.Prelude.{◌≡◌, ◌+◌, ◌-◌, ◌*◌, ◌^◌, ◌≤◌, List, [], ℕ, OnOk, IfErr, IsOk, length, min, vec_len};
 ghost use Rattle.depot_base.specs.Disk.{Within};
 ghost use Rattle.depot_base.specs.File.{FitsFile, PassesLimit, blocks};
@@ -11,14 +11,14 @@ use depot_base::limits::{MOST_JOURNAL, MOST_RECORDS};
 use depot_base::{Bytes, Full, FullOf, Memory};
 use depot_outside::{Disk, reserve_tightly};
 
-/// For how many more records and bytes of bodies there is memory.
+/// The records and bytes of bodies for which memory is reserved.
 #[derive(Clone, Copy, Debug, PartialEq, Eq)]
 pub struct Room {
     pub records: u32,
     pub bytes: u32,
 }
 
-/// How many bytes the records of these texts take in the file, with their gates and lengths, where the rest stands behind the
+/// How many bytes the records of these texts take in the file, with their gates and lengths, where `rest` follows the
 /// last text; the greatest number where it is more.
 #[tactic(auto, using(crate::proofs::Walk::blocks_next, depot_base::proofs::WithRestLaws::rest_longer, std::proofs::lemmas::List::take_all))]
 pub fn bytes_of(texts: &[Bytes], rest: &[u8]) -> u64
@@ -34,8 +34,8 @@ pub fn bytes_of(texts: &[Bytes], rest: &[u8]) -> u64
     bytes
 }
 
-/// Whether so many records and bytes more keep to the limits, where there are so many records and bytes without the last
-/// gate.
+/// Whether `records` records and `bytes` bytes more keep to the limits, where there are `held` records, of `long` bytes
+/// without the last gate.
 pub fn room_for(held: u32, long: u64, records: u64, bytes: u64) -> Result<(), Full>
     requires held { held ≤ MOST_RECORDS }
     requires long { 1 + long ≤ MOST_JOURNAL }
@@ -57,7 +57,7 @@ pub fn room_for(held: u32, long: u64, records: u64, bytes: u64) -> Result<(), Fu
     Ok(())
 }
 
-/// Finds the memory for so many more records and bytes, beside what was found before.
+/// Reserves memory for `records` more records and `bytes` more bytes, beyond what was reserved before.
 pub fn find_room<D: Disk>(
     mirror: &mut Mirror<D>,
     room: &mut Room,

@@ -18,14 +18,15 @@ use depot_base::limits::MOST_JOURNAL;
 use depot_outside::{Disk, Failed, spare_beside};
 use std::alloc::Global;
 
-/// The records of a disk: the bytes of their blocks, and where each body stands in them.
+/// The records of a disk: the bytes of their blocks, and where each body is in them.
 #[derive(Drop)]
 pub struct FoundFile {
     pub bytes: Vec<u8>,
     pub spans: Vec<Span>,
 }
 
-/// So many zeros, and the room behind them that a list of this length gets where it grows: so the first append moves nothing.
+/// A list of `count` zeros, with the spare capacity of a growing list of this length, so that the first append moves
+/// nothing.
 fn zeros(alloc: Global, count: usize) -> Result<Vec<u8>, Memory>
     ensures { IfOk result (λ bytes. vec_len bytes ≡ count) }
 {
@@ -34,7 +35,7 @@ fn zeros(alloc: Global, count: usize) -> Result<Vec<u8>, Memory>
     Ok(bytes)
 }
 
-/// Finds the room that a start may need, syncs the disk, and asks how long its file is.
+/// Reserves the memory that a start may need, syncs the disk, and returns the length of its file.
 fn settle<D: Disk>(disk: &mut D) -> Result<u64, JournalError>
     ensures length { IsTrue (D.tells disk.old) → IfOk result (λ n. n ≡ length (D.seen disk.old)) }
     ensures stable { OnOk result (IsTrue (D.tells disk.old) → Only (D.seen disk.old) (D.may_leave disk.new)) }
@@ -73,7 +74,7 @@ fn read_front<D: Disk>(disk: &mut D, bytes: &mut Vec<u8>) -> Result<(), Failed>
     disk.read(0, bytes)
 }
 
-/// Reads the records of a file of more than one byte, which has so many.
+/// Reads the records of a file of `size` bytes, which is more than one.
 fn read_records<D: Disk>(alloc: Global, disk: &mut D, size: u64) -> Result<FoundFile, JournalError>
     requires long { 2 ≤ size }
     requires file { IsTrue (D.tells disk.old) → size ≡ length (D.seen disk.old) }
@@ -105,7 +106,7 @@ fn read_records<D: Disk>(alloc: Global, disk: &mut D, size: u64) -> Result<Found
     })
 }
 
-/// The records of the disk, which is synced before it is read. A file of at most one byte gets a closed gate.
+/// Syncs the disk and reads its records. A file of at most one byte gets a closed gate.
 pub fn start_on<D: Disk>(alloc: Global, disk: &mut D) -> Result<FoundFile, JournalError>
     ensures mirror { IfOk result (λ f. IsMirror f.bytes.items f.spans.items) }
     ensures within { IfOk result (λ f. AreWithinLimits (bodies_at f.bytes.items f.spans.items)) }

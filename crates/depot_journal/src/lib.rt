@@ -1,14 +1,15 @@
-//! A journal: records on a disk, to which stable ones are added at the end.
+//! A journal: an append-only list of records on a disk, each synced when its append returns.
 //!
-//! The file is a list of records, each a gate byte, the length of its body as four bytes, and the body, and behind the last
-//! one the gate of the next. A gate of 1 is open; at any other the list ends. An append writes a record and a closed gate
-//! behind the closed gate, syncs, opens the gate, and syncs again. So a stop at any moment leaves the records with the new
-//! one or without it, and after the last sync it leaves the new one.
+//! The file is a list of records, each a gate byte, the length of its body as four bytes, and the body; after the last
+//! record comes the gate of the next. A gate of 1 is open; at any other the list ends. An append writes the record and
+//! a new closed gate after the closed gate, syncs, opens the gate, and syncs again. So every crash image of an append
+//! has the old records, with the new one or without it; after the last sync it has the new one.
 //!
-//! A journal is seen as its records, its disk, whether it is stopped, and for how many more records memory was found. While
-//! it isn't stopped its file has these records, within the limits, and nothing is unsynced. After a fault of the disk it is
-//! stopped, and touches the disk no more; a stop then leaves all its records, and behind them at most the one on which the
-//! disk failed.
+//! A journal is seen as its records, its disk, whether it is stopped, and for how many more records memory is reserved.
+//!
+//! - While it isn't stopped its file has these records, within the limits, and nothing is unsynced.
+//! - After a fault of the disk it is stopped, and accesses the disk no more. Every crash image then has all its
+//!   records, followed at most by the one on which the disk failed.
 //!
 //! What the records mean is no matter here, and no record is ever changed or taken back.
 #![tactic(auto)]

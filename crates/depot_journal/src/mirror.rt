@@ -1,4 +1,4 @@
-//! A disk and the records on it, in memory too.
+//! A disk, and a mirror of its records in memory.
 ghost use Rattle.std.specs.Prelude.{◌≡◌, ◌++◌, ◌+◌, ◌<◌, ◌≤◌, ◌*◌, ◌^◌, ◌∷◌, [], IsTrue, IsErr, OnOk, OnErr, length, vec_len, vec_capacity};
 ghost use Rattle.depot_base.specs.Calls.{FailsAmong, calls_to_append, calls_to_append_all, made};
 ghost use Rattle.depot_base.specs.Faults.{HasCause};
@@ -13,7 +13,7 @@ use crate::write::append_on;
 use depot_base::Bytes;
 use depot_outside::{Disk, Failed};
 
-/// A disk, and the bytes of its file up to the closed gate, with the span of each record's body in them.
+/// A disk, and in memory the bytes of its file up to the closed gate, with the span of each record's body in them.
 #[derive(Drop)]
 pub struct Mirror<D: Disk> {
     pub disk: D,
@@ -21,8 +21,8 @@ pub struct Mirror<D: Disk> {
     pub spans: Vec<Span>,
 }
 
-/// Adds a record's block with its gate open, and the closed gate behind it; its text comes in two parts. There is room for
-/// it.
+/// Appends a record's block in memory, with its gate open and a closed gate after it; its text comes in two parts.
+/// Memory for it is reserved.
 #[tactic(auto, unfolding(depot_base::specs::File::framed, depot_base::specs::Cursor::numeral))]
 fn put_block(bytes: &mut Vec<u8>, head: &[u8], rest: &[u8])
     requires room { vec_len bytes.old + (6 + length (head.now ++ rest.now)) ≤ vec_capacity bytes.old }
@@ -38,8 +38,8 @@ fn put_block(bytes: &mut Vec<u8>, head: &[u8], rest: &[u8])
     let _ = bytes.push(0);
 }
 
-/// Appends one record, for which there is room; its text comes in two parts. After Failed it may stand on the disk, and the
-/// list is as before.
+/// Appends one record to the disk and the mirror; its text comes in two parts, and memory for it is reserved. On
+/// `Failed` it may be on the disk, and the mirror is unchanged.
 fn append_one<D: Disk>(mirror: &mut Mirror<D>, head: &[u8], rest: &[u8]) -> Result<(), Failed>
     requires mirror { IsMirror mirror.old.bytes.items mirror.old.spans.items }
     requires spans { vec_len mirror.old.spans < vec_capacity mirror.old.spans }
@@ -84,7 +84,7 @@ fn append_one<D: Disk>(mirror: &mut Mirror<D>, head: &[u8], rest: &[u8]) -> Resu
     Ok(())
 }
 
-/// What stands behind a text in its record: the rest behind the last of so many, and nothing behind another.
+/// What follows the text of this place in its record: `rest` after the last of `count`, and nothing after another.
 fn rest_behind(place: usize, count: usize, rest: &[u8]) -> &[u8]
     requires { place < count }
     ensures last { place + 1 ≡ count → result.now ≡ rest.now }
@@ -93,8 +93,8 @@ fn rest_behind(place: usize, count: usize, rest: &[u8]) -> &[u8]
     if place + 1 == count { rest } else { &[] }
 }
 
-/// Appends records, for which there is room; the rest stands behind the last text. After Failed those before the failing one
-/// stand in the list.
+/// Appends records, for which memory is reserved; `rest` follows the last text. On `Failed` the mirror has those before
+/// the failing one.
 pub fn append_each<D: Disk>(
     mirror: &mut Mirror<D>,
     texts: &[Bytes],

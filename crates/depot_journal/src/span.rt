@@ -1,6 +1,6 @@
-//! Where a record's body stands.
+//! The span of a record's body.
 
-/// A range of bytes, as two offsets: the first byte, and the one behind the last.
+/// A range of bytes, as two offsets: the first byte, and the one after the last.
 #[derive(Clone, Copy, Debug, PartialEq, Eq)]
 pub struct Span {
     pub start: u32,

@@ -8,7 +8,7 @@ ghost use Rattle.depot_journal.specs.WriteSteps.{HasAppended, LeavesBlockOrNot};
 
 use depot_outside::{Disk, Failed};
 
-/// Writes, and syncs. A stop at any moment leaves what stood there, or that with some bytes of the write.
+/// Writes and syncs. Every crash image of the call has what was there, or that with some bytes of the write.
 pub fn write_synced<D: Disk>(disk: &mut D, at: u64, bytes: &[u8]) -> Result<(), Failed>
     requires room { length bytes.now ≤ D.room_bytes disk.old }
     requires calls { 2 ≤ D.room_calls disk.old }
@@ -29,7 +29,7 @@ pub fn write_synced<D: Disk>(disk: &mut D, at: u64, bytes: &[u8]) -> Result<(), 
     disk.sync()
 }
 
-/// Writes a record's block behind the closed gate, and then opens the gate.
+/// Writes a record's block after the closed gate, and then opens the gate.
 pub fn append_on<D: Disk>(disk: &mut D, gate: u64, block: &[u8]) -> Result<(), Failed>
     requires room { length block.now + 1 ≤ D.room_bytes disk.old }
     requires calls { 4 ≤ D.room_calls disk.old }
@@ -39,7 +39,7 @@ pub fn append_on<D: Disk>(disk: &mut D, gate: u64, block: &[u8]) -> Result<(), F
     ensures tells { D.tells disk.new ≡ D.tells disk.old }
     ensures ok { OnOk result (HasAppended D.Disk disk.old disk.new gate block.now) }
     ensures stable { OnOk result (IsTrue (D.tells disk.old) → Only (D.seen disk.new) (D.may_leave disk.new)) }
-    // A stop at any moment leaves the records from before the call, with the new one or without.
+    // Every crash image of the call has the records from before the call, with the new one or without.
     ensures any_moment { LeavesBlockOrNot D.Disk disk.old disk.new gate block.now }
     ensures made { OnOk result ((body : List ℕ) → block.now ≡ closed_block body → D.after disk.old (made (calls_to_append gate body)) disk.new) }
     ensures failing { OnErr result ((body : List ℕ) → block.now ≡ closed_block body → FailsAmong D.after disk.old disk.new (calls_to_append gate body)) }

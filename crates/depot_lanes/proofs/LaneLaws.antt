@@ -77,14 +77,14 @@ shifted : (k n l m t : ℕ) → m ≡ k + n → t ≡ k + l → (b : Bool) → n
 shifted k n l m t m_is t_is true e = let more : nat_lt m t ≡ true = grind (arith, nat_tests) in rw more (ap (λ (j : ℕ). Some j) m_is)
 shifted k n l m t m_is t_is false e = let more : nat_lt m t ≡ false = grind (arith, nat_tests) in rw more refl
 
--- behind pairs that fail, the search goes on as if it began there
+-- after pairs that fail, the search continues as if it began there
 position-append : {X : Type 0} (p : X → Bool) (xs ys : List X) → position_or_len p xs ≡ length xs → position p (xs ++ ys) ≡ option_map (λ k. length xs + k) (position p ys)
 position-append p xs ys e =
     let all : eqb (position_or_len p xs) (length xs) ≡ true = grind (arith, nat_tests) in
     let behind = prefix_len-append (λ x. not (p x)) xs ys ∙ cond-true (eqb (position_or_len p xs) (length xs)) (length xs + position_or_len p ys) (position_or_len p xs) all in
     shifted (length xs) (position_or_len p ys) (length ys) (position_or_len p (xs ++ ys)) (length (xs ++ ys)) behind (length-append xs ys) (nat_lt (position_or_len p ys) (length ys)) refl
 
--- behind entries of which none is above
+-- after entries of which none is above
 pub first_above-skip : (n : ℕ) (xs ys : List ℕ) → length xs ≡ length ys → n ≤ length xs → all_leq (take n xs) (take n ys) ≡ true → first_above xs ys ≡ option_map (λ k. n + k) (first_above (drop n xs) (drop n ys))
 first_above-skip n xs ys len low leq =
     let front = zip (take n xs) (take n ys) in
@@ -92,7 +92,7 @@ first_above-skip n xs ys len low leq =
     ap (position (λ p. nat_lt p.1 p.0)) (zip-take-drop n xs ys len) ∙ position-append (λ p. nat_lt p.1 p.0) front (zip (drop n xs) (drop n ys)) (none_above front leq)
     ∙ ap (λ (m : ℕ). option_map (λ k. m + k) (first_above (drop n xs) (drop n ys))) long
 
--- the same, where the parts behind are taken whole
+-- the same, where the parts after are taken whole
 pub first_above-behind : (n : ℕ) (xs ys : List ℕ) → length xs ≡ length ys → n ≤ length xs → all_leq (take n xs) (take n ys) ≡ true
     → first_above xs ys ≡ option_map (λ k. n + k) (first_above (take (length xs - n) (drop n xs)) (take (length ys - n) (drop n ys)))
 first_above-behind n xs ys len low leq =

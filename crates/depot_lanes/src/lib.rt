@@ -1,11 +1,11 @@
 //! Two slices of one length, compared and joined entry by entry.
 //!
-//! The rows of clocks are long, and most questions on them go over whole rows. `first_above` and `all_leq` go over full
-//! lanes of eight entries and look for a place only in the lane that has one: a full lane is asked without a branch, so
-//! that its eight entries can be compared at once. `max_into` has no branch in its loop either. What each computes is said
-//! over lists, in `specs/Lanes.antt`, and holds for every length; that the entries go lane by lane is no part of it.
+//! The rows of clocks are long, and most questions on them scan whole rows. `first_above` and `all_leq` scan full lanes
+//! of eight entries, each without a branch, so that its entries can be compared at once; they look for a place only in
+//! the lane that has one. `max_into` has no branch in its loop either.
 //!
-//! No call takes memory.
+//! What each computes is stated over lists, in `specs/Lanes.antt`, for every length; that the entries are scanned by
+//! lanes is no part of it. No call takes memory.
 #![tactic(auto)]
 
 ghost use Rattle.std.specs.Prelude.{◌≡◌, ◌≤◌, length, take, true};
@@ -32,7 +32,7 @@ pub fn first_above(a: &[u32], b: &[u32]) -> Option<usize>
     Some(at + place)
 }
 
-/// Makes each entry of `a` the greater of it and that of `b`. The slices have one length.
+/// Replaces each entry of `a` by the greater of it and that of `b`. The slices have one length.
 pub fn max_into(a: &mut [u32], b: &[u32])
     requires { length a.old ≡ length b.now }
     ensures { a.new ≡ greater_of_each a.old b.now }
@@ -42,7 +42,7 @@ pub fn max_into(a: &mut [u32], b: &[u32])
     }
 }
 
-/// How many entries the full lanes in front have up to the first lane with an entry of `a` that is above that of `b`.
+/// How many entries the full lanes have before the first lane with an entry of `a` that is above that of `b`.
 fn skip_lanes(a: &[u32], b: &[u32]) -> usize
     requires { length a.now ≡ length b.now }
     ensures within { result ≤ length a.now }

@@ -1,4 +1,4 @@
--- Texts of which no two collide, as far as computing tells: each two are one text, or have two hashes.
+-- Texts of which no two collide, as far as computing shows: each two are one text, or have two hashes.
 use Rattle.std.proofs.Common.{◌≡◌, ℕ, List, [], ◌∷◌, Bool, true, false, not, ◌&&◌, ◌||◌, refl, sym, ap, ◌∙◌, inl, inr}
 use Rattle.std.specs.Str.{bytes_eq}
 use Rattle.std.proofs.lemmas.Bool.{and_parts}

@@ -22,18 +22,18 @@ use Rattle.depot_model.specs.Audit.{the_write, yes_found, unordered_found, unsee
 abbrev one : Update
 one = record { writer = 1; seq = 0; clock = 1; prev = zeros; writes = put_one (107 ∷ []) (sha256 (97 ∷ [])) 1; deps = []; history = zeros }
 
--- and then "b" behind it
+-- and then "b" after it
 abbrev two : Update
 two = record { writer = 1; seq = 1; clock = 2; prev = id_of_update one; writes = put_one (107 ∷ []) (sha256 (98 ∷ [])) 1; deps = []; history = zeros }
 
--- or "c", as if nothing stood before
+-- or "c", as if nothing came before
 abbrev apart : Update
 apart = record { writer = 1; seq = 1; clock = 2; prev = zeros; writes = put_one (107 ∷ []) (sha256 (99 ∷ [])) 1; deps = []; history = zeros }
 
 abbrev told : Update → Record
 told u = Foreign (record { statement = statements.Update u; body = []; signature = [] })
 
--- a read of the key after so many records, which shows one write with its value
+-- a read of the key after this many records, which shows one write with its value
 abbrev seen : ℕ → Update → List ℕ → Read
 seen n u value = record { at = n; key = 107 ∷ []; answer = record { update = u; seen = held_value value } ∷ [] }
 
@@ -45,7 +45,7 @@ of_nodes cs = record { verifies = λ key seq body signature. true; listed = []; 
 
 -- ---- what is found
 
--- a put, its read, a put behind it, and another node that took both and read the last
+-- a put, its read, a put after it, and another node that took both and read the last
 put_and_read : finding_in (of_nodes (node 1 (Birth 1 zeros ∷ OwnPut one ((97 ∷ []) ∷ []) ∷ OwnPut two ((98 ∷ []) ∷ []) ∷ []) (seen 2 one (97 ∷ []) ∷ []) ∷ node 2 (Birth 2 zeros ∷ told one ∷ told two ∷ []) (seen 3 two (98 ∷ []) ∷ []) ∷ [])) ≡ yes_found
 unfolding sha256 first_words schedule rounds compress hash_after digest_bytes numeral number bytes_of list_of dep update_fields voucher_fields update_body statement id_of_update kind_of contradicts is_of_kind new_bodies writes_once operations closed observed pair_of circle unordered unseen observed_writes last_writes is_exact wrong breaks_off first_break split_finding named_node finding_in
 put_and_read = refl
@@ -77,7 +77,7 @@ out_of_order : finding_in (of_nodes (node 1 (Birth 1 zeros ∷ OwnPut one ((97 �
 unfolding sha256 first_words schedule rounds compress hash_after digest_bytes numeral number bytes_of list_of dep update_fields voucher_fields update_body statement id_of_update kind_of contradicts is_of_kind new_bodies writes_once operations closed observed pair_of circle unordered unseen observed_writes last_writes is_exact wrong breaks_off first_break split_finding named_node finding_in
 out_of_order = refl
 
--- a put behind a taken update that it doesn't name
+-- a put after a taken update that it doesn't name
 not_seen : finding_in (of_nodes (node 2 (Birth 2 zeros ∷ told one ∷ OwnPut (record { writer = 2; seq = 0; clock = 2; prev = zeros; writes = put_one (107 ∷ []) (sha256 (98 ∷ [])) 1; deps = []; history = zeros }) ((98 ∷ []) ∷ []) ∷ []) [] ∷ [])) ≡ unseen_found (the_write 2 1) (the_write 2 2)
 unfolding sha256 first_words schedule rounds compress hash_after digest_bytes numeral number bytes_of list_of dep update_fields voucher_fields update_body statement id_of_update kind_of contradicts is_of_kind new_bodies writes_once operations closed observed pair_of circle unordered unseen observed_writes last_writes is_exact wrong breaks_off first_break split_finding named_node finding_in
 not_seen = refl
@@ -87,7 +87,7 @@ forked_off : finding_in (of_nodes (node 2 (Birth 2 zeros ∷ told one ∷ told a
 unfolding sha256 first_words schedule rounds compress hash_after digest_bytes numeral number bytes_of list_of dep update_fields voucher_fields update_body statement id_of_update kind_of contradicts is_of_kind new_bodies writes_once operations closed observed pair_of circle unordered unseen observed_writes last_writes is_exact wrong breaks_off first_break split_finding named_node finding_in
 forked_off = refl
 
--- the same, behind which the writer is convicted: a fork of separate branches
+-- the same, after which the writer is convicted: a fork of separate branches
 abbrev proof_of_fork : Record
 proof_of_fork = Conviction (Pair SamePrev (record { statement = statements.Update one; body = []; signature = [] }) (record { statement = statements.Update apart; body = []; signature = [] }))
 

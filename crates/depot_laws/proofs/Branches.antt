@@ -31,7 +31,7 @@ use Rattle.depot_laws.proofs.FirstOfRow.{row_none, map_none}
 
 -- ---- chains
 
--- what stands in a chain behind others has the last of them as its prev
+-- what is in a chain after others has the last of them as its prev
 chain_next : (h : List ℕ) (us : List Update) (u : Update) (vs : List Update) → IsChain h (us ++ u ∷ vs) → u.prev ≡ end_of_chain h us
 chain_next h [] u vs chain = chain.0
 chain_next h (t ∷ us) u vs chain = chain_next (id_of_update t) us u vs chain.1

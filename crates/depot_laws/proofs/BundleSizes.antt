@@ -27,7 +27,7 @@ use Rattle.depot_laws.proofs.Groups.{vouchers_few}
 use Rattle.depot_laws.proofs.OwnTexts.{lawful_is_short}
 use Rattle.depot_laws.proofs.Parcels.{sent_in_front, candidates_for, told_of_parcels, same_with, own_with}
 
--- a record tells of one of them at most
+-- a record reports one of them at most
 pub one_told : (r : Record) → length (proof_by r) + length (own_voucher_by r) + length (accepted_by r) ≤ 1
 one_told (Birth node h) = omega arith
 one_told (OwnPut u value) = omega arith
@@ -39,7 +39,7 @@ one_told (Foreign s) = omega (arith, of_statement s.statement) where
 one_told (Conviction p) = omega arith
 one_told (Held value) = omega arith
 
--- a journal tells of no more proofs, own vouchers and updates than it has records
+-- a journal reports no more proofs, own vouchers and updates than it has records
 pub few_told : (K : List Record) → length (flat_map proof_by K) + length (own_vouchers K) + length (accepted K) ≤ length K
 few_told [] = omega arith
 few_told (r ∷ K) =
@@ -57,7 +57,7 @@ pub sent_is_short : (sign : Signs) (J : List Record) (h : Hello) → length (fla
 unfolding sent_for
 sent_is_short sign J h = let l = fitting_is_longest 67108864 262144 (parcels sign J h) in omega (arith, frames_count (sent_for sign J h), l.fits.few)
 
--- ---- what is told of others
+-- ---- what is said of others
 
 flat_filter_short : {X Y : Type 0} (f : X → List Y) (test : X → Bool) (xs : List X) → length (flat_map f (filter test xs)) ≤ length (flat_map f xs)
 flat_filter_short f test [] = omega arith

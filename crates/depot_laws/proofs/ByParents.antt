@@ -14,12 +14,12 @@ use Rattle.depot_laws.proofs.Worlds.{taken_in, write_from, journal_lawful}
 use Rattle.depot_laws.proofs.Observed.{reads_grow, put_behind}
 use Rattle.depot_laws.proofs.Traces.{path_is_observed}
 
--- the writes that an operation tells of: a write of itself, a read of all that its journal had accepted
+-- the writes that an operation reports: a write of itself, a read of all that its journal had accepted
 abbrev Tells : Operation → Update → Type 0
 Tells (write u) t = u ≡ t
 Tells (read_at c place r) t = IsIn t (accepted (take r.at c.journal))
 
--- t precedes a write by parents, or is or precedes one that a read tells of
+-- t precedes a write by parents, or is or precedes one that a read reports
 abbrev IsUp : World → Update → Operation → Type 0
 IsUp W t (write u) = Precedes (writes_of W) t u
 IsUp W t (read_at c place r) = IsUpToRead W t c r

@@ -42,14 +42,14 @@ pub value_given : (x : List ℕ) → IsValue x → given_by (value_frame x) ≡ 
 unfolding given_by given_as
 value_given x fits = ap (λ (r : Result (List ℕ) ℕ). r >>= λ y. Ok (given_value y)) (ap (λ (y : List ℕ). (rest_of 65536).read (record { at = 0; rest = y })) (sym (value_text x)) ∙ value_again x fits)
 
--- ---- frames one after the other
+-- ---- frames one after another
 
 -- what a journal grows by for what a payload gives
 abbrev pub growth_of : Setting → List Record → Result Given ℕ → List Record
 growth_of here C (Ok x) = growth here C x
 growth_of here C (Err at) = []
 
--- the journal behind these frames, where there is room for each
+-- the journal after these frames, where there is room for each
 abbrev pub taking : Setting → List Record → List Frame → List Record
 taking here C [] = C
 taking here C (f ∷ fs) = taking here (C ++ growth_of here C (given_by f)) fs
@@ -97,7 +97,7 @@ kept_by_taking P more here C (f ∷ fs) p = kept_by_taking P more here (C ++ gro
 pub taking_given : (here : Setting) (C : List Record) (f : Frame) (fs : List Frame) (x : Given) → given_by f ≡ Ok x → taking here C (f ∷ fs) ≡ taking here (C ++ growth here C x) fs
 taking_given here C f fs x is = ap (λ (r : Result Given ℕ). taking here (C ++ growth_of here C r) fs) is
 
--- the room for it, and for the frames behind it
+-- the room for it, and for the frames after it
 pub record HasRoomInTurn (here : Setting) (C : List Record) (x : Given) (fs : List Frame) : Type 0 where
   pub first : full_by here.me C (growth here C x) ≡ None
   pub more : RoomFor here (C ++ growth here C x) fs
@@ -108,7 +108,7 @@ room_given here C f fs x is room =
     record { first = both.0; more = both.1 }
 
 module _ (W : World) (a v : Correct) (K : List Record) (m : Meeting W a v K) where
-  -- none of these frames is refused, and the journal behind them has joined
+  -- none of these frames is refused, and the journal after them has joined
   pub record AreCarried (C : List Record) (fs : List Frame) : Type 0 where
     pub taken : AreTaken (setting_of W a) C fs
     pub joined : HasJoined W a v K m (taking (setting_of W a) C fs)
@@ -128,12 +128,12 @@ module _ (W : World) (a v : Correct) (K : List Record) (m : Meeting W a v K) whe
     joined = subst (λ (D : List Record). HasJoined W a v K m D) (sym (taking_append (setting_of W a) C fs gs)) two.joined;
   }
 
-  -- a step of a frame, and what holds behind it
+  -- a step of a frame, and what holds after it
   pub record StepsTo {X : Type 0} (After : List Record → X → Type 0) (C : List Record) (x : X) (g : Given) : Type 0 where
     pub step : IsStep W a v K m C g
     pub after : After (C ++ growth (setting_of W a) C g) x
 
-  -- a sort of frames: what each of them asks of the journal, and what holds behind it
+  -- a sort of frames: what each of them asks of the journal, and what holds after it
   pub record IsSort {X : Type 0} (frame : X → Frame) (give : X → Given) (Before After : List Record → X → Type 0) : Type 0 where
     pub gives : (C : List Record) (x : X) → Before C x → given_by (frame x) ≡ Ok (give x)
     pub keeps : (C more : List Record) (x : X) → Before C x → Before (C ++ more) x

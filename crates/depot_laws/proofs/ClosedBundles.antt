@@ -1,4 +1,4 @@
--- What a bundle leaves out the reader has, and the parents of what it sends the reader has or are sent in front.
+-- What a bundle leaves out the reader has; the parents of what it sends the reader has, or the bundle sends earlier.
 use Rattle.std.proofs.Common.{◌≡◌, ℕ, List, [], ◌∷◌, ◌++◌, false, refl, sym, ap, subst, ◌∙◌, inl, inr, ◌⊎◌, append_assoc}
 use Rattle.std.specs.List.{flat_map}
 use Rattle.std.proofs.lemmas.Grind.{flat_map-append}
@@ -17,7 +17,7 @@ use Rattle.depot_laws.proofs.Causes.{none_or_one}
 use Rattle.depot_laws.proofs.Parcels.{sent_in_front, sent_is_all, told_of_parcels, candidates_for, is_candidate_for, in_candidates}
 use Rattle.depot_laws.proofs.Meetings.{Meeting, not_sent, parents_first}
 
--- where the record stands that accepted one of the updates of a list
+-- the place of the record that accepted one of the updates of a list
 record AcceptsAt (rs : List Record) (front : List Update) (u : Update) : Type 0 where
   pub done : List Record
   pub by : Record
@@ -53,7 +53,7 @@ module _ (W : World) (world : IsWorld W) (authentic : IsAuthentic W) (free : IsC
     | inr stays ↦ inl (not_sent W a v J meeting P hears.later hears.hello_was u on stays)
   ]
 
-  -- what is sent stands in front of the candidates' updates
+  -- what is sent is before the candidates' updates
   sent_front : (front : List Update) (u : Update) (behind : List Update) → updates_of (sent_for sign J (hello_at W a P)) ≡ front ++ u ∷ behind → (more : List Update) × (accepted (candidates_for J (hello_at W a P)) ≡ front ++ u ∷ more)
   sent_front front u behind e =
       let f = sent_in_front sign J (hello_at W a P) in

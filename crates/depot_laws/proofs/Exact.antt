@@ -105,7 +105,7 @@ record IsValueFor (key : List ℕ) (ws : List Write) (values : List (List ℕ)) 
 put_is : (g h : List ℕ) (m n : ℕ) → Some (Put g m) ≡ Some (Put h n) → (g ≡ h) × (m ≡ n)
 put_is g h m n e = (cc, cc)
 
--- behind one more write, whose key is this one or another
+-- after one more write, whose key is this one or another
 found_behind : (b : Bool) (k key : List ℕ) (what : Wrote) (ws : List Write) (values : List (List ℕ)) (hash : List ℕ) (size : ℕ) → bytes_eq k key ≡ b
     → ((vs : List (List ℕ)) → ws ≡ map write_of (changes_of ws vs) → wrote_under key ws ≡ Some (Put hash size) → IsValueFor key ws vs hash size)
     → record { key = k; what = what } ∷ ws ≡ map write_of (changes_of (record { key = k; what = what } ∷ ws) values) → cond b (Some what) (wrote_under key ws) ≡ Some (Put hash size)
@@ -133,7 +133,7 @@ value_found_for : (key : List ℕ) (ws : List Write) (values : List (List ℕ)) 
 value_found_for key [] values hash size goes e = absurd cc
 value_found_for key (w ∷ ws) values hash size goes e = found_behind (bytes_eq w.key key) w.key key w.what ws values hash size refl (λ vs. value_found_for key ws vs hash size) goes e
 
--- a statement of another that is kept stands in the world
+-- a statement of another that is kept is in the world
 pub kept_in_world : (W : World) (c : Correct) (s : Signed) → IsIn c W.nodes → IsIn s (foreign c.journal) → IsIn s (signed_met W)
 kept_in_world W c s c_on on =
     let g = given_by foreign_by s c.journal on in

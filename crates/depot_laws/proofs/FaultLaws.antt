@@ -141,7 +141,7 @@ one_given r x y one two = let same : Some x ≡ Some y = sym one ∙ two in cc
 same_refusal : (here : Setting) (J : List Record) (r : Record) (a b : Result Taken Check) → ((x : Given) × ((taken_by_record r ≡ Some x) × (answer_to here J x ≡ a))) → ((x : Given) × ((taken_by_record r ≡ Some x) × (answer_to here J x ≡ b))) → a ≡ b
 same_refusal here J r a b (x, (x_by, x_is)) (y, (y_by, y_is)) = sym x_is ∙ ap (answer_to here J) (one_given r x y x_by y_by) ∙ y_is
 
--- what is due behind a statement that is new
+-- what is due after a statement that is new
 due_is_new : (here : Setting) (J : List Record) (r : Record) → IsProofDue here J r → (x : Given) × ((taken_by_record r ≡ Some x) × (answer_to here J x ≡ Ok New))
 due_is_new here J (Foreign s) w = (given_statement s, (refl, w.0))
 due_is_new here J (Birth node h) w = absurd w

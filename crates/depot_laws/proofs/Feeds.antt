@@ -23,7 +23,7 @@ use Rattle.depot_laws.proofs.Carrying.{growth_of, taking, HasRoomFor, RoomFor, I
 
 -- ---- pieces
 
--- behind a frame no bytes stand open
+-- after a frame no bytes are open
 pub frame_leaves_none : (here : Setting) (n : ℕ) (f : Frame) (s : Feeding) → (fed_frame here n f s).begun ≡ []
 unfolding fed_frame
 frame_leaves_none here n f s = by_end (f.tag == 4) (take_frame here s.journal f) where
@@ -67,7 +67,8 @@ not_end : (here : Setting) (n : ℕ) (f : Frame) (s : Feeding) → (f.tag == 4) 
 unfolding fed_frame take_frame
 not_end here n f s e = cond-false (f.tag == 4) _ _ e
 
--- What a feed is that goes on: it isn't closed, no End frame came, no bytes stand open, and so many frames were taken.
+-- What a feed is that continues: it isn't closed, no End frame came, no bytes are open, and this many frames were
+-- taken.
 pub record GoesOnWith (s : Feeding) (frames : ℕ) : Type 0 where
   pub open_still : s.closed ≡ None
   pub none_ended : s.ended ≡ None
@@ -85,11 +86,11 @@ not_over s n g few =
         by_test true is = absurd (differ (grind (arith, nat_tests, is)))
         by_test false is = is
 
--- the feed behind a frame of which is known what becomes of it
+-- the feed after a frame of which is known what becomes of it
 frame_fed : (here : Setting) (s : Feeding) (f : Frame) (n : ℕ) → IsFrame f → (f.tag == 4) ≡ false → GoesOnWith s n → n < 524288 → fed here s (text_of_frame f) ≡ after_outcome (length (text_of_frame f)) s (outcome_of here s.journal (given_by f))
 frame_fed here s f n good other g few = frame_is_taken here s f good g.none_begun (ap is_some g.open_still) (not_over s n g few) ∙ not_end here (length (text_of_frame f)) f s other
 
--- the journal, and what was refused, behind some frames
+-- the journal, and what was refused, after some frames
 pub record IsFedTo (s : Feeding) (frames : ℕ) (J : List Record) (refused : List Refusal) : Type 0 where
   pub goes_on : GoesOnWith s frames
   pub journal : s.journal ≡ J
@@ -113,7 +114,7 @@ counted_any n s (Err c) new frames g = ((passed n (counted (Err c) new s)).refus
 abbrev pub IsFullAt : Feeding → Type 0
 IsFullAt s = (what : Full) × (s.closed ≡ Some (out_of_room what))
 
--- a frame finds room, and the feed goes on, or the feed is closed
+-- a frame finds room, and the feed continues, or the feed is closed
 record FindsRoom (here : Setting) (s : Feeding) (frames n : ℕ) (r : Result Given ℕ) : Type 0 where
   pub room : HasRoomFor here s.journal r
   pub refused : List Refusal

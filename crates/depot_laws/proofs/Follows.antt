@@ -55,7 +55,7 @@ record HasLeaf (us : List Update) (t : Update) : Type 0 where
   pub last : is_prev_in us (id_of_update leaf) ≡ false
   pub above : (t ≡ leaf) ⊎ Precedes us t leaf
 
--- an update in front names none of those behind it
+-- an update of the prefix names none of those after it
 leaf_behind : (ids : List (List ℕ)) (x : Update) (xs : List Update) (t : Update) → IsCausal ids (x ∷ xs) → HasLeaf xs t → HasLeaf (x ∷ xs) t
 leaf_behind ids x xs t c l = record {
   leaf = l.leaf;

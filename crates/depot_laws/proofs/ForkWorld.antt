@@ -1,5 +1,6 @@
--- A world with a fork, computed: each of two nodes took one branch of a faulty writer, the second vouched for its branch, the first
--- took that and convicted the writer, and a proof was judged. It meets what the law of worlds asks for, and is fork-join-causal.
+-- A world with a fork, computed: each of two nodes took one branch of a faulty writer, the second vouched for its
+-- branch, the first took that and convicted the writer, and a proof was judged. It meets the conditions of the law of
+-- worlds, and is fork-join causal.
 use Rattle.std.proofs.Common.{◌≡◌, ℕ, zero, suc, List, [], ◌∷◌, ◌++◌, length, Bool, true, false, ◌&&◌, nat_lt, None, refl, sym, ap, subst, ◌∙◌, inl, inr, arith}
 use Rattle.std.specs.Str.{bytes_eq}
 use Rattle.std.proofs.lemmas.Bool.{and_parts, ltb-true, iff_false}
@@ -216,7 +217,7 @@ of_nine s t c same nine (inl first) writer = absurd (let n : 1 ≡ 9 = ap (λ (x
 of_nine s t c same nine (inr (inl second)) writer = absurd (let n : 2 ≡ 9 = ap (λ (x : Correct). x.node) second ∙ sym writer ∙ ap (λ (x : Signed). writer_of x.statement) (sym same) ∙ nine in omega (arith, n))
 of_nine s t c same nine (inr (inr never)) writer = absurd never
 
--- the voucher of the second node stands in its journal
+-- the voucher of the second node is in its journal
 of_second : (s : Signed) (c : Correct) → voucher_signed ≡ s → IsIn c world.nodes → writer_of s.statement ≡ c.node → IsIn s.statement (own c.journal)
 unfolding signed_with
 of_second s c same (inl first) writer = absurd (let n : 1 ≡ 2 = ap (λ (x : Correct). x.node) first ∙ sym writer ∙ ap (λ (x : Signed). writer_of x.statement) (sym same) in omega (arith, n))
@@ -262,6 +263,6 @@ none_zeros u (inr (inr (inr never))) e = absurd never
 is_collision_free : IsCollisionFree world
 is_collision_free = record { one = none_collide (hashed_texts world) apart; named = none_zeros }
 
--- so it is fork-join-causal
+-- so it is fork-join causal
 is_fork_join_causal : IsForkJoinCausal world
 is_fork_join_causal = fork_join_causal world is_world is_authentic is_collision_free

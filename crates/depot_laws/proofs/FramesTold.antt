@@ -1,5 +1,5 @@
--- What stands at a place of a stream is told at the first byte that decides it: a frame with its last byte, and that there is
--- none as soon as no bytes behind make one.
+-- What is at a place of a stream is reported at the first byte that decides it: a frame with its last byte, and no
+-- frame as soon as no further bytes make one.
 use Rattle.std.proofs.Common.{◌≡◌, ℕ, zero, suc, ◌<◌, ◌≤◌, List, [], ◌∷◌, ◌++◌, length, take, drop, Bool, true, false, not, cond, ltb, ◌&&◌, ◌||◌, ◌==◌, get_or, refl, sym, ap, subst, ◌∙◌, inl, inr, arith}
 use Rattle.std.specs.Int.{w32, from_be_bytes}
 use Rattle.std.proofs.lemmas.Bool.{ltb-false}
@@ -23,7 +23,7 @@ code (whole_frame f) = 0
 code open_frame = 1
 code no_frame = 2
 
--- what the tests say of bytes that are told to be a whole frame
+-- what the tests say of bytes that are reported as a whole frame
 record Passed (astray short open_ : Bool) (g f : Frame) : Type 0 where
   pub straight : astray ≡ false
   pub long : short ≡ false
@@ -71,7 +71,7 @@ its_text tag x y z w r are enough =
     small (suc (suc (suc zero))) = are 4
     small (suc (suc (suc (suc i)))) = omega arith
 
--- bytes that are told to be a whole frame begin with its text
+-- bytes that are reported as a whole frame begin with its text
 pub whole_is_in_front : (bytes : List ℕ) (f : Frame) → IsBytes bytes → frame_at bytes ≡ whole_frame f → BeginsWith bytes f
 unfolding frame_at
 whole_is_in_front [] f are told = let one_is_none : 1 ≡ 0 = ap code told in absurd (omega (arith, one_is_none))

@@ -49,7 +49,7 @@ groups_keep size x (y ∷ ys) (inr there) = into_first_keeps y x (groups_behind 
 
 -- ---- what groups are
 
--- so many, at least one
+-- this many, at least one
 pub record IsSized {X : Type 0} (size : ℕ) (g : List X) : Type 0 where
   pub some : 1 ≤ length g
   pub most : length g ≤ size
@@ -79,7 +79,7 @@ unfolding groups_of
 groups_sized size [] some = tt
 groups_sized size (x ∷ xs) some = first_fits size x (groups_behind size (size - 1) xs) some (groups_begin size (size - 1) xs some)
 
--- one more in front makes a group only where there is none
+-- one more at the front makes a group only where there is none
 into_first_few : {X : Type 0} (x : X) (gs : List (List X)) (most : ℕ) → 1 ≤ most → length gs ≤ most → length (into_first x gs) ≤ most
 into_first_few x [] most some few = some
 into_first_few x (g ∷ gs) most some few = few
@@ -96,7 +96,7 @@ unfolding groups_of
 groups_few size [] = omega arith
 groups_few size (x ∷ xs) = into_first_few x (groups_behind size (size - 1) xs) (length (x ∷ xs)) (omega arith) (omega (arith, groups_behind_few size (size - 1) xs))
 
--- a member of a group is one of the list, or the one in front
+-- a member of a group is one of the list, or the one at the front
 from_first_group : {X : Type 0} (x y : X) (gs : List (List X)) (g : List X) → IsIn g (into_first x gs) → IsIn y g → (x ≡ y) ⊎ HasGroup y gs
 from_first_group x y [] g (inl same) on = elim (subst (λ (l : List _). IsIn y l) (sym same) on) [ inl here ↦ inl here | inr never ↦ absurd never ]
 from_first_group x y [] g (inr never) on = absurd never
@@ -136,7 +136,7 @@ unfolding put_rising
 put_rising_keeps h k [] on = on
 put_rising_keeps h k (x ∷ xs) on = rising_step (is_below h x) (bytes_eq h x) h k x xs (put_rising h xs) (bytes_eq-Decides h x).0 on (put_rising_keeps h k xs)
 
--- each byte string stands in the rising list
+-- each byte string is in the rising list
 pub rising_keeps : (h : List ℕ) (hs : List (List ℕ)) → IsIn h hs → IsIn h (rising hs)
 unfolding rising
 rising_keeps h [] never = absurd never

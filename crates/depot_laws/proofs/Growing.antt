@@ -35,7 +35,7 @@ use Rattle.depot_laws.proofs.Taken.{AllNone, new_is, is_new}
 use Rattle.depot_laws.proofs.LateChecks.{refused_late}
 use Rattle.depot_laws.proofs.Contrary.{IsOpponent, opponent_is, named_opponent_is, IsGenuine, new_is_genuine, kept_is_signed, kept_is_genuine, accused_is, made_passes}
 
--- ---- readings with a conviction behind
+-- ---- readings with a conviction after
 
 -- the accused is convicted
 pub convicted_now : (J : List Record) (p : Proof) (n : ℕ) → accused p ≡ n → is_convicted (J ++ Conviction p ∷ []) n ≡ true
@@ -55,7 +55,7 @@ content_same J p (statement.Voucher v) all = tt
 
 -- ---- one more record
 
--- a journal that has begun stays so with more behind it
+-- a journal that has begun stays so with more after it
 pub still_some : (J new : List Record) → is_empty J ≡ false → is_empty (J ++ new) ≡ false
 still_some [] new e = absurd cc
 still_some (r ∷ J) new e = refl
@@ -137,7 +137,7 @@ refused here J s c l some fits e room = same_journal here J [] l refl
 
 -- ---- a statement that is new
 
--- the conviction in front of it
+-- the conviction before it
 abbrev pub front_of : List Record → Signed → List Record
 front_of J s = cond (is_vouched J s.statement) (due J s (opponent (foreign J) s.statement)) []
 
@@ -163,7 +163,7 @@ unfolding refused_as_convicted is_vouched
 not_refused J (statement.Update u) e = rw (and_right (is_convicted J u.writer) (not (is_vouched J (statement.Update u))) (not_from_true (is_vouched J (statement.Update u)) e)) refl
 not_refused J (statement.Voucher v) e = absurd cc
 
--- it is still new behind the conviction
+-- it is still new after the conviction
 still_new : (here : Setting) (J : List Record) (p : Proof) (s : Signed) → is_vouched J s.statement ≡ true → answer_to here J (given_statement s) ≡ Ok New → answer_to here (J ++ Conviction p ∷ []) (given_statement s) ≡ Ok New
 still_new here J p s vouched e =
     let n = new_is here J s e in

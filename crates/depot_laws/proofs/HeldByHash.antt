@@ -16,7 +16,7 @@ use Rattle.depot_model.proofs.Members.{among-append}
 abbrev fits : List ℕ → ℕ → List ℕ → Bool
 fits h size v = bytes_eq (sha256 v) h && (length v == size)
 
--- behind a hash that was there comes no value of it
+-- after a hash that was there comes no value of it
 none_behind : (h : List ℕ) (size : ℕ) (hashes vs : List (List ℕ)) → is_among h hashes ≡ true → list_any (fits h size) (first_values hashes vs) ≡ false
 unfolding first_values
 none_behind h size hashes [] there = refl

@@ -28,7 +28,7 @@ leaf_in us vs same t on =
     let test : is_prev_in us (id_of_update t) ≡ is_prev_in vs (id_of_update t) = same_test _ _ (prev_in_more us vs (id_of_update t) same.to) (prev_in_more vs us (id_of_update t) same.back) in
     in_filter (λ (u : Update). not (is_prev_in vs (id_of_update u))) t vs (same.to t leaf.0) (sym (ap not test) ∙ leaf.1)
 
--- two lists with the same members have one history, where no id stands twice in either
+-- two lists with the same members have one history, where no id occurs twice in either
 pub same_history : (us vs : List Update) → HaveOwnIds us → HaveOwnIds vs → HaveSame us vs → history_hash us ≡ history_hash vs
 unfolding history_hash history_text leaves_of
 same_history us vs apart_u apart_v same =

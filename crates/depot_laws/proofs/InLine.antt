@@ -1,4 +1,5 @@
--- In a world the operations of each node are observed in the order in which it made them, and all that it accepted before what it then put.
+-- In a world the operations of each node are observed in the order in which it made them, and all that it accepted is
+-- observed before what it then put.
 use Rattle.std.proofs.Common.{◌≡◌, ◌&&◌, Bool, true, false, not, List, [], ◌∷◌, ◌++◌, take, drop, Some, None, refl, ap, subst, inl, inr, slice_get, ltb-true, eqb-true}
 use Rattle.std.specs.Prelude.{option_map, find}
 use Rattle.std.proofs.lemmas.Bool.{and_parts, or_cases, both_ways, false_from_ne_true}

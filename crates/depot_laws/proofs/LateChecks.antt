@@ -1,4 +1,4 @@
--- Statements that are refused by a check behind those of the writer and the signature.
+-- Statements that are refused by a check after those of the writer and the signature.
 use Rattle.std.proofs.Common.{◌≡◌, Bool, true, false, not, eqb, List, [], ◌∷◌, ◌++◌, Option, Some, Err, refl, sym, subst}
 use Rattle.depot_base.specs.Statement.{writer_of}
 use Rattle.depot_base.specs.declared.statement.Signed.{Signed}
@@ -14,7 +14,7 @@ use Rattle.depot_laws.proofs.Tests.{holds_from_not}
 use Rattle.depot_laws.proofs.Taken.{refused_from_answer}
 use Rattle.depot_laws.proofs.Contrary.{IsGenuine}
 
--- a check behind those of the writer and the signature
+-- a check after those of the writer and the signature
 abbrev pub IsLate : Check → Type 0
 IsLate (check.UnknownWriter n) = ⊥
 IsLate (check.NotMine h) = ⊥

@@ -1,5 +1,5 @@
--- Meetings of nodes that went on, computed: one that put since its hello, and one that put since its bundle. The law of histories
--- that rejoin speaks of them too.
+-- Meetings of nodes that went on meanwhile, computed: one that put since its hello, and one that put since its bundle.
+-- The law of histories that rejoin covers them too.
 use Rattle.std.proofs.Common.{◌≡◌, List, [], ◌∷◌, ◌++◌, false, None, refl, sym, ap, subst, ◌∙◌, inl, inr, arith}
 use Rattle.std.proofs.lemmas.List.{append-nil}
 use Rattle.sha2.specs.Sha256.{sha256, first_words, schedule, rounds, compress, hash_after, digest_bytes}

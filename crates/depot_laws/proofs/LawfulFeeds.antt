@@ -77,12 +77,12 @@ frame_keeps here n f s bytes g = by_end (f.tag == 4) (given_keeps here n s (give
   by_end true taken = g
   by_end false taken = taken
 
--- ---- the bytes that stand open
+-- ---- the bytes that are open
 
 no_bytes : IsBytes []
 no_bytes i = omega arith
 
--- the payload of a frame that stands there is bytes, where all that stands there is
+-- the payload of a frame that is there is bytes, where all that is there is
 PayloadIsBytes : FrameAt → Type 0
 PayloadIsBytes (whole_frame f) = IsBytes f.payload
 PayloadIsBytes open_frame = Unit {0}

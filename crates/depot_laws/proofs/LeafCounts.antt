@@ -82,7 +82,7 @@ leaves_push us u c j =
 abbrev pub is_other : ℕ → Update → Bool
 is_other me t = not (eqb t.writer me)
 
--- The leaves of other writers with it, and those that it takes the place of, are those before, and itself if it is another's.
+-- The leaves of other writers with it, and those that it replaces, are those before, and itself if it is another's.
 pub leaves_count : (me : ℕ) (us : List Update) (u : Update) → IsCausal [] us → Joins us u
     → length (filter (is_other me) (leaves_of (us ++ u ∷ []))) + length (filter (is_before u) (filter (is_other me) (leaves_of us))) ≡ length (filter (is_other me) (leaves_of us)) + cond (is_other me u) 1 0
 leaves_count me us u c j =
@@ -100,7 +100,7 @@ leaves_count me us u c j =
       one true = refl
       one false = refl
 
--- ---- the leaf that it takes the place of
+-- ---- the leaf that it replaces
 
 abbrev one_if : Bool → ℕ
 one_if b = cond b 1 0
@@ -112,7 +112,7 @@ filter_none (t ∷ ts) = filter_none ts
 no_id : (t : Update) (ts : List Update) (h : List ℕ) → AllByRecursion (λ u. id_of_update u ≡ id_of_update t → ⊥) ts → id_of_update t ≡ h → has_id ts h ≡ false
 no_id t ts h other e = false_from_ne_true (has_id ts h) (λ has. let x = has_id_to ts h has in all_at (λ (u : Update). id_of_update u ≡ id_of_update t → ⊥) ts x.0 other x.1.0 (x.1.1 ∙ sym e))
 
--- where no id stands twice, one update has an id, or none
+-- where no id occurs twice, one update has an id, or none
 count_id : (K : List Update) (h : List ℕ) → HaveOwnIds K → length (filter (λ t. bytes_eq (id_of_update t) h) K) ≡ cond (has_id K h) 1 0
 unfolding has_id
 count_id [] h apart = refl
@@ -129,7 +129,7 @@ before_if : (b : Bool) (h : List ℕ) (K : List Update) → HaveOwnIds K → len
 before_if true h K apart = filter_none K
 before_if false h K apart = ap length (filter_agree (λ (t : Update). is_among (id_of_update t) (h ∷ [])) (λ (t : Update). bytes_eq (id_of_update t) h) (λ t. or-false (bytes_eq (id_of_update t) h)) K) ∙ count_id K h apart
 
--- how many it takes the place of
+-- how many it replaces
 before_count : (K : List Update) (u : Update) → HaveOwnIds K → length (filter (is_before u) K) ≡ cond (not (bytes_eq u.prev zeros) && has_id K u.prev) 1 0
 before_count K u apart = before_if (bytes_eq u.prev zeros) u.prev K apart
 

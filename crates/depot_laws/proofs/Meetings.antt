@@ -50,7 +50,7 @@ pub record Meeting (W : World) (a v : Correct) (K : List Record) : Type 0 where
 
 -- ---- lists
 
--- where one of what is left of a list stands in the list
+-- where one of what is left of a list is in the list
 pub record IsLeftAt {X : Type 0} (test : X → Bool) (xs done : List X) (x : X) : Type 0 where
   pub before : List X
   pub after : List X
@@ -89,7 +89,7 @@ module _ (W : World) (a v : Correct) (K : List Record) (m : Meeting W a v K) whe
   pub reader_lawful : IsLawful (setting_of W a) a.journal
   reader_lawful = journal_lawful W m.world a m.reader
 
-  -- what its records told they tell
+  -- what its records said they still say
   pub still_told : {X : Type 0} (f : Record → List X) (x : X) → IsIn x (flat_map f K) → IsIn x (flat_map f v.journal)
   still_told f x on = subst (λ (J : List Record). IsIn x (flat_map f J)) (sym m.grown) (flat_left f x K m.since on)
 
@@ -174,13 +174,13 @@ module _ (W : World) (a v : Correct) (K : List Record) (m : Meeting W a v K) whe
 
     -- ---- parents of what is sent
 
-    -- the update with this id is one that the reader has, or a candidate in front
+    -- the update with this id is one that the reader has, or an earlier candidate
     pub record HasBefore (done : List Record) (h : List ℕ) : Type 0 where
       pub update : Update
       pub id : id_of_update update ≡ h
       pub on : IsIn update (accepted a.journal) ⊎ IsIn update (accepted done)
 
-    -- each parent of a candidate the reader has, or a candidate in front of it brings it
+    -- each parent of a candidate the reader has, or a candidate before it brings it
     pub parents_first : (done : List Record) (r : Record) (rs : List Record) (u : Update) → candidates_for K (hello_at W a P) ≡ done ++ r ∷ rs → IsIn u (accepted_by r) → (h : List ℕ) → IsIn h (parents u) → HasBefore done h
     unfolding candidates
     parents_first done r rs u split given h parent =

@@ -1,4 +1,4 @@
--- No reader answers an own statement of a correct node that it stands below its checkpoint.
+-- No reader answers that an own statement of a correct node is below its checkpoint.
 use Rattle.std.proofs.Common.{◌≡◌, ℕ, Bool, true, false, cond, ◌||◌, ◌&&◌, List, [], ◌∷◌, ◌++◌, take, Option, Some, None, refl, sym, ap, subst, ◌∙◌, inl, inr, ◌⊎◌}
 use Rattle.std.specs.Prelude.{find, is_some, option_map}
 use Rattle.std.specs.List.{flat_map}
@@ -38,7 +38,7 @@ found_is test (y ∷ ys) x e = by_test (test y) refl e (λ later. found_is test 
   by_test true is e later = let same : y ≡ x = cc in (inl same, ap test (sym same) ∙ is)
   by_test false is e later = let r = later e in (inr r.0, r.1)
 
--- what is kept is kept with more behind
+-- what is kept is kept with more after
 kept_more : (J more : List Record) (s : Statement) → is_kept J s ≡ true → is_kept (J ++ more) s ≡ true
 kept_more J more (statement.Update u) e = let t = has_id_to (accepted J) (id_of_update u) e in has_id_from (accepted (J ++ more)) (id_of_update u) t.0 (flat_left accepted_by t.0 J more t.1.0) t.1.1
 kept_more J more (statement.Voucher v) e =
@@ -71,7 +71,7 @@ module _ (W : World) (world : IsWorld W) (authentic : IsAuthentic W) (free : Hav
       let absent = false_from_ne_true (is_kept J s.statement) (λ kept. both_ways _ new (kept_more J more s.statement kept)) in
       absurd (trim W world authentic free c d n text ids s.statement t c_on d_on signed s_on absent (trimmed_below J ids t f.0) f.1)
 
-  -- whatever the reader took since
+  -- whatever the reader has taken since
   pub never_below : (c d : Correct) (n : ℕ) (text : List ℕ) (ids : List (List ℕ)) (more : List Record) (s : Signed) → IsIn c W.nodes → IsIn d W.nodes → ((e : RosterEntry) → IsIn e W.listed → is_signed_by (take n c.journal) text ids e.node ≡ true) → IsIn s.statement (own d.journal)
       → below_of (setting_of W c) (take n c.journal ++ more) (trimmed (take n c.journal) ids) s ≡ None
   unfolding below_of

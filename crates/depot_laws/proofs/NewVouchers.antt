@@ -1,4 +1,4 @@
--- A lawful journal with the vouchers that a node makes for some ids behind it is lawful, where they meet no limit.
+-- A lawful journal stays lawful with the vouchers that a node makes for some ids, where they meet no limit.
 use Rattle.std.proofs.Common.{◌≡◌, ℕ, suc, ◌+◌, ◌≤◌, ◌^◌, List, [], ◌∷◌, ◌++◌, length, true, false, not, ◌&&◌, eqb, None, refl, sym, ap, subst, ◌∙◌, inl, inr, ◌⊎◌, arith, append_assoc, length-append}
 use Rattle.std.proofs.lemmas.List.{append-nil}
 use Rattle.std.specs.List.{AllByRecursion, flat_map}
@@ -64,9 +64,9 @@ voucher_fits me n g node seq sized fit =
     let count : (number w16 1 256).fits (length (rising g)) = count_fits (length (rising g)) (rising_some g sized.some) (omega (arith, rising_short g, sized.most)) in
     (voucher_tag, (byte_fits 1 (omega arith), (byte_fits 2 (omega arith), (node, (seq_fits n seq, (count, ((follow, refl), refl)))))))
 
--- ---- one after the other
+-- ---- one after another
 
--- so many vouchers behind a journal keep within its limits
+-- this many vouchers after a journal keep within its limits
 record HasRoomForAll (here : Setting) (J : List Record) (vs : List Voucher) : Type 0 where
   pub records : length (J ++ records_of vs) ≤ 131072
   pub bytes : journal_bytes (J ++ records_of vs) ≤ 2 ^ 30

@@ -1,5 +1,5 @@
--- A newcomer rejoins, computed: the first node sends it an update and the value behind it. So the law of histories that rejoin
--- asks for nothing that can't be.
+-- A newcomer rejoins, computed: the first node sends it an update and the value after it. So the conditions of the law
+-- of histories that rejoin can be met.
 use Rattle.std.proofs.Common.{true, ◌≡◌, ℕ, List, [], ◌∷◌, ◌++◌, length, false, None, Some, refl, sym, ap, subst, ◌∙◌, inl, inr, arith, length-append}
 use Rattle.std.proofs.lemmas.List.{append-nil}
 use Rattle.sha2.specs.Sha256.{sha256, first_words, schedule, rounds, compress, hash_after, digest_bytes}
@@ -169,7 +169,7 @@ not_exposed : HasRejoined two_meet newcomer first_node sign (newborn 2) first_jo
 unfolding sha256 first_words schedule rounds compress hash_after digest_bytes numeral number bytes_of list_of statement update_fields voucher_fields contradicts is_of_kind is_convicted
 not_exposed r = let wrong : false ≡ true = r.exposed (signed_update nine) (signed_update nine_other) (inl refl) (inr (inl refl)) SameNumber refl in cc
 
--- ---- what is sent never waits for something that comes behind it
+-- ---- what is sent never waits for something that comes after it
 
 -- of two updates of which the second names the first
 not_child_first : ComeInOrder newcomer (two_more ∷ two ∷ []) → ⊥

@@ -37,7 +37,7 @@ one_journal here I J texts a b = same_records I J (all_texts here I a.lawful) (a
 
 -- ---- faults
 
--- where the texts before a place end, and what stands there
+-- where the texts before a place end, and what is there
 abbrev Ends : List Record → List ℕ → List Record → List ℕ → Type 0
 Ends I text J other = (I ≡ J) × (text ≡ other)
 
@@ -61,7 +61,7 @@ meet here (r ∷ I) (s ∷ J) text other after behind fit fit_too e =
     let rest : map text_of_record I ++ text ∷ after ≡ map text_of_record J ++ other ∷ behind = cc in
     longer here r s I J text other (one_record r s (fit r (inl refl)) (fit_too s (inl refl)) head) (meet here I J text other after behind (λ x on. fit x (inr on)) (λ x on. fit_too x (inr on)) rest)
 
--- a text that a lawful journal goes on with has no fault
+-- a text with which a lawful journal continues has no fault
 no_fault_inside : (here : Setting) (I J more : List Record) (r : Record) (text : List ℕ) (f : RecordFault) → IsLawful here J → J ≡ I ++ r ∷ more → text ≡ text_of_record r → IsFault here I text f → ⊥
 no_fault_inside here I J more r text f l is e w = no_fault here I r f (l.each I r more is) (subst (λ (x : List ℕ). IsFault here I x f) e w)
 
@@ -82,7 +82,7 @@ GoesOn I J text = (r : Record) × ((more : List Record) × ((J ≡ I ++ r ∷ mo
 goes_further : (r s : Record) (I J : List Record) (text : List ℕ) (q : Record) (more : List Record) → s ≡ r → J ≡ I ++ q ∷ more → text ≡ text_of_record q → GoesOn (r ∷ I) (s ∷ J) text
 goes_further r s I J text q more same is e = (q, (more, (ap (λ (K : List Record). s ∷ K) is ∙ ap (λ (x : Record). x ∷ (I ++ q ∷ more)) same, e)))
 
--- where a journal's texts go on with a text
+-- where a journal's texts continue with a text
 goes_on : (I J : List Record) (text : List ℕ) (after : List (List ℕ)) → ((r : Record) → IsIn r I → IsRecord r) → ((r : Record) → IsIn r J → IsRecord r) → map text_of_record J ≡ map text_of_record I ++ text ∷ after
     → GoesOn I J text
 goes_on [] [] text after fit fit_too e = absurd cc
@@ -102,7 +102,7 @@ not_lawful here texts m f J a b =
 
 -- ---- reads
 
--- of two splits of reads one begins the other with a told read, or both are one
+-- of two splits of reads one begins the other with a read as it was shown, or both are one
 reads_meet : (J : List Record) (last : ℕ) (xs : List ReadTrace) (x : ReadTrace) (after : List ReadTrace) (ys : List ReadTrace) (y : ReadTrace) (behind : List ReadTrace) → xs ++ x ∷ after ≡ ys ++ y ∷ behind
     → AreRightReads J last xs → AreRightReads J last ys → (IsRightRead J (last_length last xs) x → ⊥) → (IsRightRead J (last_length last ys) y → ⊥) → length xs ≡ length ys
 reads_meet J last [] x after [] y behind e told told_too bad bad_too = refl

@@ -72,7 +72,7 @@ pub open_end : (here : Setting) (J : List Record) → IsLawful here J → IsOpen
 open_end here J l = lawful_from_end here IsOpen (λ x never e. never)
     (λ J r l allowed before x on e. open_more here J r l allowed.may before x (flat_cases own_by (statement.Update x) J r on) (e ∙ last_own-pushed J r)) J l
 
--- ---- a statement behind the own ones
+-- ---- a statement after the own ones
 
 -- an earlier step that the other names goes not back
 not_back : (t u : Update) → goes_back t u ≡ true → IsEarlierStep t u → ⊥
@@ -129,7 +129,7 @@ agrees here J (Held value) a b l may on never k e = never
 
 -- ---- all own statements
 
--- a record tells of one own statement at most
+-- a record reports one own statement at most
 pub same_own : (r : Record) (a b : Statement) → IsIn a (own_by r) → IsIn b (own_by r) → a ≡ b
 same_own (OwnPut w value) a b (inl p) (inl q) = sym p ∙ q
 same_own (OwnPut w value) a b (inl p) (inr never) = absurd never

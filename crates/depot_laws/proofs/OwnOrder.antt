@@ -1,4 +1,4 @@
--- A node's own statements have one seq each, and its last own update is behind all others.
+-- A node's own statements have one seq each, and its last own update is after all others.
 use Rattle.std.proofs.Common.{◌≡◌, ℕ, List, [], ◌∷◌, ◌++◌, refl, sym, subst, ◌∙◌, inl, inr, ◌⊎◌, arith}
 use Rattle.depot_base.specs.Statement.{seq_of}
 use Rattle.depot_base.specs.declared.update.Update.{Update}
@@ -74,7 +74,7 @@ last_is_one h (statement.Voucher v ∷ ss) w (inr there) = let r = last_is_one h
 pub last_put : (J : List Record) (w : Update) → IsIn w (puts_of J) → IsLastOwn J
 last_put J w on = let r = last_is_one zeros (own J) w (own_from_put w J on) in record { update = r.0; on = put_from_own r.0 J r.1.0; id = r.1.1 }
 
--- nothing is put behind the last own update
+-- nothing is put after the last own update
 none_behind : (here : Setting) (J : List Record) (x w : Update) → IsLawful here J → id_of_update x ≡ last_own J → Stands x w (puts_of J) → ⊥
 none_behind here J x w l last behind =
     let p = put_after x w J behind in

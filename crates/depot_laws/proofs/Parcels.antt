@@ -31,7 +31,7 @@ no_more : {X : Type 0} (xs : List X) → length xs ≤ 0 → xs ≡ []
 no_more [] short = refl
 no_more (x ∷ xs) short = absurd (omega (arith, short))
 
--- what is sent stands in front of what is left
+-- what is sent is before what is left
 pub record IsFront (all sent : List Parcel) : Type 0 where
   pub left : List Parcel
   pub is : all ≡ sent ++ left
@@ -50,7 +50,7 @@ sent_is_all me sign J h e =
     let none : f.left ≡ [] = no_more f.left (omega (arith, few, whole)) in
     sym (f.is ∙ ap (λ (xs : List Parcel). sent_for sign J h ++ xs) none ∙ append-nil (sent_for sign J h))
 
--- ---- the updates that are told
+-- ---- the updates that are reported
 
 told_by : (sign : Signs) (r : Record) → flat_map (λ (s : Signed). update_in s.statement) (signed_by sign r) ≡ accepted_by r
 unfolding signed_with
@@ -82,7 +82,7 @@ told_of_wanted J sent (h ∷ hs) =
 abbrev pub candidates_for : List Record → Hello → List Record
 candidates_for J h = candidates J (map (λ l. l.id) h.leaves) h.node
 
--- all that there is to tell is told of the candidates
+-- all that there is to say is said of the candidates
 pub told_of_parcels : (sign : Signs) (J : List Record) (h : Hello) → updates_of (parcels sign J h) ≡ accepted (candidates_for J h)
 unfolding parcels
 told_of_parcels sign J h =
@@ -135,7 +135,7 @@ none_told : {X : Type 0} (f : Record → List X) (vs : List Voucher) → ((v : V
 none_told f [] each = refl
 none_told f (v ∷ vs) each = ap (λ (xs : List _). xs ++ flat_map f (records_of vs)) (each v) ∙ none_told f vs each
 
--- a reading that vouchers tell nothing of
+-- a reading that vouchers show nothing of
 pub same_with : {X : Type 0} (f : Record → List X) (J : List Record) (vs : List Voucher) → ((v : Voucher) → f (OwnVoucher v) ≡ []) → flat_map f (with_vouchers J vs) ≡ flat_map f J
 same_with f J vs each = flat_map-append f J (records_of vs) ∙ ap (λ (xs : List _). flat_map f J ++ xs) (none_told f vs each) ∙ append-nil (flat_map f J)
 
@@ -145,7 +145,7 @@ vouchers_told : (vs : List Voucher) → flat_map own_voucher_by (records_of vs) 
 vouchers_told [] = refl
 vouchers_told (v ∷ vs) = ap (λ (ws : List Voucher). v ∷ ws) (vouchers_told vs)
 
--- the own vouchers with new ones behind
+-- the own vouchers with new ones after
 pub own_with : (J : List Record) (vs : List Voucher) → own_vouchers (with_vouchers J vs) ≡ own_vouchers J ++ vs
 own_with J vs = flat_map-append own_voucher_by J (records_of vs) ∙ ap (λ (ws : List Voucher). own_vouchers J ++ ws) (vouchers_told vs)
 

@@ -1,4 +1,4 @@
--- A statement that doesn't stand below is answered over the pruned journal as over the whole one, and the growth is the same.
+-- A statement that isn't below gets the same answer and growth over the pruned journal as over the whole one.
 use Rattle.std.proofs.Common.{◌≡◌, ℕ, eqb, Bool, true, false, not, cond, ◌||◌, ◌&&◌, List, [], ◌∷◌, ◌++◌, Option, Some, None, Result, Ok, Err, refl, sym, ap, subst, ◌∙◌, inl, inr, ◌⊎◌}
 use Rattle.std.specs.Prelude.{find, is_some, is_none, option_map}
 use Rattle.std.specs.List.{filter}
@@ -275,7 +275,7 @@ module _ (here : Setting) (J : List Record) (T : List Update) (lawful : IsLawful
       let new = second_fails (has_node here.listed (writer_of s.statement)) (is_kept J s.statement) (node_from_early here s early_is) (known_parts here J s known_is) in
       record { answer = answer_same here J T lawful trimmed_in s new free; growth = growth_same here J T lawful trimmed_in s new free }
 
-  -- a statement that doesn't stand below is answered alike
+  -- a statement that isn't below is answered alike
   pub statements_alike : (s : Signed) → below_of here J T s ≡ None → AnswersAlike here J (pruned T J) (given_statement s)
   unfolding below_of
   statements_alike s e = below_cases s (is_known here J (given_statement s)) (first (checks_to_signature here s)) refl refl e

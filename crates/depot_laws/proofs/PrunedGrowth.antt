@@ -1,4 +1,4 @@
--- What a journal grows by is none of what was given up, so it stands behind the pruned journal as it is.
+-- What a journal grows by is none of what was given up, so pruning leaves it as it is.
 use Rattle.std.proofs.Common.{◌≡◌, Bool, true, false, cond, List, [], ◌∷◌, ◌++◌, map, Option, Some, None, Result, Ok, Err, refl, sym, ap, ◌∙◌}
 use Rattle.std.proofs.lemmas.Bool.{both_ways, false_from_ne_true}
 use Rattle.depot_base.specs.Statement.{writer_of}
@@ -64,7 +64,7 @@ module _ (K : List Record) (T : List Update) where
   added_left (given_proof p) left = refl
   added_left (given_value v) left = refl
 
--- the growth stands as it is
+-- the growth is unchanged
 pub pruned_grows : (here : Setting) (J : List Record) (T : List Update) → ((t : Update) → IsIn t T → IsIn t (accepted J)) → (x : Given) → pruned T (J ++ growth here J x) ≡ pruned T J ++ growth here J x
 unfolding pruned growth
 pruned_grows here J T within x = map_both (pruned_by T) J (growth_by J x (answer_to here J x)) ∙ ap (λ (rs : List Record). map (pruned_by T) J ++ rs) (by_answer (answer_to here J x) refl) where

@@ -1,4 +1,4 @@
--- What a pruned journal tells: all that the whole one does, but for the signed statements that are given up.
+-- What a pruned journal says: all that the whole one does, but for the signed statements that are given up.
 use Rattle.std.proofs.Common.{◌≡◌, ℕ, Bool, true, false, not, cond, List, [], ◌∷◌, ◌++◌, map, refl, sym, ap, ◌∙◌}
 use Rattle.std.specs.List.{filter, flat_map, list_any}
 use Rattle.depot_base.specs.declared.update.Update.{Update}

@@ -59,7 +59,7 @@ unfolding numbers_rising
 numbers_rise [] = tt
 numbers_rise (n ∷ ns) = put_rises n (numbers_rising ns) (numbers_rise ns)
 
--- so none stands twice
+-- so none occurs twice
 pub rising_apart : (ns : List ℕ) → Rise ns → AreApart ns
 rising_apart [] rise = tt
 rising_apart (n ∷ ns) rise = (λ on. itself n (all_at (λ m. n < m) ns n rise.0 on), rising_apart ns rise.1) where
@@ -79,7 +79,7 @@ cut x [] never = absurd never
 cut x (y ∷ ys) (inl here) = record { front = []; behind = ys; parts = ap (λ (z : _). z ∷ ys) here }
 cut x (y ∷ ys) (inr there) = let c = cut x ys there in record { front = y ∷ c.front; behind = c.behind; parts = ap (λ (zs : List _). y ∷ zs) c.parts }
 
--- another one stays where one is taken out
+-- another one stays where one is removed
 stays : {X : Type 0} (x z : X) (front behind : List X) → IsIn z (front ++ x ∷ behind) → (x ≡ z → ⊥) → IsIn z (front ++ behind)
 stays x z front behind on other = elim (in_parts z front (x ∷ behind) on) [
   | inl before ↦ in_left z front behind before

@@ -1,4 +1,4 @@
--- The reader takes the candidates of a bundle, each with the values behind it.
+-- The reader takes the candidates of a bundle, each with the values after it.
 use Rattle.std.proofs.Common.{◌≡◌, ℕ, ◌==◌, List, [], ◌∷◌, ◌++◌, map, true, not, Some, refl, sym, ap, subst, ◌∙◌, inl, inr, ◌⊎◌, append_assoc}
 use Rattle.std.specs.List.{AllByRecursion, flat_map}
 use Rattle.std.proofs.lemmas.Bool.{both_ways, eq-eqb, and_parts}
@@ -46,7 +46,7 @@ use Rattle.depot_laws.proofs.Candidates.{signed_fits, IsSource, IsTold, told_of,
 
 -- ---- readings of more records
 
--- what a reading has it has behind frames
+-- what a reading has it has after frames
 pub read_behind : {X : Type 0} (f : Record → List X) (x : X) (here : Setting) (C : List Record) (fs : List Frame) → IsIn x (flat_map f C) → IsIn x (flat_map f (taking here C fs))
 read_behind f x here C fs on = kept_by_taking (λ (D : List Record). IsIn x (flat_map f D)) (flat_left f x) here C fs on
 
@@ -65,12 +65,12 @@ module _ (W : World) (a v : Correct) (K : List Record) (m : Meeting W a v K) whe
     steps = λ C x j t room. record { step = value_step W a v K m C x j t room; after = value_after W a v K m C x j t };
   }
 
--- The reader a made its hello when its journal was P. The sender v makes its bundle when its journal is J; K are these records with
--- the bundle's vouchers behind them. The sender's own statements among these frames are well signed.
+-- The reader a made its hello when its journal was P. The sender v makes its bundle when its journal is J; K are these
+-- records with the bundle's vouchers after them. The sender's own statements among these frames are well signed.
 module _ (W : World) (a v : Correct) (P later : List Record) (hello_was : a.journal ≡ P ++ later) (J vouchers : List Record) (sent : Meeting W a v J) (m : Meeting W a v (J ++ vouchers))
     (sign : Signs) (all : List Frame) (signs : (s : Statement) → IsIn s (own (J ++ vouchers)) → IsIn (statement_frame (signed_with sign s)) all → IsWellSigned W (signed_with sign s)) where
-  -- what the reader has when it comes to a candidate: all in front of it is accepted, each candidate of another is vouched, and
-  -- the values with these hashes are there
+  -- what the reader has when it comes to a candidate: all before it is accepted, each candidate of another is vouched,
+  -- and the values with these hashes are there
   pub record IsReady (C done : List Record) (hashes : List (List ℕ)) : Type 0 where
     pub joined : HasJoined W a v (J ++ vouchers) m C
     pub vouches : (u : Update) → IsIn u (accepted (candidates_for J (hello_at W a P))) → (u.writer ≡ v.node → ⊥) → IsIn (id_of_update u) (vouched C)
@@ -153,7 +153,7 @@ module _ (W : World) (a v : Correct) (P later : List Record) (hello_was : a.jour
         source = source_there C u t.told t.is t.source (ready.vouches u (flat_gives accepted_by u r (candidates_for J (hello_at W a P)) r_on given));
       }
 
-  -- ---- the values behind a candidate
+  -- ---- the values after a candidate
 
   -- the names of its values
   abbrev names_of : Record → List NamedValue
@@ -185,7 +185,7 @@ module _ (W : World) (a v : Correct) (P later : List Record) (hello_was : a.jour
 
   -- ---- the candidates in their order
 
-  -- the frames of a candidate in front of others
+  -- the frames of a candidate before others
   parcel_frames : (hashes : List (List ℕ)) (r : Record) (t : Signed) (rest : List Frame) → signed_by sign r ≡ t ∷ [] → frames_of (candidate_parcel sign J hashes r) ++ rest ≡ statement_frame t ∷ (map value_frame (values_behind J hashes (names_of r)) ++ rest)
   parcel_frames hashes r t rest tells = ap (λ (ts : List Signed). (map statement_frame ts ++ map value_frame (values_behind J hashes (names_of r))) ++ rest) tells
 
@@ -205,7 +205,7 @@ module _ (W : World) (a v : Correct) (P later : List Record) (hello_was : a.jour
       let later = candidates_are_plain (done ++ r ∷ []) (map sha256 xs ++ hashes) rs (split ∙ sym (append_assoc done (r ∷ []) rs)) (λ f on. framed f (in_right f (frames_of (candidate_parcel sign J hashes r)) rest on)) in
       subst (λ (fs : List Frame). AllByRecursion IsPlainFrame fs) (sym shape) (plain_statement t.told good.fits, all_both IsPlainFrame (map value_frame xs) rest values later)
 
-  -- what is so behind these frames, which are those of these candidates
+  -- what is so after these frames, which are those of these candidates
   pub record AreSent (C : List Record) (fs : List Frame) (rs : List Record) : Type 0 where
     pub carried : AreCarried W a v (J ++ vouchers) m C fs
     pub accepts : (u : Update) → IsIn u (accepted rs) → IsIn u (accepted (taking (setting_of W a) C fs))

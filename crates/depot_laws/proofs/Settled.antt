@@ -35,7 +35,7 @@ entry_with (x ∷ xs) n key e = elim (named_cases (eqb x.node n) x.key key (key_
   | inr there ↦ inr (entry_with xs n key there)
 ]
 
--- a node of the roster stands in it
+-- a node of the roster is in it
 pub in_roster : (listed : List RosterEntry) (n : ℕ) → has_node listed n ≡ true → IsIn n (map (λ e. e.node) listed)
 in_roster listed n e = let k = key_from_has_node listed n e in entry_with listed n k.0 k.1
 

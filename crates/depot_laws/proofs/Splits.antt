@@ -1,4 +1,4 @@
--- Journals by splits: where a record of a list stands, and lawful journals with one record more or less.
+-- Journals by splits: where a record of a list is, and lawful journals with one record more or less.
 use Rattle.std.proofs.Common.{◌≡◌, List, [], ◌∷◌, ◌++◌, refl, sym, ap, subst, ◌∙◌, append_assoc, inl, inr, ◌⊎◌}
 use Rattle.std.specs.List.{flat_map}
 use Rattle.std.proofs.lemmas.Grind.{flat_map-append}
@@ -14,7 +14,7 @@ use Rattle.depot_base.proofs.GeneralLaws.{flat_push}
 
 -- ---- what each gives
 
--- a reading that tells nothing of one more
+-- a reading that shows nothing of one more
 pub silent : {R X : Type 0} (f : R → List X) (rs : List R) (r : R) → f r ≡ [] → flat_map f (rs ++ r ∷ []) ≡ flat_map f rs
 silent f rs r none = flat_push f rs r ∙ ap (λ (xs : List _). flat_map f rs ++ xs) none ∙ append-nil (flat_map f rs)
 
@@ -22,7 +22,7 @@ silent f rs r none = flat_push f rs r ∙ ap (λ (xs : List _). flat_map f rs ++
 pub flat_cases : {R X : Type 0} (f : R → List X) (x : X) (rs : List R) (r : R) → IsIn x (flat_map f (rs ++ r ∷ [])) → IsIn x (flat_map f rs) ⊎ IsIn x (f r)
 flat_cases f x rs r on = in_parts x (flat_map f rs) (f r) (subst (λ (ys : List _). IsIn x ys) (flat_push f rs r) on)
 
--- what is given is given with more behind
+-- what is given is given with more after
 pub flat_left : {R X : Type 0} (f : R → List X) (x : X) (rs ss : List R) → IsIn x (flat_map f rs) → IsIn x (flat_map f (rs ++ ss))
 flat_left f x rs ss on = subst (λ (ys : List _). IsIn x ys) (sym (flat_map-append f rs ss)) (in_left x (flat_map f rs) (flat_map f ss) on)
 
@@ -32,7 +32,7 @@ flat_gives f x r [] never given = absurd never
 flat_gives f x r (s ∷ rs) (inl here) given = in_left x (f s) (flat_map f rs) (subst (λ (q : _). IsIn x (f q)) (sym here) given)
 flat_gives f x r (s ∷ rs) (inr there) given = in_right x (f s) (flat_map f rs) (flat_gives f x r rs there given)
 
--- which of them gives it, and where that one stands
+-- which of them gives it, and where that one is
 pub record IsGiven {R X : Type 0} (f : R → List X) (x : X) (rs : List R) : Type 0 where
   pub before : List R
   pub by : R
@@ -75,7 +75,7 @@ pub record IsInner {R : Type 0} (J before : List R) (r : R) : Type 0 where
   pub after : List R
   pub is : J ≡ before ++ r ∷ after
 
--- where one of a list with one more stands
+-- where one of a list with one more is
 pub place_of : {R : Type 0} (J before after : List R) (x r : R) → J ++ x ∷ [] ≡ before ++ r ∷ after → IsLast J before x r ⊎ IsInner J before r
 place_of [] [] after x r e = inl (record { front = refl; last = cc })
 place_of [] (b ∷ []) after x r e = absurd cc
@@ -100,7 +100,7 @@ none_splits (b ∷ before) r after e = cc
 pub lawful_none : (here : Setting) → IsLawful here []
 lawful_none here = record { each = λ before r after e. absurd (none_splits before r after e) }
 
--- a lawful journal with a record that is allowed behind it
+-- a lawful journal with a record that is allowed after it
 pub lawful_push : (here : Setting) (J : List Record) (x : Record) → IsLawful here J → IsAllowed here J x → IsLawful here (J ++ x ∷ [])
 lawful_push here J x l allowed = record {
   each = λ before r after e. elim (place_of J before after x r e) [
@@ -109,15 +109,15 @@ lawful_push here J x l allowed = record {
   ];
 }
 
--- what stands in front of a lawful journal's end is lawful
+-- what is before a lawful journal's end is lawful
 pub lawful_front : (here : Setting) (J more : List Record) → IsLawful here (J ++ more) → IsLawful here J
 lawful_front here J more l = record { each = λ before r after e. l.each before r (after ++ more) (ap (λ (x : List Record). x ++ more) e ∙ append_assoc before (r ∷ after) more) }
 
--- the last record is allowed behind the others
+-- the last record is allowed after the others
 pub lawful_last : (here : Setting) (J : List Record) (r : Record) → IsLawful here (J ++ r ∷ []) → IsAllowed here J r
 lawful_last here J r l = l.each J r [] refl
 
--- what stands before a record is lawful
+-- what comes before a record is lawful
 pub lawful_before : (here : Setting) (J before : List Record) (r : Record) (after : List Record) → IsLawful here J → J ≡ before ++ r ∷ after → IsLawful here before
 lawful_before here J before r after l e = lawful_front here before (r ∷ after) (subst (λ (x : List Record). IsLawful here x) e l)
 

@@ -1,4 +1,5 @@
--- What is below a checkpoint is closed under precedence, and what is trimmed of it is a latest write of none of its keys there.
+-- What is below a checkpoint is closed under precedence, and a trimmed update is a latest write of none of its keys
+-- there.
 use Rattle.std.proofs.Common.{◌≡◌, ℕ, ◌&&◌, ◌||◌, Bool, true, false, not, cond, List, [], ◌∷◌, ◌++◌, map, refl, sym, ap, subst, ◌∙◌, inl, inr}
 use Rattle.std.specs.List.{filter, list_any}
 use Rattle.std.specs.Str.{bytes_eq}

@@ -18,7 +18,7 @@ use Rattle.depot_base.proofs.GeneralLaws.{same_at}
 
 -- ---- one before another
 
--- x stands before y in a list
+-- x comes before y in a list
 abbrev pub Stands : {X : Type 0} → X → X → List X → Type 0
 Stands x y [] = ⊥
 Stands x y (z ∷ zs) = ((z ≡ x) × IsIn y zs) ⊎ Stands x y zs
@@ -34,7 +34,7 @@ around u [] never = absurd never
 around u (x ∷ us) (inl here) = record { front = []; behind = us; parts = ap (λ (y : Update). y ∷ us) here }
 around u (x ∷ us) (inr there) = let a = around u us there in record { front = x ∷ a.front; behind = a.behind; parts = ap (λ (ys : List Update). x ∷ ys) a.parts }
 
--- it stands in what is in front of the other
+-- it is in what is before the other
 pub stands_before : (t u : Update) (us : List Update) → Stands t u us → StandsBefore us t u
 stands_before t u [] never = absurd never
 stands_before t u (x ∷ us) (inl first) = let a = around u us first.1 in record { front = x ∷ a.front; behind = a.behind; parts = ap (λ (ys : List Update). x ∷ ys) a.parts; earlier = inl first.0 }
@@ -54,7 +54,7 @@ stands t u (x ∷ us) (y ∷ front) behind parts on =
       | inr there ↦ inr (stands t u us front behind rest there)
     ]
 
--- two of a list are one, or one stands before the other
+-- two of a list are one, or one comes before the other
 pub stand : {X : Type 0} (x y : X) (xs : List X) → IsIn x xs → IsIn y xs → (x ≡ y) ⊎ (Stands x y xs ⊎ Stands y x xs)
 stand x y [] never on = absurd never
 stand x y (z ∷ zs) (inl one) (inl two) = inl (sym one ∙ two)
@@ -67,7 +67,7 @@ stand x y (z ∷ zs) (inr one) (inr two) = elim (stand x y zs one two) [
 
 -- ---- own updates in their order
 
--- an own update is put before or behind so many records
+-- an own update is put before or after this many records
 put_parts : (u : Update) (n : ℕ) (J : List Record) → IsIn u (puts_of J) → IsIn u (puts_of (take n J)) ⊎ IsIn u (puts_of (drop n J))
 put_parts u n J on = in_parts u (puts_of (take n J)) (puts_of (drop n J)) (subst (λ (us : List Update). IsIn u us) (ap puts_of (sym (take-append-drop n J)) ∙ flat_map-append put_by (take n J) (drop n J)) on)
 

@@ -178,7 +178,7 @@ module _ (W : World) (world : IsWorld W) (authentic : IsAuthentic W) (free : Hav
   no_circle : (among : List Update) → ((x : Update) → IsIn x among → IsIn x (writes_of W)) → (t : Update) → Precedes among t t → ⊥
   no_circle among each t before = (strict W world free).never (write t) (path_is_observed W world among each t t before)
 
-  -- a path of one journal stands in each that has its end
+  -- a path of one journal is in each that has its end
   path_there : (here : Setting) (K : List Record) (among : List Update) → IsLawful here K → ((x : Update) → IsIn x (accepted K) → IsIn x (writes_of W)) → ((x : Update) → IsIn x among → IsIn x (writes_of W)) → (t w : Update) → Precedes among t w → IsIn w (accepted K) → IsIn t (accepted K) × Precedes (accepted K) t w
   path_there here K among lawful each known t w before w_on =
       let up = path_up W world free here K lawful each among known t w before w_on in
@@ -188,7 +188,7 @@ module _ (W : World) (world : IsWorld W) (authentic : IsAuthentic W) (free : Hav
     here_d : Setting
     here_d = setting_of W d
 
-    -- an own update that J lacks, put behind one that J has, names nothing that precedes that one
+    -- an own update that J lacks, put after one that J has, names nothing that precedes that one
     later_names_none : (t w u : Update) → Precedes (accepted J) t w → IsIn w (accepted J) → IsIn u (puts_of d.journal) → IsIn w (puts_of d.journal) → has_id (accepted J) (id_of_update u) ≡ false → IsIn (id_of_update t) (parents u) → ⊥
     later_names_none t w u under w_in u_on w_on absent named = elim (stand u w (puts_of d.journal) u_on w_on) [
       | inl same ↦ both_ways _ absent (has_id_from (accepted J) (id_of_update u) w w_in (ap id_of_update (sym same)))

@@ -1,4 +1,5 @@
--- What keeps the receipts of a journal true: each front of it, and each growth but an own put of a receipt that isn't due.
+-- The receipts of a journal stay true in each prefix of it, and with each growth except an own put of a receipt that
+-- isn't due.
 use Rattle.std.proofs.Common.{◌≡◌, ℕ, ◌==◌, ◌&&◌, Bool, true, false, not, cond, List, [], ◌∷◌, ◌++◌, length, take, drop, Option, Some, None, refl, sym, ap, subst, ◌∙◌, inl, inr, append_assoc, arith, eq-eqb, eqb-true, ◌⊎◌}
 use Rattle.std.specs.Prelude.{codes, find, option_map}
 use Rattle.std.specs.List.{list_all, AllByRecursion}
@@ -78,7 +79,7 @@ key_is key h e =
 
 -- ---- what is held stays so
 
--- what a journal held of an update it holds with more behind
+-- what a journal held of an update it holds with more after
 pub stays_held : (J more : List Record) (h : List ℕ) → HoldsAllOf J h → HoldsAllOf (J ++ more) h
 stays_held J more h a = record {
   update = a.update;
@@ -93,7 +94,7 @@ stays_held J more h a = record {
 pub no_receipts_yet : AreReceiptsTrue []
 no_receipts_yet = record { each = λ before r after u h e on long gives. absurd (none_splits before r after e) }
 
--- each front of a journal has true receipts
+-- each prefix of a journal has true receipts
 pub front_is_true : (J more : List Record) → AreReceiptsTrue (J ++ more) → AreReceiptsTrue J
 front_is_true J more a = record { each = λ before r after u h e on long gives. a.each before r (after ++ more) u h (ap (λ (x : List Record). x ++ more) e ∙ append_assoc before (r ∷ after) more) on long gives }
 

@@ -1,4 +1,4 @@
--- What the reader has behind all frames of a bundle that leaves nothing out.
+-- What the reader has after all frames of a bundle that leaves nothing out.
 use Rattle.std.proofs.Common.{◌≡◌, ℕ, ◌==◌, List, [], ◌++◌, map, true, not, Some, refl, sym, ap, subst, ◌∙◌, inl, inr}
 use Rattle.std.specs.List.{AllByRecursion, flat_map, list_any}
 use Rattle.std.proofs.lemmas.Grind.{flat_map-append}
@@ -34,8 +34,9 @@ use Rattle.depot_laws.proofs.Carrying.{taking, RoomFor, taking_append, room_fron
 use Rattle.depot_laws.proofs.Sending.{read_behind, value_sort, IsReady, candidates_are_plain, send_candidates}
 use Rattle.depot_laws.proofs.Rejoining.{values_of, wanted_frames, wanted_value_on, joined_first, IsRecorded, recorded, proof_sort, own_voucher_is, voucher_of, voucher_sort}
 
--- The reader a made its hello when its journal was P. The sender v makes its bundle when its journal is J; these records with the
--- bundle's vouchers behind them name each sent update of another. The sender's own statements among these frames are well signed.
+-- The reader a made its hello when its journal was P. The sender v makes its bundle when its journal is J; these
+-- records with the bundle's vouchers after them name each sent update of another. The sender's own statements among
+-- these frames are well signed.
 module _ (W : World) (a v : Correct) (P later : List Record) (hello_was : a.journal ≡ P ++ later) (J vouchers : List Record) (sent : Meeting W a v J) (m : Meeting W a v (J ++ vouchers))
     (sign : Signs) (all : List Frame) (signs : (s : Statement) → IsIn s (own (J ++ vouchers)) → IsIn (statement_frame (signed_with sign s)) all → IsWellSigned W (signed_with sign s))
     (vouches : (h : List ℕ) → IsIn h (sent_foreign v.node (parcels sign J (hello_at W a P))) → HasVoucher h (own_vouchers (J ++ vouchers))) where
@@ -54,7 +55,7 @@ module _ (W : World) (a v : Correct) (P later : List Record) (hello_was : a.jour
   candidate_frames : List Frame
   candidate_frames = flat_map frames_of (candidate_parcels sign J [] (candidates_for J (hello_at W a P)))
 
-  -- the frames in front of End
+  -- the frames before End
   pub frames : List Frame
   frames = map proof_frame proofs ++ (map (voucher_frame sign) named_vouchers ++ (candidate_frames ++ map value_frame wanted_values))
 
@@ -103,16 +104,16 @@ module _ (W : World) (a v : Correct) (P later : List Record) (hello_was : a.jour
         (candidates_are_plain W a v P later hello_was J vouchers sent m sign all signs [] [] (candidates_for J (hello_at W a P)) refl candidate_framed)
         (all_mapped value_frame wanted_values (λ x on. plain_value x (value_fits (setting_of W v) J x (sender_lawful W a v J sent) (wanted_on x on))))))
 
-    -- ---- behind them
+    -- ---- after them
 
-    -- what the reader has behind all frames
+    -- what the reader has after all frames
     pub record AreRejoined (C : List Record) : Type 0 where
       pub carried : AreCarried W a v (J ++ vouchers) m a.journal frames
       pub is : taking (setting_of W a) a.journal frames ≡ C
       pub reach : (u : Update) → IsIn u (accepted J) → IsIn u (accepted C)
       pub holds : (u : Update) (n : NamedValue) (x : List ℕ) → IsIn u (accepted (candidates_for J (hello_at W a P))) → IsIn n (values_named u) → held_as J n ≡ Some x → IsIn x (flat_map value_by C)
 
-    -- behind the vouchers each sent update of another is vouched
+    -- after the vouchers each sent update of another is vouched
     sent_is_vouched : (C : List Record) → ((w : Voucher) → IsIn w named_vouchers → (h : List ℕ) → IsIn h w.ids → IsIn h (vouched C)) → (u : Update) → IsIn u (accepted (candidates_for J (hello_at W a P))) → (u.writer ≡ v.node → ⊥) → IsIn (id_of_update u) (vouched C)
     unfolding named_vouchers
     sent_is_vouched C each u on other =

@@ -1,5 +1,5 @@
--- An audit may look at writes alone: observation among them is the closure of parents by all writes, a read observes what its records
--- accepted and what so precedes it, and the least operation that is observed before itself is a write.
+-- An audit may look at writes alone: observation among them is the closure of parents over all writes; a read observes
+-- what its records accepted and what precedes that; and the least operation that is observed before itself is a write.
 use Rattle.std.proofs.Common.{◌≡◌, ℕ, ◌+◌, ◌||◌, Bool, true, false, cond, List, [], ◌∷◌, ◌++◌, take, map, Option, Some, None, refl, sym, ap, subst, ◌∙◌, inl, inr, slice_get}
 use Rattle.std.specs.Prelude.{find, option_map}
 use Rattle.std.specs.List.{flat_map}

@@ -14,7 +14,8 @@ use Rattle.depot_model.specs.Audit.{observed, observed_by_read}
 abbrev pub ListsPuts : World → Read → Type 0
 ListsPuts W r = (s : Shown) (d : Correct) → IsIn s r.answer → IsIn d W.nodes → s.update.writer ≡ d.node → IsIn s.update (puts_of d.journal)
 
--- a write is observed before a read exactly where the read's records accepted it, or one to which a path of parents leads from it
+-- a write is observed before a read exactly where the read's records accepted it, or accepted one to which a path of
+-- parents leads from it
 abbrev pub ReadsLookAtWrites : World → Type 0
 ReadsLookAtWrites W = (u : Update) (c : Correct) (place : ℕ) (r : Read)
     → IsIn u (writes_of W) → IsIn c W.nodes → slice_get c.reads place ≡ Some r

@@ -6,12 +6,12 @@ use Rattle.depot_model.specs.Lists.{IsIn}
 use Rattle.depot_model.specs.Texts.{id_of_update}
 use Rattle.depot_model.specs.Chains.{HasPrev}
 
--- the prev of each, where it names one, stands before it
+-- the prev of each, where it names one, comes before it
 abbrev pub PrevsComeFirst : List Update → Type 0
 PrevsComeFirst us = (before : List Update) (u : Update) (after : List Update)
     → us ≡ before ++ u ∷ after → (u.prev ≡ zeros → ⊥) → HasPrev before u
 
--- none that stands before another has its id
+-- none that comes before another has its id
 abbrev pub StandApart : List Update → Type 0
 StandApart us = (before : List Update) (u : Update) (after : List Update)
     → us ≡ before ++ u ∷ after → (t : Update) → IsIn t before → id_of_update t ≡ id_of_update u → ⊥

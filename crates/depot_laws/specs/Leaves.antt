@@ -1,4 +1,4 @@
--- Which leaf an update takes the place of, and how many leaves of other writers there are then.
+-- Which leaf an update replaces, and how many leaves of other writers there are then.
 use Rattle.std.specs.Prelude.{◌≡◌, ℕ, ◌+◌, List, [], ◌∷◌, ◌++◌, length, Bool, not, ◌&&◌, if◌then◌else◌}
 use Rattle.std.specs.Str.{bytes_eq}
 use Rattle.depot_base.specs.Zeros.{zeros}
@@ -14,11 +14,11 @@ use Rattle.depot_model.specs.Own.{next_with, IsFresh}
 use Rattle.depot_model.specs.Room.{foreign_leaves}
 use Rattle.depot_laws.specs.Given.{IsNewUpdate}
 
--- the prev of the update is one of the leaves: with the update behind, it is none any more
+-- the prev of the update is one of the leaves: with the update added, it is none any more
 unfoldable pub follows_leaf : List Update → Update → Bool
 follows_leaf us u = not (bytes_eq u.prev zeros) && has_id (leaves_of us) u.prev
 
--- A new update of another makes one leaf of another writer more, but where its prev is a leaf it takes that leaf's place.
+-- A new update of another adds one leaf of another writer, unless its prev is a leaf, which it replaces.
 abbrev pub NewUpdatesAddLeaves : Setting → List Record → Type 0
 NewUpdatesAddLeaves here J = (s : Signed) (u : Update) → IsNewUpdate here J s u
     → length (foreign_leaves here.me (J ++ Foreign s ∷ [])) ≡ length (foreign_leaves here.me J) + (if follows_leaf (accepted J) u then 0 else 1)

@@ -1,4 +1,4 @@
--- What an update says of receipts, and what so many true receipts tell.
+-- What an update says of receipts, and what enough true receipts show.
 use Rattle.std.specs.Prelude.{◌≡◌, ◌≤◌, ℕ, List, length, filter, not, true, None}
 use Rattle.depot_base.specs.declared.update.Update.{Update}
 use Rattle.depot_base.specs.declared.record.Record.{Record}
@@ -27,7 +27,8 @@ HaveTrueReceipts W = (d : Correct) → IsIn d W.nodes → AreReceiptsTrue d.jour
 abbrev pub count_incorrect : World → ℕ
 count_incorrect W = length (filter (λ e. not (is_node W e.node)) W.listed)
 
--- Where a correct node has receipts of so many nodes, some correct node has accepted the update and holds all its values.
+-- Where a correct node has receipts of this many nodes, some correct node has accepted the update and holds all its
+-- values.
 abbrev pub ReceiptsSettle : World → ℕ → Type 0
 ReceiptsSettle W k = (c : Correct) (h : List ℕ) → IsIn c W.nodes → length h ≡ 32 → k ≤ length (receipts c.journal h)
     → (d : Correct) × (IsIn d W.nodes × HoldsAllOf d.journal h)

@@ -24,7 +24,7 @@ use Rattle.depot_model.specs.Feeding.{Feeding, report_of, out_of_room, feeding_f
 use Rattle.depot_model.specs.World.{World, Correct, setting_of}
 use Rattle.depot_laws.specs.Streams.{fed_pieces}
 
--- the updates that parcels tell of, in order
+-- the updates that parcels report, in order
 abbrev pub updates_of : List Parcel → List Update
 updates_of xs = flat_map (λ x. flat_map (λ s. update_in s.statement) x.told) xs
 
@@ -51,13 +51,13 @@ pub record Hears (W : World) (a v : Correct) (P J : List Record) : Type 0 where
   pub since : List Record
   pub had : v.journal ≡ J ++ since
 
--- the update with this id is one that the reader accepted, or one of those sent in front
+-- the update with this id is one that the reader accepted, or one of those sent earlier
 pub record HasOrGets (a : Correct) (front : List Update) (h : List ℕ) : Type 0 where
   pub parent : Update
   pub id : id_of_update parent ≡ h
   pub on : IsIn parent (accepted a.journal) ⊎ IsIn parent front
 
--- each parent of each of these updates is one that the reader accepted, or one of those in front of it
+-- each parent of each of these updates is one that the reader accepted, or one of those before it
 abbrev pub ComeInOrder : Correct → List Update → Type 0
 ComeInOrder a us = (front : List Update) (u : Update) (behind : List Update) → us ≡ front ++ u ∷ behind → (h : List ℕ) → IsIn h (parents u) → HasOrGets a front h
 
@@ -71,9 +71,9 @@ pub record IsWellSigned (W : World) (s : Signed) : Type 0 where
   pub short : length s.signature ≤ MOST_SIGNATURE
   pub verified : is_signed W.verifies W.listed s ≡ true
 
--- Two nodes of a world meet. The reader a made its hello when its journal was P, and its journal may have grown since. The sender
--- v made its bundle when its journal was J, the bundle's vouchers stand in its journal, and it may have grown since. The sender's
--- own statements in the bundle are well signed.
+-- Two nodes of a world meet. The reader a made its hello when its journal was P, and its journal may have grown since.
+-- The sender v made its bundle when its journal was J, the bundle's vouchers are in its journal, and it may have grown
+-- since. The sender's own statements in the bundle are well signed.
 pub record Meet (W : World) (a v : Correct) (sign : Signs) (P J : List Record) : Type 0 where
   pub reader : IsIn a W.nodes
   pub sender : IsIn v W.nodes

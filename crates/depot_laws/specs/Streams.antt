@@ -1,11 +1,11 @@
--- Feeds of whole frames, what a feed keeps, and what stands at a place of a stream.
+-- Feeds of whole frames, what a feed keeps, and what is at a place of a stream.
 use Rattle.std.specs.Prelude.{◌≡◌, ℕ, ◌<◌, List, [], ◌∷◌, ◌++◌, length, false, is_some, slice_index}
 use Rattle.depot_model.specs.Checks.{Setting}
 use Rattle.depot_model.specs.Frames.{Frame, text_of_frame, IsFrame}
 use Rattle.depot_model.specs.Feeding.{Feeding, fed, fed_frame, is_over}
 use Rattle.depot_model.specs.Lawful.{IsLawful, is_empty}
 
--- the pieces of a stream, one after the other
+-- the pieces of a stream, one after another
 abbrev pub fed_pieces : Setting → Feeding → List (List ℕ) → Feeding
 fed_pieces here s [] = s
 fed_pieces here s (p ∷ ps) = fed_pieces here (fed here s p) ps
@@ -24,13 +24,13 @@ StaysOpen here s (f ∷ fs) = (is_some s.closed ≡ false) × ((is_over s ≡ fa
 abbrev pub AreBytes : List ℕ → Type 0
 AreBytes bytes = (i : ℕ) → slice_index bytes i < 256
 
--- The journal is lawful and has begun, and what stands open are bytes.
+-- The journal is lawful and has begun, and what is open are bytes.
 pub record IsInOrder (here : Setting) (s : Feeding) : Type 0 where
   pub lawful : IsLawful here s.journal
   pub some : is_empty s.journal ≡ false
   pub bytes : AreBytes s.begun
 
--- the text of this frame stands in front of the bytes
+-- the text of this frame is before the bytes
 pub record BeginsWith (bytes : List ℕ) (f : Frame) : Type 0 where
   pub good : IsFrame f
   pub rest : List ℕ

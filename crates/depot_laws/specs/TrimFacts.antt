@@ -25,7 +25,8 @@ NoneNamesBelow W = (c d : Correct) (n : ℕ) (text : List ℕ) (ids : List (List
     → IsIn c W.nodes → IsIn d W.nodes → AllSigned W (take n c.journal) text ids
     → IsIn s (own d.journal) → is_kept (take n c.journal) s ≡ false → IsIn t (below (take n c.journal) ids) → names s t ≡ true → ⊥
 
--- So a reader that was trimmed then, and took whatever since, answers no own statement of a node that it stands below.
+-- So a reader that was trimmed then, whatever it has taken since, never answers that an own statement of a node is
+-- below.
 abbrev pub NoneStandsBelow : World → Type 0
 NoneStandsBelow W = (c d : Correct) (n : ℕ) (text : List ℕ) (ids : List (List ℕ)) (more : List Record) (s : Signed)
     → IsIn c W.nodes → IsIn d W.nodes → AllSigned W (take n c.journal) text ids
@@ -52,6 +53,6 @@ NamesOrIsKept J s t = (names s t ≡ true) ⊎ (is_kept J s ≡ true)
 abbrev pub AreAccepted : List Record → List Update → Type 0
 AreAccepted J ts = (t : Update) → IsIn t ts → IsIn t (accepted J)
 
--- a statement that doesn't stand below these updates is answered without their signed statements as it is with them
+-- a statement that isn't below gets the same answer without the signed statements of these updates as with them
 abbrev pub AboveAnswersAlike : Setting → List Record → List Update → Type 0
 AboveAnswersAlike here J ts = (s : Signed) → below_of here J ts s ≡ None → AnswersAlike here J (pruned ts J) (given_statement s)

@@ -1,4 +1,4 @@
--- What the laws of worlds speak of: own puts in front of others, correct nodes, and proofs that name them.
+-- What the laws of worlds speak of: own puts before others, correct nodes, and proofs that name them.
 use Rattle.std.specs.Prelude.{◌≡◌, ℕ, List, [], ◌∷◌, ◌++◌, None, take}
 use Rattle.depot_base.specs.Statement.{writer_of}
 use Rattle.depot_base.specs.declared.update.Update.{Update}

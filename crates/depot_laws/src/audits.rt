@@ -17,7 +17,7 @@ ghost use Rattle.depot_model.specs.Audit.{Finding, HasPath, writes_once, closed,
 ghost use Rattle.depot_laws.specs.ToReads.{IsUpToRead};
 ghost use Rattle.depot_laws.specs.AuditFacts.{ListsPuts, ReadsLookAtWrites, AreOfNodes};
 
-/// A closure by a list of stops finds a path exactly where one leads over these stops.
+/// A closure over a list of intermediate elements finds a path exactly where one leads through these.
 pub fn closures_find_paths()
     ensures { (edge : Operation → Operation → Bool) (among : List Operation) (a b : Operation) → (closed edge among a b ≡ true ↔ HasPath edge among a b) }
 {}
@@ -56,17 +56,17 @@ pub fn exact_reads_pass()
     ensures { (W : World) (c : Correct) (place : ℕ) (r : Read) → IsWorld W → IsIn c W.nodes → slice_get c.reads place ≡ Some r → (is_exact W c place r ≡ true ↔ IsExact W c place r) }
 {}
 
-/// So in a world an audit may look at writes alone: one is observed before another where the closure of parents by all writes
-/// finds a path, and before a read where the read's records accepted it, or one to which such a path leads. The least operation
-/// that is observed before itself is a write.
+/// So an audit may look at writes alone: a write is observed before another exactly where the closure of parents over
+/// all writes finds a path, and before a read exactly where the read's records accepted it, or accepted a write to
+/// which such a path leads. The least operation that is observed before itself is a write.
 pub fn audits_look_at_writes_alone()
     ensures writes { (W : World) (t u : Update) → IsWorld W → IsIn t (writes_of W) → IsIn u (writes_of W) → observed W (write t) (write u) ≡ observed_by_parents W t u }
     ensures reads { (W : World) → IsWorld W → ReadsLookAtWrites W }
     ensures circle { (W : World) → IsWorld W → circle W ≡ option_map (λ u. circle_found (op_of W (write u))) (find (λ u. observed_by_parents W u u) (writes_once W)) }
 {}
 
-/// The audit of a world without judged proofs says yes exactly where the world is fork-join-causal and no conviction names one
-/// of its nodes.
+/// The audit of a world without judged proofs says yes exactly where the world is fork-join causal and no conviction
+/// names one of its nodes.
 pub fn audits_say_yes()
     ensures { (W : World) → IsWorld W → W.judged ≡ [] → (finding_in W ≡ yes_found ↔ (IsForkJoinCausal W × ConvictsNoCorrectNode W)) }
 {}
@@ -76,7 +76,7 @@ pub fn causal_worlds_get_yes()
     ensures { (W : World) → IsWorld W → IsAuthentic W → IsCollisionFree W → finding_in W ≡ yes_found }
 {}
 
-/// What is wrong with a text behind the records of a lawful journal is one fault, and a text that may follow has none.
+/// A text that follows the records of a lawful journal has at most one fault, and none exactly where it may follow.
 pub fn texts_have_one_fault()
     ensures { (here : Setting) (J : List Record) (text : List ℕ) (f g : RecordFault) → IsFault here J text f → IsFault here J text g → f ≡ g }
 {}
@@ -87,9 +87,9 @@ pub fn traces_have_one_finding()
     ensures { (verifies : Verifies) (listed : List RosterEntry) (traces : List Trace) (f g : Finding) → IsFindingOf verifies listed traces f → IsFindingOf verifies listed traces g → f ≡ g }
 {}
 
-/// Let the traces be of distinct nodes of the roster, each with a record. Then they make a world where each node's records are lawful
-/// and its reads are what its journal showed, and their finding is yes exactly where this world is fork-join-causal and no conviction
-/// in it names one of its nodes.
+/// Let the traces be of distinct nodes of the roster, each with a record. Then they make a world where each node's
+/// records are lawful and its reads are what its journal showed, and their finding is yes exactly where this world is
+/// fork-join causal and no conviction in it names one of its nodes.
 pub fn traces_get_yes()
     ensures world { (verifies : Verifies) (listed : List RosterEntry) (ts : List Trace) (W : World) → AreOfNodes listed ts → AreTraced verifies listed ts W → IsWorld W }
     ensures yes { (verifies : Verifies) (listed : List RosterEntry) (ts : List Trace) → AreOfNodes listed ts → (IsFindingOf verifies listed ts yes_found ↔ IsCausalWorldOf verifies listed ts) }

@@ -1,13 +1,16 @@
 //! Laws of the journals that a correct node may have, and of worlds of correct nodes.
 //!
-//! `growth_laws` says how a lawful journal grows: by a birth, by the next own update, and by what a node is given, so a node that
-//! appends what the definitions say keeps its journal lawful. `journals` says what holds of every lawful journal: its own
-//! statements agree with each other, whoever contradicts himself in it is convicted, and nobody else's updates fork.
-//! `causality` says what holds of all correct nodes together: an update has one past everywhere, and what they observe is
-//! fork-join-causal. `gossip` says what they tell one another: hellos and bundles have texts, and histories rejoin. `verdicts`
-//! says when a conviction is allowed, and that a fork or a step back leaves one.
-//! `receipts`, `trimming` and `audits` say when a receipt is true and a put settled, what a reader may give up below a checkpoint,
-//! and when an audit of worlds and traces finds nothing.
+//! - `growth_laws`: how a lawful journal grows, by a birth, by the next own update, and by what a node is given. So a
+//!   node that appends what the definitions say keeps its journal lawful.
+//! - `journals`: what holds of every lawful journal. Its own statements agree with each other, whoever contradicts
+//!   himself in it is convicted, and nobody else's updates fork.
+//! - `causality`: what holds of all correct nodes together. An update has one past everywhere, and what the nodes
+//!   observe is fork-join causal, as the article defines it.
+//! - `gossip`: what nodes send one another. Hellos and bundles have texts, and histories rejoin.
+//! - `verdicts`: when a conviction is allowed, and that a fork or a step back leaves one.
+//! - `receipts`: when a receipt is true and a put settled.
+//! - `trimming`: what a reader may give up below a checkpoint.
+//! - `audits`: when an audit of worlds and traces finds nothing.
 //!
 //! A law is a public function with an empty body, whose contract is the law. This crate computes nothing.
 #![tactic(auto)]

@@ -14,14 +14,14 @@ ghost use Rattle.depot_model.specs.World.{World, IsWorld, IsAuthentic};
 ghost use Rattle.depot_model.specs.Receipts.{receipt_key, receipt_of, gives_receipt, HoldsAllOf, AreReceiptsTrue, no_receipt};
 ghost use Rattle.depot_laws.specs.ReceiptFacts.{GivesTrueReceipts, WritesNoReceipt, WritesReceipts, HaveTrueReceipts, count_incorrect, ReceiptsSettle};
 
-/// A key is that of a receipt for an id exactly where it is the 8 bytes and then the id, of 32 bytes.
+/// A key is a receipt's for an id exactly where it is the 8 bytes `receipt:` followed by the id's 32 bytes.
 pub fn receipt_keys()
     ensures { (key h : List ℕ) → (receipt_of key ≡ Some h ↔ ((key ≡ receipt_key h) × (length h ≡ 32))) }
 {}
 
-/// The receipts of a journal stay true in each front of it, so in what a stop leaves of it, and with whatever a node is given
-/// or vouches for behind it. With an own put behind it they stay true where each receipt that it gives is for what is held: so
-/// where it writes no key of a receipt, and where it writes only those for ids against which nothing speaks.
+/// The receipts of a journal stay true in each prefix of it, so in each crash image, and with whatever the node is
+/// later given or vouches for. With a further own put they stay true where each receipt that it gives is for what is
+/// held: so where it writes no key of a receipt, and where it writes only those for ids against which nothing speaks.
 pub fn receipts_stay_true()
     ensures none { AreReceiptsTrue [] }
     ensures front { (J more : List Record) → AreReceiptsTrue (J ++ more) → AreReceiptsTrue J }
@@ -34,8 +34,8 @@ pub fn receipts_stay_true()
     ensures due { (J : List Record) (ids : List (List ℕ)) (h : List ℕ) → no_receipt J ids ≡ None → IsIn h ids → HoldsAllOf J h }
 {}
 
-/// What a receipt speaks of stands in every later journal: the update is accepted, and all its values are held. What a journal
-/// holds under a name it holds from then on, and it stays the same value.
+/// What a receipt speaks of holds in every later journal: the update is accepted, and all its values are held. Once a
+/// journal holds a value under a name, it holds the same value under it ever after.
 pub fn receipts_speak_of_held_values()
     ensures speaks { (J : List Record) (u : Update) (h : List ℕ) → AreReceiptsTrue J → IsIn u (puts_of J) → length h ≡ 32 → gives_receipt h u ≡ true → HoldsAllOf J h }
     ensures stays { (J more : List Record) (h : List ℕ) → HoldsAllOf J h → HoldsAllOf (J ++ more) h }

@@ -16,10 +16,11 @@ ghost use Rattle.depot_model.specs.Pruning.{pruned, AnswersAlike};
 ghost use Rattle.depot_model.specs.Trimming.{trimmed};
 ghost use Rattle.depot_laws.specs.TrimFacts.{NoneNamesBelow, NoneStandsBelow, IsClosedBelow, IsSuperseded, IsLatestIn, NamesOrIsKept, AreAccepted, AboveAnswersAlike};
 
-/// Let every node of the roster have signed a checkpoint in what a correct node's journal was. Then no own statement of a
-/// correct node that this journal lacked names an update below: each node's signing update has all listed ids in its past, so
-/// its later updates name none of them. So a reader that was made then, and took whatever since, answers no own statement of a
-/// correct node that it stands below. No correct node's signature was forged, and no two hashed texts collide.
+/// Let every node of the roster have signed a checkpoint of what a correct node's journal then was. Then no own
+/// statement of a correct node that this journal lacked names an update below: each node's signing update has all
+/// listed ids in its past, so its later updates name none of them. So a reader that was made then, whatever it has
+/// taken since, never answers that an own statement of a correct node is below. This assumes that no correct node's
+/// signature was forged, and that no two hashed texts collide.
 pub fn trim_law()
     ensures names { (W : World) → IsWorld W → IsAuthentic W → IsCollisionFree W → NoneNamesBelow W }
     ensures below { (W : World) → IsWorld W → IsAuthentic W → IsCollisionFree W → NoneStandsBelow W }
@@ -32,8 +33,8 @@ pub fn superseded_updates_are_trimmed()
     ensures trimmed { (here : Setting) (J : List Record) (ids : List (List ℕ)) (u : Update) → IsLawful here J → (IsIn u (trimmed J ids) ↔ IsSuperseded J ids u) }
 {}
 
-/// A trimmed update is a latest write of no key in any lawful journal that goes on from the trimmed one. So each read of it lists
-/// kept updates alone, as the whole journal's reads do.
+/// A trimmed update is a latest write of no key in any lawful journal that extends the trimmed one. So each read of
+/// such a journal lists kept updates alone, as the whole journal's reads do.
 pub fn trimmed_updates_are_never_latest()
     ensures { (here : Setting) (J more : List Record) (ids : List (List ℕ)) (u : Update) (key : List ℕ) → IsLawful here (J ++ more) → IsIn u (trimmed J ids) → IsLatestIn key (accepted (J ++ more)) u → ⊥ }
 {}
@@ -43,8 +44,8 @@ pub fn contrary_statements_name()
     ensures { (here : Setting) (J : List Record) (k : Kind) (t : Update) (s : Statement) → IsLawful here J → IsIn t (accepted J) → contradicts k (statement.Update t) s ≡ true → NamesOrIsKept J s t }
 {}
 
-/// A reader may give up the signed statements of trimmed updates. A statement that doesn't stand below, and each proof, is then
-/// answered as before, with the same growth; and what the journal grows by is left as it is.
+/// A reader may give up the signed statements of trimmed updates. Each proof, and each statement that isn't below, gets
+/// the same answer and the same growth as without this, and the growth isn't changed by it.
 pub fn pruned_journals_answer_alike()
     ensures statements { (here : Setting) (J : List Record) (ts : List Update) → IsLawful here J → AreAccepted J ts → AboveAnswersAlike here J ts }
     ensures proofs { (here : Setting) (J : List Record) (ts : List Update) (p : Proof) → AnswersAlike here J (pruned ts J) (given_proof p) }

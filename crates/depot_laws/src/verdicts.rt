@@ -13,9 +13,9 @@ ghost use Rattle.depot_model.specs.Contradictions.{IsHollow, is_hollow};
 ghost use Rattle.depot_laws.specs.Streams.{AreBytes};
 ghost use Rattle.depot_laws.specs.Verdicts.{IsVerdict, RefusalConvicts};
 
-/// A conviction record is allowed behind a journal exactly where its proof has a text and a judge's verdict, the accused is
-/// another node that nobody convicted before, and there is room for it. So each conviction of a lawful journal is a verdict,
-/// and no node stands in two.
+/// A conviction record may follow a journal exactly where its proof has a text and a judge's verdict, the accused is
+/// another node that nobody convicted before, and there is room for it. So each conviction of a lawful journal is a
+/// verdict, and no node is in two.
 pub fn convictions_are_verdicts()
     ensures { (here : Setting) (J : List Record) (p : Proof) → is_empty J ≡ false → (IsAllowed here J (Conviction p) ↔ IsVerdict here J p) }
 {}

@@ -1,8 +1,8 @@
-//! A node as the program beside it has it.
+//! A node as the program beside it uses it.
 //!
-//! Others see of a node what it tells and takes (`Replica`, `Peer`). Who runs it also puts, reads, and looks at the graph of what it
-//! accepted: a `LocalNode` is that, as a contract alone. So what gives receipts, signs checkpoints, makes readers and prints what a node
-//! answers stands beside the node, and not on it.
+//! Others see of a node what it sends and takes (`Replica`, `Peer`). The program that runs it also puts, reads, and
+//! looks at the graph of what it accepted: a `LocalNode` is that, as a contract alone. So the code that gives receipts,
+//! signs checkpoints, makes readers and prints answers depends on this contract, and not on the node.
 //!
 //! The node itself is in `depot_node`; nothing is decided or kept here.
 #![tactic(auto)]

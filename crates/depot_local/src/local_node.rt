@@ -17,18 +17,18 @@ use depot_graph::Graph;
 use depot_model::{Past, Peer, PutDone, PutError};
 use depot_readings::JournalCounts;
 
-/// A node beside its program: it puts, and what it accepted and holds can be read while it runs.
+/// A node as its program uses it: it puts, and what it accepted and holds can be read while it runs.
 pub trait LocalNode: Peer {
-    /// Puts a value under a key, as [`put_all`](LocalNode::put_all) puts this one change.
+    /// Puts a value under a key: the same as [`put_all`](LocalNode::put_all) with this one change.
     fn put(&mut self, key: Key, value: Value) -> Result<PutDone, PutError>
         ensures puts { Puts (Self.stands self.old) (Self.records self.old) (one_change key value) result (Self.records self.new) }
         ensures call { IsPutCall Self.NodeState self.old self.new (one_change key value) result };
 
-    /// Gives keys a value or deletes them, 1 to 16 of them at once, rising strictly: the journal grows by the next own update,
-    /// whose id, seq and clock are told. `Stopped` comes exactly where the disk failed in an earlier call. `Spent`, `Tips`,
-    /// `Collides` and `Full` come exactly where the definition says, in this order, and then, as after Memory, the journal is as
-    /// before. After `Disk` the node is stopped. A stop at any moment leaves the records from before, or these and the new one; where
-    /// another error is answered, those from before.
+    /// Gives keys a value or deletes them, 1 to 16 of them at once, rising strictly. The journal grows by the next own
+    /// update; the call returns its id, seq and clock. `Stopped` comes exactly where the disk failed in an earlier
+    /// call. `Spent`, `Tips`, `Collides` and `Full` come exactly where the definition says, in this order; on these and
+    /// on `Memory` the journal is unchanged. On `Disk` the node is stopped. Every crash image of the call has the
+    /// records from before, or these and the new one; where an error other than `Disk` is returned, those from before.
     fn put_all(&mut self, changes: Changes) -> Result<PutDone, PutError>
         requires few { (1 ≤ length changes) × (length changes ≤ MOST_WRITES) }
         requires rising { AllPairsByRecursion (λ c d. is_below c.key d.key ≡ true) changes }
@@ -40,13 +40,13 @@ pub trait LocalNode: Peer {
         requires { Self.stopped self.now ≡ false }
         ensures { ⟦<Graph as Past>⟧.updates result.now ≡ accepted (Self.records self.now) };
 
-    /// The held value of this hash and of so many bytes. None exactly where it isn't held. It takes no memory.
+    /// The held value of this hash and this length. None exactly where it isn't held. It takes no memory.
     fn held_as(&self, name: &NamedValue) -> Option<&[u8]>
         requires { Self.stopped self.now ≡ false }
         ensures { option_copied result ≡ held_as (Self.records self.now) name.now };
 
-    /// The held value that an item's update writes under a key: that of the hash and the length that its write of this key names.
-    /// None exactly where this write is a deletion or its value isn't held. It takes no memory.
+    /// The held value that an item's update writes under a key, found by the hash and the length that its write of this
+    /// key names. None exactly where this write is a deletion or its value isn't held. It takes no memory.
     fn value_of(&self, item: u32, key: &Key) -> Option<&[u8]>
         requires runs { Self.stopped self.now ≡ false }
         requires item { item < length (accepted (Self.records self.now)) }

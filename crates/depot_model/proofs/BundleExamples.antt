@@ -45,9 +45,9 @@ values_alone = born 1 ++ Held (98 ∷ []) ∷ Held (97 ∷ []) ∷ []
 record WantedValues : Type 0 where
   -- a wanted value that goes with its update isn't sent again
   pub once : in_parcels (parcels (sign 1) met_at_one (asks 3 (sha256 (98 ∷ []) ∷ []))) ≡ (1, (97 ∷ []) ∷ []) ∷ (1, (98 ∷ []) ∷ []) ∷ []
-  -- where its update isn't sent it stands behind the candidates
+  -- where its update isn't sent it follows the candidates
   pub behind : in_parcels (parcels (sign 1) met_at_one (asks 2 (sha256 (98 ∷ []) ∷ []))) ≡ (1, (97 ∷ []) ∷ []) ∷ (0, (98 ∷ []) ∷ []) ∷ []
-  -- several stand in the hello's order
+  -- several are in the hello's order
   pub in_order : in_parcels (parcels (sign 1) values_alone (asks 3 (sha256 (98 ∷ []) ∷ sha256 (97 ∷ []) ∷ []))) ≡ (0, (98 ∷ []) ∷ []) ∷ (0, (97 ∷ []) ∷ []) ∷ []
   pub in_the_other : in_parcels (parcels (sign 1) values_alone (asks 3 (sha256 (97 ∷ []) ∷ sha256 (98 ∷ []) ∷ []))) ≡ (0, (97 ∷ []) ∷ []) ∷ (0, (98 ∷ []) ∷ []) ∷ []
 
@@ -86,7 +86,7 @@ frames_in_order = record { all = refl; not_all = refl; nothing_left = refl; more
 -- ---- the ids that need a voucher
 
 record IdsInOrder : Type 0 where
-  -- of_one has the greater id; they stand as they were sent
+  -- of_one has the greater id; they are in the order in which they were sent
   pub falling : unvouched 3 (born 3) (record { told = of_one_signed ∷ of_two_signed ∷ []; values = [] } ∷ []) ≡ id_of_update of_one ∷ id_of_update of_two ∷ []
   pub rising : unvouched 3 (born 3) (record { told = of_two_signed ∷ of_one_signed ∷ []; values = [] } ∷ []) ≡ id_of_update of_two ∷ id_of_update of_one ∷ []
   pub sent : sent_foreign 3 (record { told = of_one_signed ∷ of_two_signed ∷ []; values = [] } ∷ []) ≡ id_of_update of_one ∷ id_of_update of_two ∷ []

@@ -12,7 +12,7 @@ use Rattle.depot_model.specs.Stops.{calls_to_record}
 
 -- ---- the calls that append records
 
--- records that are appended behind others
+-- records that are appended after others
 pub calls_behind : (J a b : List Record) → calls_to_record J (a ++ b) ≡ calls_to_record J a ++ calls_to_record (J ++ a) b
 calls_behind J a b =
     let gate : ℕ = length (blocks (map text_of_record J)) in

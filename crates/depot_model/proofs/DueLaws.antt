@@ -1,4 +1,4 @@
--- When a fork is told, and when a conviction is due.
+-- When a fork is reported, and when a conviction is due.
 use Rattle.std.proofs.Common.{◌≡◌, Bool, true, false, cond, ◌||◌, List, [], Some, None, refl, ap}
 use Rattle.std.specs.Prelude.{Option}
 use Rattle.depot_base.specs.Statement.{writer_of}

@@ -10,7 +10,7 @@ use Rattle.depot_model.specs.Lists.{IsIn}
 use Rattle.depot_model.specs.Items.{at, updates_at}
 use Rattle.depot_base.proofs.MembershipLaws.{in_left, in_right, in_parts}
 
--- what stands at a place is one of the list
+-- what is at a place is one of the list
 pub in_at : {X : Type 0} (xs : List X) (n : ℕ) (x : X) → slice_get xs n ≡ Some x → IsIn x xs
 in_at [] n x at = absurd cc
 in_at (y ∷ ys) zero x at = let same : y ≡ x = cc in inl same
@@ -22,26 +22,26 @@ each_at P [] n x all at = absurd cc
 each_at P (y ∷ ys) zero x all at = let same : y ≡ x = cc in subst P same all.0
 each_at P (y ∷ ys) (suc n) x all at = each_at P ys n x all.1 at
 
--- what stands in front stays where more stands behind
+-- what comes first stays where more follows
 pub get_front : {X : Type 0} (xs ys : List X) (n : ℕ) → n < length xs → slice_get (xs ++ ys) n ≡ slice_get xs n
 get_front [] ys n lt = absurd (omega arith)
 get_front (x ∷ xs) ys zero lt = refl
 get_front (x ∷ xs) ys (suc n) lt = get_front xs ys n (omega arith)
 
--- what stands at a place of a mapped list
+-- what is at a place of a mapped list
 pub mapped_at : {X Y : Type 0} (f : X → Y) (xs : List X) (n : ℕ) (x : X) (d : Y) → slice_get xs n ≡ Some x → get_or (map f xs) n d ≡ f x
 mapped_at f [] n x d at = absurd cc
 mapped_at f (y ∷ ys) zero x d at = let same : y ≡ x = cc in ap f same
 mapped_at f (y ∷ ys) (suc n) x d at = mapped_at f ys n x d at
 
--- the part from a place on begins with what stands there
+-- the part from a place on begins with what is there
 pub from_place : {X : Type 0} (xs : List X) (n : ℕ) (x : X) → slice_get xs n ≡ Some x → drop n xs ≡ x ∷ drop (n + 1) xs
 from_place {X = X} xs n x at =
     let lt = slice_get_within xs n x at in
     let same = get_or_from_slice_get xs n x x at in
     rw add-one (drop-cons xs n x lt ∙ ap (λ (y : X). y ∷ drop (suc n) xs) same)
 
--- two updates stand at these places, and this holds of them
+-- two updates are at these places, and this holds of them
 pub record BothAt (us : List Update) (a b : ℕ) (P : Update → Update → Type 0) : Type 0 where
   pub first : Update
   pub at_first : slice_get us a ≡ Some first
@@ -71,9 +71,9 @@ pub in_option : {X : Type 0} (o : Option X) (x : X) → o ≡ Some x → IsIn x 
 in_option None x e = absurd cc
 in_option (Some y) x e = let same : y ≡ x = cc in inl same
 
--- ---- what stands at some places
+-- ---- what is at some places
 
--- what stands at these places stands at one of them
+-- what is at these places is at one of them
 pub of_place : (us : List Update) (places : List ℕ) (t : Update) → IsIn t (updates_at us places) → (n : ℕ) × (IsIn n places × (slice_get us n ≡ Some t))
 of_place us [] t never = absurd never
 of_place us (n ∷ ns) t on = elim (in_parts t (option_to_list (slice_get us n)) (updates_at us ns) on) [

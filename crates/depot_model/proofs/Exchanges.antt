@@ -291,7 +291,7 @@ record AForkRejoins : Type 0 where
   pub tells : (hello_of (here 1) rejoined.journal).convicted ≡ 9 ∷ []
   pub leaves : length (hello_of (here 1) rejoined.journal).leaves ≡ 2
   pub records : length rejoined.journal ≡ 7
-  -- the proof goes to one who does not know of the conviction, in front of all else
+  -- the proof goes to one who does not know of the conviction, before all else
   pub proof_is_sent : told (bundle 1 rejoined.journal 3 (born 3)) ≡ Some (sums 1 1 2 2, false)
   -- and there it convicts before the branches come, which the voucher lets in
   pub third : report_of (give 3 (born 3) (bytes_in (bundle 1 rejoined.journal 3 (born 3)))) ≡ taken 6 0 ending.Whole
@@ -384,7 +384,7 @@ record AValueIsWanted : Type 0 where
   pub not_held : told (bundle 3 (born 3 ++ Foreign of_two_signed ∷ []) 1 without_value) ≡ Some (sums 0 0 0 0, false)
   -- a hash that an update names with a wrong length stays wanted, though a value of it is held
   pub wrong_length : lacking (OwnPut misnamed ((98 ∷ []) ∷ []) ∷ []) ≡ sha256 (98 ∷ []) ∷ []
-  -- hashes that several name stand once
+  -- hashes that several name occur once
   pub set : lacking (Foreign of_two_signed ∷ Foreign of_two_signed ∷ []) ≡ sha256 (98 ∷ []) ∷ []
 
 a_value_is_wanted : AValueIsWanted
@@ -458,7 +458,7 @@ record SeveralKeys : Type 0 where
   -- the latest write of each key, as the reader shows it
   pub deleted : map (seen_under after_both.journal (107 ∷ [])) (drop 1 (accepted after_both.journal)) ≡ gone ∷ []
   pub kept : map (seen_under after_both.journal (108 ∷ [])) (take 1 (accepted after_both.journal)) ≡ held_value (98 ∷ []) ∷ []
-  -- what the reader then puts stands above both
+  -- what the reader then puts is above both
   pub then_seq : (next_own 2 after_both.journal (one_change (107 ∷ []) (99 ∷ []))).seq ≡ 0
   pub then_clock : (next_own 2 after_both.journal (one_change (107 ∷ []) (99 ∷ []))).clock ≡ 3
   -- a value that two writes name goes once

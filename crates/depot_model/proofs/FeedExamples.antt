@@ -51,7 +51,7 @@ no_tag_report : report (9 ∷ []) ≡ record { accepted = 0; known = 0; refused 
 unfolding frame_at fed fed_byte fed_frame take_frame given_by given_as report_of ending_of signed proof
 no_tag_report = refl
 
--- a frame whose payload is no signed statement is refused, and the stream goes on
+-- a frame whose payload is no signed statement is refused, and the stream continues
 ill_statement : report (2 ∷ 0 ∷ 0 ∷ 0 ∷ 1 ∷ 0 ∷ []) ≡ record { accepted = 0; known = 0; refused = record { frame = 0; check = check.IllFormed 0 } ∷ []; ending = ending.Bare }
 unfolding frame_at fed fed_byte fed_frame take_frame given_by given_as report_of ending_of signed proof number answer_to
 ill_statement = refl
@@ -66,7 +66,7 @@ ended_early : report (4 ∷ 0 ∷ 0 ∷ 0 ∷ 1 ∷ 1 ∷ []) ≡ record { accep
 unfolding frame_at fed fed_byte fed_frame take_frame given_by given_as report_of ending_of signed proof
 ended_early = refl
 
--- a byte behind End, whatever it is
+-- a byte after End, whatever it is
 behind_end : (feed_of here born (4 ∷ 0 ∷ 0 ∷ 0 ∷ 1 ∷ 0 ∷ 4 ∷ [])).closed ≡ Some (ill_formed 6)
 unfolding frame_at fed fed_byte fed_frame take_frame given_by given_as report_of ending_of signed proof
 behind_end = refl
@@ -112,7 +112,7 @@ room_is_used : (J : List Record) → full_by 1 J (Held (97 ∷ []) ∷ []) ≡ N
 unfolding fed_frame take_frame given_by given_as rest_of
 room_is_used J room is_new grows = rw (grows, room, is_new) refl
 
--- it tells that it closed
+-- it reports that it closed
 closed_is_told : (J : List Record) → (report_of (record (feeding J) { closed = Some (out_of_room (record { what = full_of.Bytes; number = 7 })) })).ending ≡ ending.Closed
 unfolding report_of ending_of
 closed_is_told J = refl

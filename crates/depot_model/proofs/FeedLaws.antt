@@ -9,7 +9,7 @@ use Rattle.depot_model.specs.Taking.{Outcome, no_room, answered}
 use Rattle.depot_model.specs.Feeding.{take_frame, Feeding, after_outcome, passed, says_more, fed, fed_byte, fed_at, fed_frame, is_over}
 use Rattle.depot_model.proofs.FrameLaws.{frame_is_whole, begun_is_open}
 
--- two pieces are fed one after the other
+-- two pieces are fed one after another
 pub fed_in_pieces : (here : Setting) (s : Feeding) (a b : List ℕ) → fed here s (a ++ b) ≡ fed here (fed here s a) b
 unfolding fed
 fed_in_pieces here s [] b = refl
@@ -17,7 +17,7 @@ fed_in_pieces here s (x ∷ a) b = fed_in_pieces here (fed_byte here s x) a b
 
 -- ---- a frame, byte by byte
 
--- what becomes of a frame doesn't hang on the bytes that stand open
+-- what becomes of a frame doesn't hang on the bytes that are open
 outcome_alike : (n : ℕ) (s : Feeding) (p : List ℕ) (o : Outcome) → after_outcome n (record s { begun = p }) o ≡ after_outcome n s o
 outcome_alike n s p (no_room what) = refl
 outcome_alike n s p (answered (Ok New) new) = refl

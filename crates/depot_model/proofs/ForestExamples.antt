@@ -62,7 +62,7 @@ abbrev front : List ℕ → ℕ
 front [] = 0
 front (b ∷ bytes) = b
 
--- the writer is convicted, and its second update was taken in front of its first
+-- the writer is convicted, and its second update was taken before its first
 abbrev child_first : List Record
 child_first = Conviction against_nine ∷ took nine_more ∷ took nine ∷ []
 

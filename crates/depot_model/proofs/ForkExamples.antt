@@ -1,4 +1,4 @@
--- Worked examples of forks and convictions: which statements are refused for what is kept, with what is told.
+-- Worked examples of forks and convictions: which statements are refused for what is kept, with what is reported.
 use Rattle.std.proofs.Common.{◌≡◌, List, [], ◌∷◌, ◌++◌, Option, Some, None, refl}
 use Rattle.sha2.specs.Sha256.{sha256, first_words, schedule, rounds, compress, hash_after, digest_bytes}
 use Rattle.depot_base.specs.Cursor.{numeral}
@@ -75,7 +75,7 @@ record VouchedAndConvicted : Type 0 where
   pub vouched : says (from_nine ++ took_voucher (vouch 3 0 (id_of_update nine_other ∷ [])) ∷ []) nine_other ≡ None
   -- it vouched for another
   pub other_vouched : says (from_nine ++ took_voucher (vouch 3 0 (nine_id ∷ [])) ∷ []) nine_other ≡ Some (check.Forked nine_id (id_of_update nine_other) SameNumber)
-  -- an update of a convicted writer; the writer is told
+  -- an update of a convicted writer; the writer is reported
   pub convicted : says nine_convicted nine_more ≡ Some (check.Convicted 9)
   -- also where it contradicts a kept one
   pub not_forked : says nine_convicted nine_other ≡ Some (check.Convicted 9)
@@ -83,7 +83,7 @@ record VouchedAndConvicted : Type 0 where
   pub convicted_vouched : says (nine_convicted ++ took_voucher (vouch 3 0 (id_of_update nine_more ∷ [])) ∷ []) nine_more ≡ None
   -- nor an update of another writer
   pub not_convicted : says nine_convicted two ≡ None
-  -- a voucher of a convicted node, which is told, also one with the number of an update; one of another node
+  -- a voucher of a convicted node, which is reported, also one with the number of an update; one of another node
   pub voucher_convicted : says_of_voucher nine_convicted (vouch 9 1 (zeros ∷ [])) ≡ Some (check.VoucherConvicted 9)
   pub voucher_not_forked : says_of_voucher nine_convicted (vouch 9 0 (zeros ∷ [])) ≡ Some (check.VoucherConvicted 9)
   pub voucher_passes : says_of_voucher nine_convicted (vouch 3 0 (zeros ∷ [])) ≡ None

@@ -15,12 +15,12 @@ use Rattle.depot_model.proofs.Exchanges.{here, sign, born, of_two}
 
 -- ---- wanted hashes
 
--- writes of so many values, whose hashes rise from that of a number on
+-- writes of this many values, whose hashes rise from that of a number on
 abbrev writes : ℕ → ℕ → List Write
 writes zero k = []
 writes (suc n) k = put_one (107 ∷ []) (k / 256 ∷ k % 256 ∷ []) 1 ++ writes n (suc k)
 
--- a journal that lacks so many values
+-- a journal that lacks this many values
 abbrev lacks : ℕ → List Record
 lacks n = Foreign (record { statement = statements.Update (record of_two { writes = writes n 0 }); body = []; signature = [] }) ∷ []
 
@@ -35,7 +35,7 @@ at_most_1024 = record { lacks_more = refl; all = refl; one_more = refl }
 
 -- ---- counts in a text
 
--- what node 1 answers to a text that ends behind these bytes of its counts
+-- what node 1 answers to a text that ends after these bytes of its counts
 abbrev counts : List ℕ → BundleAnswer
 counts bytes = bundle_answer (here 1) (sign 1) (born 1) (1 ∷ 3 ∷ 0 ∷ 1 ∷ (zeros ++ bytes))
 

@@ -72,7 +72,7 @@ module _ {N M : Type 0} (part : N → M) {v : JournalView M} {old new : N} where
 
 -- ---- nothing is done
 
--- whatever it might have appended, a call that doesn't touch the journal
+-- whatever it might have appended, a call that doesn't access the journal
 pub idle_call : {N : Type 0} (v : JournalView N) {stopped failed nothing : Type 0}
     → ((n : N) (file : List ℕ) → v.left_since n (v.moment n) file → v.may_leave n file) → ((n : N) → v.after n [] n)
     → (n : N) (appends : List Record) → IsStable v n → (stopped ↔ (v.stopped n ≡ true)) → (failed → ⊥) → IsJournalCall v n n appends stopped failed nothing
@@ -101,8 +101,8 @@ disk_of_both v old mid new well a b =
       calm = λ f. let p = a.calm f in let q = b.calm p.0 in (q.0, q.1 ∙ p.1);
     }
 
--- A call on a journal that isn't stopped appended all of the first records, and its disk didn't fail. Then another one, which was to append the
--- second ones. Both together were to append these, and may be said to have been to append more.
+-- A call on a journal that isn't stopped appended all of the first records, and its disk didn't fail. Then another call
+-- was asked to append the second ones. Both together were asked to append these, and may count as asked to append more.
 pub joined_call : {N : Type 0} (v : JournalView N) {was_stopped was_failed was_nothing stopped failed nothing : Type 0} → ((x y z : N) (calls more : List Made) → v.after x calls y → v.after y more z → v.after x (calls ++ more) z)
     → (old mid new : N) (a b grown more : List Record) → (was_failed → ⊥) → v.stopped old ≡ false → v.records mid ≡ v.records old ++ a → v.records new ≡ v.records mid ++ grown
     → IsJournalCall v old mid a was_stopped was_failed was_nothing → IsJournalCall v mid new b stopped failed nothing → IsJournalCall v old new ((a ++ b) ++ more) stopped failed ⊥

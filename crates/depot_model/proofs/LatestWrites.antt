@@ -63,7 +63,7 @@ is_latest_from key us u causal u_in last =
           absurd (let no : list_any (follows key us u) us ≡ false = not-true _ p.1 in let yes_no : true ≡ false = sym found ∙ no in cc);
     }
 
--- in a list in which each parent stands before its children
+-- in a list in which each parent comes before its children
 pub latest_are_listed : (key : List ℕ) (us : List Update) → IsCausal [] us → AreLatestIn key us (latest_in key us)
 unfolding latest_in
 latest_are_listed key us causal =

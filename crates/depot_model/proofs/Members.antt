@@ -32,7 +32,7 @@ map_same f g (x ∷ xs) same = ap (λ (y : _). y ∷ map f xs) (same x (inl refl
 
 -- ---- what holds of all
 
--- what holds of all of a list, and of one more behind it
+-- what holds of all of a list, and of one more after it
 pub all_push : {X : Type 0} (P : X → Type 0) (xs : List X) (x : X) → AllByRecursion P xs → P x → AllByRecursion P (xs ++ x ∷ [])
 all_push P [] x all one = (one, tt)
 all_push P (y ∷ ys) x all one = (all.0, all_push P ys x all.1 one)
@@ -95,18 +95,18 @@ all-map test f (x ∷ xs) = ap (λ (b : Bool). test (f x) && b) (all-map test f 
 
 -- ---- lists that are chosen from
 
--- one of a list that is chosen by a test, with an element in front where it passes
+-- one of a list that is chosen by a test, with an element at the front where it passes
 pub chosen_cases : {X : Type 0} (b : Bool) (x y : X) (ys : List X) → IsIn x (cond b (y ∷ ys) ys) → ((b ≡ true) × (y ≡ x)) ⊎ IsIn x ys
 chosen_cases true x y ys (inl here) = inl (refl, here)
 chosen_cases true x y ys (inr there) = inr there
 chosen_cases false x y ys on = inr on
 
--- what stands behind is one of the list either way
+-- what follows is one of the list either way
 pub chosen_behind : {X : Type 0} (b : Bool) (x y : X) (ys : List X) → IsIn x ys → IsIn x (cond b (y ∷ ys) ys)
 chosen_behind true x y ys on = inr on
 chosen_behind false x y ys on = on
 
--- what stands in front is one of the list where the test passes
+-- what comes first is one of the list where the test passes
 pub chosen_front : {X : Type 0} (b : Bool) (x y : X) (ys : List X) → b ≡ true → y ≡ x → IsIn x (cond b (y ∷ ys) ys)
 chosen_front true x y ys e same = inl same
 chosen_front false x y ys e same = absurd cc

@@ -11,7 +11,7 @@ use Rattle.depot_model.specs.Order.{IsCausal}
 use Rattle.depot_model.proofs.Orders.{one_of_id, causal_behind}
 use Rattle.depot_model.proofs.Members.{any_from, any_to, from_map}
 
--- what is found by a test stands here, or later
+-- what is found by a test is here, or later
 pub named_cases : {X : Type 0} (b : Bool) (t x : X) (o : Option X) → cond b (Some t) o ≡ Some x → ((b ≡ true) × (t ≡ x)) ⊎ (o ≡ Some x)
 named_cases true t x o e = inl (refl, cc)
 named_cases false t x o e = inr e
@@ -25,7 +25,7 @@ named_is (u ∷ us) h t e = elim (named_cases (bytes_eq (id_of_update u) h) u t 
   | inr there ↦ let r = named_is us h t there in (inr r.0, r.1)
 ]
 
--- and it is found, where no id stands twice
+-- and it is found, where no id occurs twice
 pub named_some : (ids : List (List ℕ)) (us : List Update) (h : List ℕ) (t : Update) → IsCausal ids us → IsIn t us → id_of_update t ≡ h → named us h ≡ Some t
 unfolding named
 named_some ids [] h t c never e = absurd never

@@ -1,4 +1,4 @@
--- Worked examples of what calls on a node leave: of its file, of its disk, and of the node. What holds of each call, and what doesn't.
+-- Worked examples of what calls do to a node, its file and its disk: what holds of each call, and what doesn't.
 use Rattle.std.proofs.Common.{◌≡◌, ℕ, List, [], ◌∷◌, ◌++◌, get_or, Bool, true, false, refl, sym, ap, subst, arith, inl, inr}
 use Rattle.depot_base.specs.Calls.{Made, made, syncs, writes_at}
 use Rattle.depot_base.specs.Cursor.{numeral}
@@ -70,7 +70,7 @@ calm = record { same = refl; cause = record { never_falls = omega arith; rose = 
 failed_once : KeepsDisk (counted ⊥) (3, 7) (3, 8) (Unit {0})
 failed_once = record { same = refl; cause = record { never_falls = omega arith; rose = λ failed. omega arith; only = λ less. tt }; calm = λ never. absurd never }
 
--- a fault that isn't counted, one that isn't told, and another disk
+-- a fault that isn't counted, one that isn't reported, and another disk
 not_counted : (promised : Type 0) → KeepsDisk (counted promised) (3, 7) (3, 7) (Unit {0}) → ⊥
 not_counted promised k = omega (arith, k.cause.rose tt)
 
@@ -86,7 +86,7 @@ not_calm failed k = omega (arith, (k.calm tt).1)
 
 -- ---- who the node is
 
--- a node that stands here, under this key
+-- a node that is here, under this key
 record Who : Type 0 where
   stands : Setting
   key : PublicKey
@@ -125,7 +125,7 @@ not_another_node sign same = omega (arith, ap (λ (s : Setting). s.me) same.stan
 not_another_key : (sign : Signs) → IsSameNode (who sign) node (record node { key = record its_key { height = 3 } }) → ⊥
 not_another_key sign same = omega (arith, ap (λ (k : PublicKey). k.height) same.key)
 
--- ---- what a stop leaves
+-- ---- the crash images
 
 -- where nothing was done no moment came
 untouched : {N : Type 0} (v : JournalView N) (n : N) → IsUntouched v n n
@@ -134,8 +134,7 @@ untouched v n = record { same_moment = refl; no_more = λ t file left. left }
 not_untouched : IsUntouched (record bare { moment = λ n. n }) 0 1 → ⊥
 not_untouched u = omega (arith, u.same_moment)
 
--- nor where a stop may leave a file more; one less is no harm
--- a disk of which a stop leaves a file only once it is true
+-- nor where there is one crash image more; with one less it holds, where a file is a crash image only once it is true
 abbrev later : JournalView Bool
 later = record bare { left_since = λ n since image. n ≡ true }
 
@@ -155,7 +154,7 @@ its_text : text_of_record one ≡ 6 ∷ 7 ∷ []
 unfolding record_text tagged rest_of number numeral
 its_text = refl
 
--- the open gate, the length of the text, the text, and the closed gate behind it
+-- the open gate, the length of the text, the text, and the closed gate after it
 abbrev file : List ℕ
 file = 1 ∷ 0 ∷ 0 ∷ 0 ∷ 2 ∷ 6 ∷ 7 ∷ 0 ∷ []
 
@@ -192,7 +191,7 @@ not_a_record has = elim has [
   | inr stands ↦ open_gate [] stands.0
 ]
 
--- once it is told the record is there
+-- once it is reported the record is there
 not_lost : HasAll (one ∷ []) false shut → ⊥
 unfolding record_text tagged rest_of number framed numeral
 not_lost h = elim h.has [
@@ -200,14 +199,14 @@ not_lost h = elim h.has [
   | inr stands ↦ open_gate h.more stands.0
 ]
 
--- a stop may leave this file, or that one
+-- this file is a crash image, or that one
 leaves_all : LeavesAll (one ∷ []) false (λ image. image ≡ file)
 leaves_all image is = subst (HasAll (one ∷ []) false) (sym is) has_all
 
 not_all : LeavesAll (one ∷ []) false (λ image. image ≡ shut) → ⊥
 not_all leaves = not_lost (leaves shut refl)
 
--- A node that runs, with one record, of whose disk a stop leaves these images, and that appends nothing.
+-- A node that runs, with one record, whose disk has these crash images, and that appends nothing.
 abbrev LastsWith : (List ℕ → Type 0) → Type 0
 LastsWith images = Lasts {N = Unit {0}} (record bare { records = λ n. one ∷ []; left_since = λ n since image. images image; may_leave = λ n image. images image }) tt tt []
 
@@ -229,7 +228,7 @@ calls : calls_to_record [] (one ∷ []) ≡ writes_at 1 (0 ∷ 0 ∷ 0 ∷ 2 ∷
 unfolding record_text tagged rest_of number framed numeral
 calls = refl
 
--- the next record begins at the gate behind the first
+-- the next record begins at the gate after the first
 next_gate : calls_to_record (one ∷ []) (one ∷ []) ≡ writes_at 8 (0 ∷ 0 ∷ 0 ∷ 2 ∷ 6 ∷ 7 ∷ 0 ∷ []) ∷ syncs ∷ writes_at 7 (1 ∷ []) ∷ syncs ∷ []
 unfolding record_text tagged rest_of number framed numeral
 next_gate = refl
@@ -264,7 +263,7 @@ not_one_more c = let wrong : made (syncs ∷ []) ≡ [] = c.whole (λ never. nev
 
 -- ---- a whole call
 
--- a call that was to append a record, and found no memory
+-- a call that is asked to append a record, and runs out of memory
 abbrev NoMemory : List Made → List Made → Type 0
 NoMemory old new = IsJournalCall so_far old new (one ∷ []) ⊥ ⊥ (Unit {0})
 

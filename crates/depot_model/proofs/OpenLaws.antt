@@ -1,4 +1,5 @@
--- Bytes that are told to be open can go on to a frame: so that there is no frame is told at the first byte that decides it.
+-- Bytes that are reported as open can be extended to a frame. So that there is no frame is reported at the first byte
+-- that decides it.
 use Rattle.std.proofs.Common.{◌≡◌, ℕ, zero, suc, ◌-◌, ◌<◌, ◌≤◌, List, [], ◌∷◌, ◌++◌, append_assoc, length, take, drop, replicate, Bool, true, false, not, cond, ltb, leb, ◌&&◌, ◌||◌, ◌==◌, get_or, refl, sym, ap, subst, ◌∙◌, arith, inl}
 use Rattle.std.specs.Int.{w32, from_be_bytes}
 use Rattle.std.proofs.lemmas.Bool.{ltb-true, le-ltb, leb-true, and_parts}
@@ -10,7 +11,7 @@ use Rattle.depot_base.proofs.FormatLaws.{IsBytes}
 use Rattle.depot_model.specs.Frames.{Frame, text_of_frame, IsFrame, FrameAt, whole_frame, open_frame, no_frame, is_tag, least_length, most_length, may_be_within, is_no_flag, goes_astray, payload_in, frame_at}
 use Rattle.depot_model.proofs.FrameLaws.{worth}
 
--- with more bytes behind them these are the text of a frame
+-- with more bytes after them these are the text of a frame
 pub record CanGoOn (bytes : List ℕ) : Type 0 where
   pub frame : Frame
   pub good : IsFrame frame
@@ -55,7 +56,7 @@ filled_frame tag x y z w r small least most not_end short le =
       parts = rw (len, spelled_back x y z w small) refl;
     }
 
--- with fewer bytes in front
+-- with fewer bytes at the front
 fewer : (bytes more : List ℕ) → CanGoOn (bytes ++ more) → CanGoOn bytes
 fewer bytes more c = record { frame = c.frame; good = c.good; more = more ++ c.more; parts = sym (append_assoc bytes more c.more) ∙ c.parts }
 
@@ -165,7 +166,7 @@ by_tag true tag l e least most small may told =
     let is_four : tag ≡ 4 = grind (arith, nat_tests, e) in
     subst (λ (t : ℕ). CanGoOn (t ∷ l)) (sym is_four) (last l may (subst (λ (t : ℕ). cond (ltb (length l) 4) open_frame (payload_in t (from_be_bytes w32 (take 4 l)) (drop 4 l)) ≡ open_frame) is_four told))
 
--- Bytes that are told to be open can go on to a frame.
+-- Bytes that are reported as open can be extended to a frame.
 pub open_can_go_on : (bytes : List ℕ) → IsBytes bytes → frame_at bytes ≡ open_frame → CanGoOn bytes
 unfolding frame_at IsWithin
 open_can_go_on [] small told = fewer [] (1 ∷ []) (fewer (1 ∷ []) (0 ∷ 0 ∷ 0 ∷ 0 ∷ []) (filled_frame 1 0 0 0 0 [] zeros_small (omega arith) (omega arith) (λ is. absurd (omega (arith, is))) (omega arith) (omega arith)))

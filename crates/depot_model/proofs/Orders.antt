@@ -1,4 +1,4 @@
--- Lists in which each parent stands before its children, and paths of parents.
+-- Lists in which each parent comes before its children, and paths of parents.
 use Rattle.std.proofs.Common.{◌≡◌, ℕ, List, [], ◌∷◌, ◌++◌, map, refl, sym, ap, subst, ◌∙◌, inl, inr, ◌⊎◌}
 use Rattle.depot_base.specs.declared.update.Update.{Update}
 use Rattle.depot_model.specs.Lists.{IsIn}
@@ -12,7 +12,7 @@ use Rattle.depot_model.proofs.Members.{all_at, all_from}
 pub leads_one : {X : Type 0} (step : X → X → Type 0) (x z : X) → step x z → Leads step x z
 leads_one step x z one = record { stops = []; path = one }
 
--- a step in front of what leads on
+-- a step before what leads on
 pub leads_more : {X : Type 0} (step : X → X → Type 0) (x y z : X) → step x y → Leads step y z → Leads step x z
 leads_more step x y z one l = record { stops = y ∷ l.stops; path = (one, l.path) }
 
@@ -62,7 +62,7 @@ precedes_wider among more each t u p = leads_wider (IsParent among) (IsParent mo
 
 -- ---- ids
 
--- an update of the list has an id that stands not before the list
+-- an update of the list has an id that isn't in what comes before the list
 pub fresh : (ids : List (List ℕ)) (us : List Update) (u : Update) → IsCausal ids us → IsIn u us → IsIn (id_of_update u) ids → ⊥
 unfolding IsCausal
 fresh ids [] u c never was = never
@@ -83,12 +83,12 @@ pub first_names_none : (ids : List (List ℕ)) (x : Update) (xs : List Update) (
 unfolding IsCausal
 first_names_none ids x xs t c on named = fresh ids (x ∷ xs) t c on (all_at (λ h. IsIn h ids) (parents x) (id_of_update t) c.0 named)
 
--- what stands behind the first
+-- what follows the first
 pub causal_behind : (ids : List (List ℕ)) (x : Update) (xs : List Update) → IsCausal ids (x ∷ xs) → IsCausal (id_of_update x ∷ ids) xs
 unfolding IsCausal
 causal_behind ids x xs c = c.1.1
 
--- a parent stands before the list, or in it
+-- a parent comes before the list, or in it
 pub parent_is_there : (ids : List (List ℕ)) (us : List Update) (u : Update) (h : List ℕ) → IsCausal ids us → IsIn u us → IsIn h (parents u) → IsIn h ids ⊎ ((t : Update) × (IsIn t us × (id_of_update t ≡ h)))
 unfolding IsCausal
 parent_is_there ids [] u h c never named = absurd never
@@ -107,7 +107,7 @@ child_is_behind ids x xs t u c p = elim p.below [
   | inr there ↦ there
 ]
 
--- a path from behind the first stays behind it
+-- a path from after the first stays after it
 pub path_behind : (ids : List (List ℕ)) (x : Update) (xs : List Update) (t : Update) (stops : List Update) (u : Update) → IsCausal ids (x ∷ xs) → IsIn t xs → IsPath (IsParent (x ∷ xs)) t stops u → IsPath (IsParent xs) t stops u
 path_behind ids x xs t [] u c on path = record { above = on; below = child_is_behind ids x xs t u c path; named = path.named }
 path_behind ids x xs t (w ∷ stops) u c on path =
@@ -128,17 +128,17 @@ precedes_irreflexive ids (x ∷ xs) u c p =
     let on = preceded_is_behind ids x xs u u c p in
     precedes_irreflexive (id_of_update x ∷ ids) xs u (causal_behind ids x xs c) (record { stops = p.stops; path = path_behind ids x xs u p.stops u c on p.path })
 
--- ---- ids that stand before the list
+-- ---- ids that come before the list
 
 -- ---- longer lists
 
--- what stands in front
+-- what comes first
 pub causal_front : (ids : List (List ℕ)) (us vs : List Update) → IsCausal ids (us ++ vs) → IsCausal ids us
 unfolding IsCausal
 causal_front ids [] vs c = tt
 causal_front ids (u ∷ us) vs c = (c.0, (c.1.0, causal_front (id_of_update u ∷ ids) us vs c.1.1))
 
--- an update behind a list: its parents stand before, and its id doesn't
+-- an update after a list: its parents come before, and its id doesn't
 pub causal_push : (ids : List (List ℕ)) (us : List Update) (u : Update) → IsCausal ids us
     → ((h : List ℕ) → IsIn h (parents u) → IsIn h ids ⊎ IsIn h (map id_of_update us)) → (IsIn (id_of_update u) ids → ⊥) → (IsIn (id_of_update u) (map id_of_update us) → ⊥)
     → IsCausal ids (us ++ u ∷ [])
@@ -158,7 +158,7 @@ causal_push ids (x ∷ us) u c there old new = (
   ),
 )
 
--- the parents of the last stand before it
+-- the parents of the last come before it
 pub parents_of_last : (ids : List (List ℕ)) (us : List Update) (u : Update) (h : List ℕ) → IsCausal ids (us ++ u ∷ []) → IsIn h (parents u) → IsIn h ids ⊎ IsIn h (map id_of_update us)
 unfolding IsCausal
 parents_of_last ids [] u h c on = inl (all_at (λ k. IsIn k ids) (parents u) h c.0 on)

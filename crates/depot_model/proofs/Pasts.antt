@@ -72,7 +72,7 @@ past_of_listed us u t c u_in = (
   λ p. path_in_past us us u c (λ w w_in. inl w_in) t p.stops (precedes_from us t u p) p.path,
 )
 
--- the past of one behind the list
+-- the past of one after the list
 pub past_of_next : (us : List Update) (u t : Update) → IsCausal [] us → (IsIn t (past u us) → IsIn t us × Precedes (us ++ u ∷ []) t u) × (IsIn t us × Precedes (us ++ u ∷ []) t u → IsIn t (past u us))
 past_of_next us u t c = (
   λ on. (past_in u us t on, past_precedes (us ++ u ∷ []) u (in_last us u) us (λ w w_in. in_left w us (u ∷ []) w_in) t on),

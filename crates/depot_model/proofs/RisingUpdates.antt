@@ -68,11 +68,11 @@ lower_or_above t u not_lower other =
 
 -- ---- ids that differ
 
--- no id stands twice
+-- no id occurs twice
 abbrev pub HaveOwnIds : List Update → Type 0
 HaveOwnIds = AllPairsByRecursion (λ t u. id_of_update u ≡ id_of_update t → ⊥)
 
--- where each parent stands before its children, no id stands twice
+-- where each parent comes before its children, no id occurs twice
 pub own_ids_from_causal : (ids : List (List ℕ)) (us : List Update) → IsCausal ids us → HaveOwnIds us
 own_ids_from_causal ids [] c = tt
 own_ids_from_causal ids (x ∷ xs) c =
@@ -110,7 +110,7 @@ rises_put t (u ∷ us) rise other = choice (is_lower u t) refl (rises_put t us r
       let lower = lower_or_above t u is other.0 in
       ((lower, all_from (λ (x : Update). is_lower t x ≡ true) us (λ x on. lower_trans t u x lower (all_at (λ (x : Update). is_lower u x ≡ true) us x rise.0 on))), rise)
 
--- updates in their order rise, where no id stands twice
+-- updates in their order rise, where no id occurs twice
 pub rises_by_id : (us : List Update) → HaveOwnIds us → Rises (by_id us)
 unfolding by_id
 rises_by_id [] apart = tt
@@ -120,7 +120,7 @@ rises_by_id (t ∷ ts) apart = rises_put t (by_id ts) (rises_by_id ts apart.1) (
 lower_one_way : (t u : Update) → is_lower t u ≡ true → is_lower u t ≡ true → ⊥
 lower_one_way t u one two = less_one_way (slice_cmp nat_cmp (u.writer ∷ id_of_update u) (t.writer ∷ id_of_update t)) (slice_cmp nat_cmp (t.writer ∷ id_of_update t) (u.writer ∷ id_of_update u)) (nat_list_cmp_total.antisymm (u.writer ∷ id_of_update u) (t.writer ∷ id_of_update t)) one two
 
--- two lists with the same members are put in one order, where no id stands twice in either
+-- two lists with the same members are put in one order, where no id occurs twice in either
 pub same_by_id : (us vs : List Update) → HaveOwnIds us → HaveOwnIds vs → HaveSame us vs → by_id us ≡ by_id vs
 same_by_id us vs apart_u apart_v same = one_rising is_lower (by_id us) (by_id vs) lower_one_way (rises_by_id us apart_u) (rises_by_id vs apart_v) (record {
   to = λ t on. in_by_id t vs (same.to t (from_by_id t us on));

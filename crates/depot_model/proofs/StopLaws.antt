@@ -1,4 +1,4 @@
--- What a stop leaves of a call that does nothing, and of calls one after another.
+-- The crash images of a call that does nothing, and of calls one after another.
 use Rattle.std.proofs.Common.{◌≡◌, ◌≤◌, ◌⊎◌, ℕ, ◌+◌, Bool, true, false, IsTrue, List, ◌++◌, append_assoc, length, take, map, refl, sym, ap, subst, ◌∙◌, append-nil, arith, inl, inr, ⊎_elim}
 use Rattle.std.proofs.lemmas.List.{take_all, take-append-le}
 use Rattle.std.proofs.Math.Seq.{take-append_seam, take-append-add}
@@ -9,7 +9,7 @@ use Rattle.depot_model.specs.Records.{text_of_record}
 use Rattle.depot_model.specs.JournalCalls.{JournalView, IsStable, Lasts}
 use Rattle.depot_model.specs.Stops.{HasAll, HasFront, HasRecords}
 
--- all records of a node that runs are a front with none of the new ones
+-- all records of a node that runs are a prefix with none of the new ones
 none_of_new : (J new : List Record) (stopped : Bool) (file : List ℕ) → stopped ≡ false → HasAll J stopped file → HasFront J new file
 none_of_new J new stopped file runs all = record {
   count = 0;
@@ -36,18 +36,18 @@ idle_lasts v only_now n more stable = record {
 no_more_or_less : (m n : ℕ) → (m ≤ n) ⊎ (n ≤ m)
 no_more_or_less m n = grind arith
 
--- a front of some records is a front of these and more
+-- a prefix of some records is a prefix of these and more
 pub front_longer : (J a b : List Record) (file : List ℕ) → HasFront J a file → HasFront J (a ++ b) file
 front_longer J a b file front = by_count (no_more_or_less front.count (length a)) where
   by_count : (front.count ≤ length a) ⊎ (length a ≤ front.count) → HasFront J (a ++ b) file
   by_count (inl le) = record { count = front.count; has = subst (λ (x : List Record). HasRecords (J ++ x) file) (sym (take-append-le front.count a b le)) front.has }
   by_count (inr ge) = record { count = length a; has = subst (λ (x : List Record). HasRecords (J ++ x) file) (take_all front.count a ge ∙ sym (take-append_seam a b)) front.has }
 
--- so many of the second behind all of the first are so many more of all
+-- some first ones of the second after all of the first are as many more of all
 pub so_many_more : (J a b : List Record) (count : ℕ) → (J ++ a) ++ take count b ≡ J ++ take (length a + count) (a ++ b)
 so_many_more J a b count = append_assoc J a (take count b) ∙ ap (λ (x : List Record). J ++ x) (sym (take-append-add a b count))
 
--- a front of the second behind all of the first is a front of all
+-- a prefix of the second after all of the first is a prefix of all
 front_of_second : (J K a b : List Record) (file : List ℕ) → K ≡ J ++ a → HasFront K b file → HasFront J (a ++ b) file
 front_of_second J K a b file grown front = record {
   count = length a + front.count;
@@ -63,7 +63,7 @@ both_leave {moment = moment} old mid new A B P of_a of_b a b = record {
   before = λ t file le left. ⊎_elim (λ was. ⊎_elim (λ before. inl before) (λ then. inr (of_a file then)) (a.before t file le was)) (λ now. inr (of_b file now)) (b.before t file (omega (arith, le, a.later)) left);
 }
 
--- a front of the records that a call appends is one of these and more
+-- a prefix of the records that a call appends is one of these and more
 pub lasts_longer : {N : Type 0} {v : JournalView N} → (old new : N) (a b : List Record) → Lasts v old new a → Lasts v old new (a ++ b)
 lasts_longer {v = v} old new a b lasts = record {
   told = lasts.told;
@@ -78,7 +78,7 @@ lasts_longer {v = v} old new a b lasts = record {
   longer : (file : List ℕ) → HasFront (v.records old) a file → HasFront (v.records old) (a ++ b) file
   longer file front = front_longer (v.records old) a b file front
 
--- the same of a list that is equal
+-- the same for a list that is equal
 pub lasts_alike : {N : Type 0} {v : JournalView N} → (old new : N) (a b : List Record) → a ≡ b → Lasts v old new a → Lasts v old new b
 lasts_alike {v = v} old new a b is lasts = subst (λ (x : List Record). Lasts v old new x) is lasts
 

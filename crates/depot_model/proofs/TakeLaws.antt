@@ -60,7 +60,7 @@ with_room here J x answer is room = ap (λ (o : Option Full). outcome_within o (
 without_room : (here : Setting) (J : List Record) (x : Given) (full : Full) → full_by here.me J (growth here J x) ≡ Some full → outcome_of here J (Ok x) ≡ no_room full
 without_room here J x full is = ap (λ (o : Option Full). outcome_within o (answer_to here J x) (growth here J x)) is
 
--- what is answered to a text is what the outcome for it tells
+-- what is answered to a text is what the outcome for it says
 pub takes_tells : {V : Type 0} (f : Closed V) (m : ℕ) → LawfulClosed f m → (give : V → Given) (here : Setting) (J : List Record) (text : List ℕ) (result : Result Taken TakeError) (then : List Record)
     → Takes f give here J text result then → Tells (outcome_of here J (read_by f give text)) J result then
 takes_tells f m l give here J text (Ok taken) then (v, (fits, (is, told))) =
@@ -96,7 +96,7 @@ value_frame_tells here J payload result then t = takes_tells (rest_of 65536) _ (
 
 -- ---- the answer as a function
 
--- what an outcome tells is its answer, and what it appends
+-- what an outcome says is its answer, and what it appends
 told_is_answer : (o : Outcome) (J : List Record) (result : Result Taken TakeError) (then : List Record) → Tells o J result then → IsUndisturbed result → (result ≡ answer_of o) × (then ≡ J ++ appended_by o)
 told_is_answer o J (Ok taken) then t s = (ap answer_of (sym t.is), t.grown ∙ ap (λ (o : Outcome). J ++ appended_by o) (sym t.is))
 told_is_answer o J (Err refused.Memory) then t s = absurd s

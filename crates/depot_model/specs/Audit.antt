@@ -61,7 +61,7 @@ unfoldable pub new_bodies : List Update → List Update → List Update
 new_bodies known [] = []
 new_bodies known (u ∷ us) = if is_body_in u known then new_bodies known us else u ∷ new_bodies (u ∷ known) us
 
--- each body once, where it stands first
+-- each body once, where it comes first
 abbrev pub bodies_once : List Update → List Update
 bodies_once us = new_bodies [] us
 
@@ -110,7 +110,7 @@ pub record HasPath {X : Type 0} (edge : X → X → Bool) (among : List X) (a b 
   pub known : (x : X) → IsIn x stops → IsIn x among
   pub path : IsPath (IsEdge edge) a stops b
 
--- whether there is such a path, by taking in one stop after the other
+-- whether there is such a path, by allowing one intermediate stop after another
 unfoldable pub closed : {X : Type 0} → (X → X → Bool) → List X → X → X → Bool
 closed edge [] a b = edge a b
 closed edge (x ∷ xs) a b = closed edge xs a b || (closed edge xs a x && closed edge xs x b)
@@ -155,7 +155,7 @@ abbrev pub is_of : Correct → Operation → Bool
 is_of c (write u) = is_body_in u (puts_of c.journal)
 is_of c (read_at d place r) = d.node == c.node
 
--- one stands before the other in a list, by their bodies
+-- one comes before the other in a list, by their bodies
 abbrev pub stands_first : List Update → Update → Update → Bool
 stands_first [] t u = false
 stands_first (x ∷ xs) t u = (same_body x t && is_body_in u xs) || stands_first xs t u
@@ -198,7 +198,7 @@ observed_writes W o = filter (λ u. observed W (write u) o) (writes_once W)
 unfoldable pub last_writes : World → List ℕ → List Update → List Update
 last_writes W key us = filter (λ u. writes key u && not (list_any (λ v. writes key v && observed W (write u) (write v)) us)) us
 
--- each stands in the listed order before all that come after it
+-- each is in the listed order before all that come after it
 abbrev pub rises_strictly : List Update → Bool
 rises_strictly [] = true
 rises_strictly (u ∷ us) = list_all (λ v. is_lt (listed u v)) us && rises_strictly us
@@ -219,8 +219,8 @@ shows_gone key s = if is_gone s.seen then is_deletion (wrote_under key s.update.
 abbrev pub is_put_by_writer : World → List ℕ → Shown → Bool
 is_put_by_writer W key s = list_all (λ d. not (s.update.writer == d.node) || list_any (is_put_of key s.update s.seen) d.journal) W.nodes
 
--- A read lists just the latest of the writes that are observed before it, with values that their writes name and their writers put,
--- and with deletions where their writes are.
+-- A read lists exactly the latest of the writes that are observed before it, with values that their writes name and
+-- their writers put, and with deletions where their writes are.
 unfoldable pub is_exact : World → Correct → ℕ → Read → Bool
 is_exact W c place r =
     lists_just (map (λ s. s.update) r.answer) (last_writes W r.key (observed_writes W (read_at c place r)))
@@ -242,12 +242,12 @@ abbrev pub end_of_chain : List ℕ → List Update → List ℕ
 end_of_chain h [] = h
 end_of_chain h (u ∷ us) = end_of_chain (id_of_update u) us
 
--- an update behind others isn't behind its prev, or isn't next in the chain of a writer who isn't convicted
+-- an update after others isn't after its prev, or isn't next in the chain of a writer who isn't convicted
 abbrev pub breaks_chain : List ℕ → List Update → Update → Bool
 breaks_chain accused us u = (not (bytes_eq u.prev zeros) && not (has_its_prev us u))
     || (not (is_one_of u.writer accused) && not (bytes_eq u.prev (end_of_chain zeros (filter (λ t. t.writer == u.writer) us))))
 
--- with a record behind others the updates and the statements of others aren't separate branches any more
+-- with a record after others the updates and the statements of others aren't separate branches any more
 unfoldable pub breaks_off : List ℕ → List Record → Record → Bool
 breaks_off accused before r =
     list_any (breaks_chain accused (accepted before)) (accepted_by r)

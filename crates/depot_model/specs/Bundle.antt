@@ -47,7 +47,7 @@ signed_by sign r = map (signed_with sign) (own_by r) ++ foreign_by r
 unfoldable pub is_covered : List Update → List (List ℕ) → Update → Bool
 is_covered us ids u = list_any (λ l. is_among (id_of_update l) ids && (bytes_eq (id_of_update u) (id_of_update l) || has_id (past l us) (id_of_update u))) us
 
--- an update that the reader lacks, as far as its leaves tell: another's, and not covered by them
+-- a candidate: an update that the reader seems to lack, another's and not covered by its leaves
 abbrev pub is_candidate : List Update → List (List ℕ) → ℕ → Update → Bool
 is_candidate us ids reader u = not (u.writer == reader) && not (is_covered us ids u)
 
@@ -70,12 +70,13 @@ candidate_places J ids reader = records_where (has_candidate J ids reader) 0 J
 
 -- ---- what there is to send
 
--- What is sent whole or not at all: a candidate's signed statement and the values behind it, or one wanted value.
+-- A parcel, which is sent whole or not at all: a candidate's signed statement and the values after it, or one wanted
+-- value.
 pub record Parcel : Type 0 where
   pub told : List Signed
   pub values : List (List ℕ)
 
--- the values of these names that are held, and that have none of the hashes sent before, nor that of one in front of them
+-- the values of these names that are held, and that have none of the hashes sent before, nor that of one before them
 unfoldable pub values_behind : List Record → List (List ℕ) → List NamedValue → List (List ℕ)
 values_behind J sent [] = []
 values_behind J sent (n ∷ ns) = elim (if is_among n.hash sent then None else held_as J n) [
@@ -134,7 +135,7 @@ frames_of x = map statement_frame x.told ++ map value_frame x.values
 abbrev pub bytes_of_frames : List Frame → ℕ
 bytes_of_frames fs = sum_by (λ f. length (text_of_frame f)) fs
 
--- the longest prefix of these parcels that takes at most so many bytes and so many frames
+-- the longest prefix of these parcels that takes at most this many bytes and this many frames
 unfoldable pub fitting : ℕ → ℕ → List Parcel → List Parcel
 fitting bytes frames [] = []
 fitting bytes frames (x ∷ xs) =
@@ -152,7 +153,7 @@ sent_foreign me xs = map id_of_update (filter (λ u. not (u.writer == me)) (flat
 
 -- ---- the bundle
 
--- a bundle: the vouchers that are journaled for it, its frames and their counts, and whether there is more to send
+-- a bundle: the vouchers that are appended for it, its frames and their counts, and whether there is more to send
 pub record Bundle : Type 0 where
   pub vouchers : List Voucher
   pub frames : List Frame
@@ -199,15 +200,15 @@ proof_frame p = record { tag = 1; payload = text_of_proof p }
 abbrev pub end_frame : Bool → Frame
 end_frame more = record { tag = 4; payload = (if more then 1 else 0) ∷ [] }
 
--- The frames in their order, the new vouchers standing in the journal: the proofs, the own vouchers that name a sent update of
--- another, what is sent, and End.
+-- The frames in their order, once the new vouchers are in the journal: the proofs, the own vouchers that name a sent
+-- update of another, what is sent, and End.
 unfoldable pub bundle_frames : ℕ → Signs → List Record → Hello → List Parcel → Bool → List Frame
 bundle_frames me sign J h xs more =
     map proof_frame (proofs_for J h) ++
     (map (voucher_frame sign) (vouchers_for J (sent_foreign me xs)) ++
     (flat_map frames_of xs ++ end_frame more ∷ []))
 
--- how many frames of each sort there are beside End, the new vouchers standing in the journal
+-- how many frames of each sort there are beside End, once the new vouchers are in the journal
 abbrev pub counts_of : ℕ → List Record → Hello → List Parcel → Counts
 counts_of me J h xs = record {
   proofs = length (proofs_for J h);
@@ -220,7 +221,7 @@ counts_of me J h xs = record {
 abbrev pub with_vouchers : List Record → List Voucher → List Record
 with_vouchers J vs = J ++ records_of vs
 
--- what a node with this journal sends for a hello, and what it journals before any byte is handed out
+-- what a node with this journal sends for a hello, and what it appends before any byte is handed out
 unfoldable pub bundle_of : ℕ → Signs → List Record → Hello → Bundle
 bundle_of me sign J h =
     let xs = sent_for sign J h in

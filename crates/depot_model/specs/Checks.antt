@@ -1,4 +1,4 @@
--- What a node takes: the checks in their order, the answer, and what the journal grows by.
+-- The checks of what a node is given, in their order, the answer, and what the journal grows by.
 use Rattle.std.specs.Prelude.{ℕ, suc, ◌+◌, List, [], ◌∷◌, ◌++◌, length, map, Bool, true, false, not, ◌&&◌, ◌||◌, ◌==◌, nat_le, nat_lt, max, is_none, Option, Some, None, Result, Ok, Err, option_map, if◌then◌else◌}
 use Rattle.std.specs.List.{flat_map, list_any}
 use Rattle.std.specs.Str.{bytes_eq}
@@ -31,7 +31,7 @@ use Rattle.depot_model.specs.Conviction.{proof_of}
 use Rattle.depot_model.specs.Roster.{Verifies, has_node, is_signed}
 use Rattle.depot_model.specs.Journal.{accepted, foreign, accused, update_in, voucher_by, has_id, named, is_convicted, is_vouched, holds_hash, is_wanted}
 
--- where a node stands: its scheme, its own number, its roster
+-- a node's setting: its scheme, its own number, its roster
 pub record Setting : Type 0 where
   pub verifies : Verifies
   pub me : ℕ
@@ -144,7 +144,7 @@ unfoldable pub refused_as_convicted : List Record → Statement → Option Check
 refused_as_convicted J (statement.Update u) = when (is_convicted J u.writer && not (is_vouched J (statement.Update u))) (check.Convicted u.writer)
 refused_as_convicted J (statement.Voucher v) = when (is_convicted J v.node) (check.VoucherConvicted v.node)
 
--- ---- the checks in their order, behind that of the text
+-- ---- the checks in their order, after that of the text
 
 abbrev pub content_of : List Record → Statement → List (Option Check)
 content_of J (statement.Update u) = content_checks u (sight (accepted J) u)
@@ -177,7 +177,7 @@ first_failed_check here J (given_value v) = when (not (is_wanted (accepted J) (s
 
 -- ---- the answer
 
--- the statement itself is here: an update of its id is accepted, or a voucher of its body is kept
+-- the statement is known: an update of its id is accepted, or a voucher of its body is kept
 abbrev pub is_kept : List Record → Statement → Bool
 is_kept J (statement.Update u) = has_id (accepted J) (id_of_update u)
 is_kept J (statement.Voucher v) = list_any (λ w. bytes_eq (text_of_statement (statement.Voucher w)) (text_of_statement (statement.Voucher v))) (flat_map voucher_by J)

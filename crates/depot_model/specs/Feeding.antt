@@ -61,7 +61,7 @@ feeding_from J = record { journal = J; frames = 0; begun = []; start = 0; ended 
 abbrev pub closed_by : Closing → Feeding → Feeding
 closed_by why s = record s { begun = []; closed = Some why }
 
--- a frame of so many bytes is behind
+-- a frame of this many bytes is after
 abbrev pub passed : ℕ → Feeding → Feeding
 passed n s = record s { frames = s.frames + 1; begun = []; start = s.start + n }
 
@@ -81,11 +81,11 @@ abbrev pub says_more : List ℕ → Bool
 says_more [] = false
 says_more (b ∷ bytes) = b == 1
 
--- a whole frame of so many bytes is taken
+-- a whole frame of this many bytes is taken
 unfoldable pub fed_frame : Setting → ℕ → Frame → Feeding → Feeding
 fed_frame here n f s = if f.tag == 4 then passed n (record s { ended = Some (says_more f.payload) }) else after_outcome n s (take_frame here s.journal f)
 
--- what stands since the start of a frame, its last byte just having come
+-- the bytes since the start of a frame, its last one just having come
 abbrev pub fed_at : Setting → Feeding → List ℕ → FrameAt → Feeding
 fed_at here s bytes open_frame = record s { begun = bytes }
 fed_at here s bytes no_frame = closed_by (ill_formed s.start) s
@@ -95,7 +95,7 @@ fed_at here s bytes (whole_frame f) = fed_frame here (length bytes) f s
 abbrev pub is_over : Feeding → Bool
 is_over s = is_some s.ended || (s.frames == MOST_FRAMES)
 
--- One more byte. A closed feed takes nothing; a byte behind the last frame that may be there closes it, whatever it is.
+-- One more byte. A closed feed takes nothing; a byte after the last frame that may be there closes it, whatever it is.
 unfoldable pub fed_byte : Setting → Feeding → ℕ → Feeding
 fed_byte here s b =
     if is_some s.closed then s
@@ -113,7 +113,7 @@ feed_of here J stream = fed here (feeding_from J) stream
 
 -- ---- the report
 
--- no End frame came: so many bytes of a frame stand open, or none
+-- no End frame came: this many bytes of a frame are open, or none
 abbrev pub ending_open : List ℕ → Ending
 ending_open [] = ending.Bare
 ending_open (b ∷ bytes) = ending.Cut (length (b ∷ bytes))

@@ -38,7 +38,7 @@ pub record IsFrame (f : Frame) : Type 0 where
   pub short : length f.payload ≤ MOST_PAYLOAD
   pub end : f.tag ≡ 4 → IsEnd f.payload
 
--- ---- what stands at a place of a stream
+-- ---- what is at a place of a stream
 
 -- what the bytes from a frame's start on are: a whole frame, the beginning of one, or of none, whatever may come
 pub data FrameAt : Type 0 where
@@ -46,21 +46,22 @@ pub data FrameAt : Type 0 where
   open_frame : FrameAt
   no_frame : FrameAt
 
--- bytes of a length field, up to four, can go on to a number from low to high: the least and the greatest that they can become say so
+-- bytes of a length field, up to four, can be extended to a number from low to high: the least and the greatest that
+-- they can become say so
 abbrev pub may_be_within : ℕ → ℕ → List ℕ → Bool
 may_be_within low high bytes =
     nat_le (from_be_bytes w32 (bytes ++ replicate (4 - length bytes) 0)) high && nat_le low (from_be_bytes w32 (bytes ++ replicate (4 - length bytes) 255))
 
--- the byte in front is neither 0 nor 1
+-- the byte at the front is neither 0 nor 1
 abbrev pub is_no_flag : List ℕ → Bool
 is_no_flag [] = false
 is_no_flag (b ∷ bytes) = nat_lt 1 b
 
--- a frame with this tag can't go on so: its length is out of range, or the byte of End is neither 0 nor 1
+-- no frame with this tag continues so: its length is out of range, or the byte of End is neither 0 nor 1
 abbrev pub goes_astray : ℕ → List ℕ → List ℕ → Bool
 goes_astray tag length_bytes payload = not (may_be_within (least_length tag) (most_length tag) length_bytes) || ((tag == 4) && is_no_flag payload)
 
--- the payload in front of these bytes, where they have so many
+-- the payload before these bytes, where they have this many
 abbrev pub payload_in : ℕ → ℕ → List ℕ → FrameAt
 payload_in tag n bytes = if nat_lt (length bytes) n then open_frame else whole_frame (record { tag = tag; payload = take n bytes })
 

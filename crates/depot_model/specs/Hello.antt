@@ -1,4 +1,4 @@
--- A hello: what a node tells of what it has and of what it wants.
+-- A hello: what a node says of what it has and of what it wants.
 use Rattle.std.specs.Prelude.{ℕ, List, length, take, map, filter, position, Bool, true, not, ◌&&◌, ◌||◌, ◌==◌, nat_lt, Option, Some, None}
 use Rattle.std.specs.List.{flat_map}
 use Rattle.std.specs.Int.{w16}
@@ -30,7 +30,7 @@ abbrev pub hello_leaf_rises : Option HelloLeaf → HelloLeaf → Bool
 hello_leaf_rises None l = true
 hello_leaf_rises (Some before) l = nat_lt before.writer l.writer || (before.writer == l.writer && is_below before.id l.id)
 
--- version 1, kind 3, the sender and its roster, and then three lists, each behind its count
+-- version 1, kind 3, the sender and its roster, and then three lists, each after its count
 unfoldable pub hello : Format Hello
 hello =
     field (constant 1) (λ h. 1) λ version.

@@ -23,7 +23,7 @@ leaves_of us = filter (λ t. not (is_prev_in us (id_of_update t))) us
 abbrev pub is_lower : Update → Update → Bool
 is_lower t u = is_lt (slice_cmp nat_cmp (t.writer ∷ id_of_update t) (u.writer ∷ id_of_update u))
 
--- t put in front of the first that isn't lower
+-- t put before the first that isn't lower
 unfoldable pub put_by_id : Update → List Update → List Update
 put_by_id t [] = t ∷ []
 put_by_id t (u ∷ us) = if is_lower u t then u ∷ put_by_id t us else t ∷ u ∷ us

@@ -11,7 +11,7 @@ use Rattle.depot_model.specs.Texts.{id_of_update}
 use Rattle.depot_model.specs.Order.{Precedes, prevs}
 use Rattle.depot_model.specs.History.{is_prev_in}
 
--- an update stands at this place, and this holds of it
+-- an update is at this place, and this holds of it
 abbrev pub at : List Update → ℕ → (Update → Type 0) → Type 0
 at us place P = (u : Update) × ((slice_get us place ≡ Some u) × P u)
 
@@ -44,7 +44,7 @@ unfoldable pub places_where : (Update → Bool) → ℕ → List Update → List
 places_where test n [] = []
 places_where test n (u ∷ us) = if test u then n ∷ places_where test (n + 1) us else places_where test (n + 1) us
 
--- no number stands twice
+-- no number occurs twice
 abbrev pub AreDistinct : List ℕ → Type 0
 AreDistinct = AllPairsByRecursion (λ n m. m ≡ n → ⊥)
 

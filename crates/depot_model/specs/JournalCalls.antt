@@ -1,4 +1,4 @@
--- What a call leaves of a journal on a disk, whatever keeps that: a node, or a store.
+-- What a call does to a journal on a disk, whatever keeps that: a node, or a store.
 use Rattle.std.specs.Prelude.{◌≡◌, ◌↔◌, ◌⊎◌, ℕ, List, [], ◌++◌, Bool, true, false, IsTrue}
 use Rattle.depot_base.specs.Calls.{Made, made, FailsAmong}
 use Rattle.depot_base.specs.Disk.{LeavesOnly}
@@ -15,7 +15,7 @@ pub record JournalView (N : Type 0) : Type 1 where
   pub handle : N → ℕ
   pub faults : N → ℕ
   pub is_faultless : N → Type 0
-  -- whether the disk tells its bytes, the files that a stop may leave now, this moment, and the files that a stop since a moment might have left
+  -- whether the disk's bytes are visible, the crash images now, this moment, and the crash images since a moment
   pub tells : N → Bool
   pub may_leave : N → List ℕ → Type 0
   pub moment : N → ℕ
@@ -40,24 +40,25 @@ journal_within part v = record {
   after = λ n calls m. v.after (part n) calls (part m);
 }
 
--- where its disk tells its bytes, each file that a stop may leave now has all its records
+-- where its disk's bytes are visible, each crash image now has all its records
 abbrev pub IsStable : {N : Type 0} → JournalView N → N → Type 0
 IsStable v n = IsTrue (v.tells n) → LeavesAll (v.records n) (v.stopped n) (v.may_leave n)
 
--- in the meantime nothing was done to the disk: no moment came, and no file that a stop may leave
+-- in the meantime nothing was done to the disk: no moment came, and no crash image
 pub record IsUntouched {N : Type 0} (v : JournalView N) (old new : N) : Type 0 where
   pub same_moment : v.moment new ≡ v.moment old
   pub no_more : (t : ℕ) (file : List ℕ) → v.left_since new t file → v.left_since old t file
 
--- What a stop may leave of a journal in a call that appends these records, and after it.
+-- The crash images of a journal in a call that appends these records, and after it.
 pub record Lasts {N : Type 0} (v : JournalView N) (old new : N) (appends : List Record) : Type 0 where
-  -- its disk tells its bytes as before
+  -- its disk's bytes are visible as before
   pub told : v.tells new ≡ v.tells old
-  -- at every moment of a call where it isn't stopped: the records from before, and then a front of those that the call appends
+  -- at every moment of a call where it isn't stopped: the records from before, and then a prefix of those that the call
+  -- appends
   pub any_moment : IsTrue (v.tells old) → v.stopped old ≡ false → LeavesOnly v.moment v.left_since old new (HasFront (v.records old) appends)
   -- afterwards: all its records
   pub stable : IsStable v new
-  -- where it is stopped, no disk is touched
+  -- where it is stopped, the disk isn't accessed
   pub untouched : v.stopped old ≡ true → IsUntouched v old new
 
 -- What a call, which appends these records to a journal, does on its disk.
@@ -75,19 +76,19 @@ pub record StopsBy (before now : Bool) (stopped failed : Type 0) : Type 0 where
   pub answered : stopped ↔ (before ≡ true)
   pub left : (now ≡ true) ↔ ((before ≡ true) ⊎ failed)
 
--- The call used its own disk and no other, and answered that it failed exactly where its count of faults rose. A disk that never fails
--- by itself stays one.
+-- The call used its own disk and no other, and answered that it failed exactly where its count of faults rose. A disk
+-- that never fails by itself stays one.
 pub record KeepsDisk {N : Type 0} (v : JournalView N) (old new : N) (failed : Type 0) : Type 0 where
   pub same : v.handle new ≡ v.handle old
   pub cause : HasCause (v.faults old) (v.faults new) failed
   pub calm : v.is_faultless old → v.is_faultless new × (v.faults new ≡ v.faults old)
 
--- What a call that was to append these records leaves of a journal on a disk, and what a stop in it leaves. Which of its answers say that
--- it was stopped, that the disk failed, and that nothing was appended, is said of it.
+-- What a call that is asked to append these records does to a journal on a disk, and its crash images. Which of its
+-- answers say that it was stopped, that the disk failed, and that nothing was appended, is a parameter.
 pub record IsJournalCall {N : Type 0} (v : JournalView N) (old new : N) (appends : List Record) (stopped failed nothing : Type 0) : Type 0 where
   pub stops : StopsBy (v.stopped old) (v.stopped new) stopped failed
   pub disk : KeepsDisk v old new failed
   pub lasts : Lasts v old new appends
   pub calls : CallsDisk v old new appends failed
-  -- of a call that answers that it appended nothing, a stop leaves nothing of these records
+  -- where a call answers that it appended nothing, no crash image has any of these records
   pub idle : nothing → Lasts v old new []

@@ -1,4 +1,4 @@
--- The latest writes of a key as a list, in a list in which each parent stands before its children.
+-- The latest writes of a key as a list, in a list in which each parent comes before its children.
 use Rattle.std.specs.Prelude.{ℕ, List, filter, Bool, not, ◌&&◌}
 use Rattle.std.specs.List.{list_any}
 use Rattle.std.specs.Ordering.{is_lt}
@@ -9,7 +9,7 @@ use Rattle.depot_model.specs.Order.{past, listed}
 use Rattle.depot_model.specs.Texts.{id_of_update}
 use Rattle.depot_model.specs.Insertion.{order_by}
 
--- one update stands before another in the listed order
+-- one update comes before another in the listed order
 abbrev pub is_listed_before : Update → Update → Bool
 is_listed_before t u = is_lt (listed t u)
 

@@ -26,7 +26,7 @@ first [] = None
 first (None ∷ os) = first os
 first (Some x ∷ os) = Some x
 
--- no element stands twice
+-- no element occurs twice
 abbrev pub AreApart : {X : Type 0} → List X → Type 0
 AreApart [] = Unit {0}
 AreApart (x ∷ xs) = (IsIn x xs → ⊥) × AreApart xs

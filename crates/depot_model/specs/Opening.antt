@@ -20,11 +20,11 @@ use Rattle.depot_model.specs.Texts.{hash_of_roster}
 unfoldable pub checkpoint_of : Setting → List Record → Checkpoint
 checkpoint_of here J = record { roster = hash_of_roster here.listed; leaves = map named_leaf (by_id (leaves_of (accepted J))) }
 
--- what a node answers where it is to make a checkpoint
+-- what a node answers when asked to make a checkpoint
 pub data MadeCheckpoint : Type 0 where
   -- nothing was accepted
   no_leaves : MadeCheckpoint
-  -- there are so many leaves, more than 1,024
+  -- there are this many leaves, more than 1,024
   many_leaves : ℕ → MadeCheckpoint
   -- the checkpoint's text
   made_text : List ℕ → MadeCheckpoint
@@ -51,7 +51,7 @@ ids_of c = map (λ l. l.id) c.leaves
 
 -- ---- opening one
 
--- what a node makes of a text that is given as a checkpoint's
+-- what a node answers to a text that is given as a checkpoint's
 pub data Opened : Type 0 where
   -- it is none, and goes wrong at this offset
   ill_at : ℕ → Opened
@@ -62,7 +62,7 @@ pub data Opened : Type 0 where
   -- all is well: the listed ids
   opened : List (List ℕ) → Opened
 
--- what the leaves of a checkpoint of the node's roster come to
+-- the result for the leaves of a checkpoint of the node's roster
 abbrev pub opened_unless : List (List ℕ) → Option (List ℕ) → Opened
 opened_unless ids (Some id) = with_unknown id
 opened_unless ids None = opened ids

@@ -48,12 +48,12 @@ Precedes among = Leads (IsParent among)
 abbrev pub is_named : Update → List Update → Bool
 is_named t us = list_any (λ u. is_among (id_of_update t) (parents u)) us
 
--- The past of u in a list, in which each parent stands before its children: what u names, or something in its past does.
+-- The past of u in a list, in which each parent comes before its children: what u names, or something in its past does.
 unfoldable pub past : Update → List Update → List Update
 past u [] = []
 past u (t ∷ ts) = if is_named t (u ∷ past u ts) then t ∷ past u ts else past u ts
 
--- Each parent of each update stands before it, and no id stands twice; these ids stand before them all.
+-- Each parent of each update comes before it, and no id occurs twice; these ids come before them all.
 unfoldable pub IsCausal : List (List ℕ) → List Update → Type 0
 IsCausal ids [] = Unit {0}
 IsCausal ids (u ∷ us) = AllByRecursion (λ h. IsIn h ids) (parents u) × ((IsIn (id_of_update u) ids → ⊥) × IsCausal (id_of_update u ∷ ids) us)
@@ -64,7 +64,7 @@ IsCausal ids (u ∷ us) = AllByRecursion (λ h. IsIn h ids) (parents u) × ((IsI
 abbrev pub listed : Update → Update → Ordering
 listed t u = ordering_then (nat_cmp t.clock u.clock) (ordering_then (nat_cmp t.writer u.writer) (ordering_then (nat_cmp t.seq u.seq) (slice_cmp nat_cmp (id_of_update t) (id_of_update u))))
 
--- each stands in the listed order before all that come after it
+-- each is in the listed order before all that come after it
 abbrev pub RisesStrictly : List Update → Type 0
 RisesStrictly = AllPairsByRecursion (λ t u. is_lt (listed t u) ≡ true)
 

@@ -1,4 +1,4 @@
--- A journal without the signed statements of trimmed updates, which a reader's checks are asked of; and what stands below.
+-- A journal without the signed statements of trimmed updates, over which a reader's checks are run; and what is below.
 use Rattle.std.specs.Prelude.{◌≡◌, ℕ, List, [], ◌∷◌, map, find, Bool, not, ◌||◌, ◌==◌, Option, None, is_some, option_map, if◌then◌else◌}
 use Rattle.std.specs.List.{list_any}
 use Rattle.depot_base.specs.Statement.{writer_of}
@@ -27,7 +27,7 @@ abbrev pub pruned_statement : List Update → Signed → Statement → Record
 pruned_statement trimmed s (statement.Update u) = if has_id trimmed (id_of_update u) then OwnPut u [] else Foreign s
 pruned_statement trimmed s (statement.Voucher v) = Foreign s
 
--- a record of another's update that is given up tells it as a put, without its signature
+-- a record of another's update that is given up is seen as a put, without its signature
 abbrev pub pruned_by : List Update → Record → Record
 pruned_by trimmed (Foreign s) = pruned_statement trimmed s s.statement
 pruned_by trimmed r = r
@@ -35,7 +35,7 @@ pruned_by trimmed r = r
 unfoldable pub pruned : List Update → List Record → List Record
 pruned trimmed J = map (pruned_by trimmed) J
 
--- ---- what stands below
+-- ---- what is below
 
 -- the checks of the writer and of the signature, which come before all that asks the journal
 abbrev pub checks_to_signature : Setting → Signed → List (Option Check)

@@ -1,4 +1,4 @@
--- What a node answers to a put, and what its journal is then.
+-- What a node answers to a put, and the journal after it.
 use Rattle.std.specs.Prelude.{◌≡◌, ◌≢◌, List, [], ◌∷◌, ◌++◌, Some, None, Result, Ok, Err, IsErrAnd, IsErrOf}
 use Rattle.std.specs.List.{AllByRecursion}
 use Rattle.depot_base.specs.Sized.{IsKey, IsValue}
@@ -21,7 +21,7 @@ use Rattle.depot_model.specs.declared.put_answers.PutError.TheVariants as refuse
 abbrev pub HasSizes : Change → Type 0
 HasSizes c = IsKey c.key × AllByRecursion IsValue (value_in_change c)
 
--- what is told of an update that was put
+-- what is said of an update that was put
 abbrev pub put_done_of : Update → PutDone
 put_done_of u = record { id = id_of_update u; seq = u.seq; clock = u.clock }
 
@@ -33,8 +33,8 @@ put_records here J changes = OwnPut (next_own here.me J changes) (values_of chan
 abbrev pub IsLimited : Setting → List Record → List Change → Limit → List Record → Type 0
 IsLimited here J changes limit then = (limit_of_put here J changes ≡ Some limit) × (then ≡ J)
 
--- What a node answers to a put of changes, and the journal after it. Memory may stand in place of each answer, and
--- then nothing is appended; nor is it by a stopped node.
+-- What a node answers to a put of changes, and the journal after it. Memory may come in place of each answer, and then
+-- nothing is appended; nor is it by a stopped node.
 abbrev pub Puts : Setting → List Record → List Change → Result PutDone PutError → List Record → Type 0
 Puts here J changes (Ok done) then = (limit_of_put here J changes ≡ None) × ((done ≡ put_done_of (next_own here.me J changes)) × (then ≡ J ++ put_records here J changes))
 Puts here J changes (Err refused.Memory) then = then ≡ J
@@ -45,7 +45,7 @@ Puts here J changes (Err (refused.Tips n)) then = IsLimited here J changes (tips
 Puts here J changes (Err (refused.Collides h)) then = IsLimited here J changes (collides h) then
 Puts here J changes (Err (refused.Full what)) then = IsLimited here J changes (full what) then
 
--- the call was to put these changes, and answered so; after each error but Disk nothing is appended
+-- the call was asked to put these changes, and answered so; after each error but Disk nothing is appended
 abbrev pub IsPutCall : {N : Type 0} → Ghosts N → N → N → List Change → Result PutDone PutError → Type 0
 IsPutCall g old new changes result =
     IsNodeCall g old new (put_records (g.stands old) (g.records old) changes)

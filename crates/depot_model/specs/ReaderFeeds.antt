@@ -9,7 +9,8 @@ use Rattle.depot_model.specs.Feeding.{form_of}
 use Rattle.depot_model.specs.Frames.{Frame, whole_frame, open_frame, no_frame, frame_at}
 use Rattle.depot_model.specs.Readers.{Reader, stands_below, too_full, told, reader_takes}
 
--- The frames in front of a stream, as long as they are whole: at most so many, and up to an End frame, which isn't one of them.
+-- The frames before a stream, as long as they are whole: at most this many, and up to an End frame, which isn't one of
+-- them.
 unfoldable pub frames_from : ℕ → List ℕ → List Frame
 frames_from zero bytes = []
 frames_from (suc n) bytes = elim (frame_at bytes) [
@@ -18,7 +19,8 @@ frames_from (suc n) bytes = elim (frame_at bytes) [
   | no_frame ↦ []
 ]
 
--- what a reader made of frames: itself after them, how many were New, Known, refused, and stood below, and the limit that was met
+-- what a reader made of frames: itself after them, how many were New, Known, refused, and was below, and the limit that
+-- was met
 pub record ReaderFeed : Type 0 where
   pub reader : Reader
   pub accepted : ℕ
@@ -37,7 +39,8 @@ told_more (Ok New) R s = record s { reader = R; accepted = s.accepted + 1 }
 told_more (Ok Known) R s = record s { reader = R; known = s.known + 1 }
 told_more (Err c) R s = record s { reader = R; refused = s.refused + 1 }
 
--- The frames are taken one by one, up to the first for which there is no room. A refusal may convict, so the reader goes on from it too.
+-- The frames are taken one by one, up to the first for which there is no room. A refusal may convict, so the reader
+-- continues from it too.
 unfoldable pub reader_fed : ReaderFeed → List Frame → ReaderFeed
 reader_fed s [] = s
 reader_fed s (f ∷ fs) = elim (reader_takes s.reader (form_of f.tag) f.payload) [

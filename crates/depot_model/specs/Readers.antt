@@ -1,4 +1,4 @@
--- A reader: what it keeps of a node's journal, and the journal that goes on with what it takes.
+-- A reader: what it keeps of a node's journal, and the journal extended by what it takes.
 use Rattle.std.specs.Prelude.{ℕ, List, [], ◌∷◌, ◌++◌, length, map, filter, find, Bool, not, ◌==◌, is_some, Option, Some, None, option_map, option_and_then, Result, Ok, Err, if◌then◌else◌}
 use Rattle.std.specs.Option.{option_map_or}
 use Rattle.sha2.specs.Sha256.{sha256}
@@ -28,7 +28,7 @@ use Rattle.depot_model.specs.World.{Shown}
 -- ---- a reader
 
 pub record Reader : Type 0 where
-  -- where the node stands that it was made from
+  -- the setting of the node that it was made from
   pub here : Setting
   -- the node's journal when it was trimmed, and then what the reader took
   pub journal : List Record
@@ -60,7 +60,7 @@ reader_of here J ids =
 unfoldable pub unsigned_node : Setting → List Record → List ℕ → List (List ℕ) → Option ℕ
 unsigned_node here J text ids = option_map (λ e. e.node) (find (λ e. not (is_signed_by J text ids e.node)) here.listed)
 
--- what a node answers where a reader is to be made of it
+-- what a node answers when asked to make a reader
 pub data TrimAnswer : Type 0 where
   -- the text isn't opened
   unopened : Opened → TrimAnswer

@@ -1,4 +1,4 @@
--- What a call on a node leaves.
+-- What a call does to a node.
 use Rattle.std.specs.Prelude.{◌≡◌, ◌≢◌, ℕ, List, Result, IsErrAnd, IsErrOf}
 use Rattle.depot_base.specs.declared.record.Record.{Record}
 use Rattle.depot_model.specs.JournalCalls.{JournalView, IsJournalCall}
@@ -27,24 +27,25 @@ journal_of g = record {
   after = g.after;
 }
 
--- The node is who it was: it stands where it stood, under its key, and its signer gives what it gave.
+-- The node is who it was: it has the same setting and key, and its signer gives what it gave.
 pub record IsSameNode {N : Type 0} (g : Ghosts N) (old new : N) : Type 0 where
   pub stands : g.stands new ≡ g.stands old
   pub key : g.key new ≡ g.key old
   pub signs : g.signature_of new ≡ g.signature_of old
 
--- What a call on a node leaves: the node is who it was, and its journal grows as a call that was to append these records leaves it.
+-- What a call on a node does: the node is who it was, and its journal changes as by a call that is asked to append
+-- these records.
 pub record IsNodeCall {N : Type 0} (g : Ghosts N) (old new : N) (appends : List Record) (stopped failed nothing : Type 0) : Type 0 where
   pub same : IsSameNode g old new
   pub journal : IsJournalCall (journal_of g) old new appends stopped failed nothing
 
--- the call was given a text of this form, and answered so; after Memory nothing is appended
+-- the call was given a text of this form, and answered so; on `Memory` nothing is appended
 abbrev pub IsTakeCall : {N : Type 0} → Ghosts N → Form → N → N → List ℕ → Result Taken TakeError → Type 0
 IsTakeCall g form old new text result =
     IsNodeCall g old new (growth_of_text (g.stands old) (g.records old) form text)
     (IsErrOf result refused.Stopped) (IsErrOf result refused.Disk) (IsErrOf result refused.Memory)
 
--- the call was to vouch for these ids, and answered so; after each error but Disk nothing is appended
+-- the call was asked to vouch for these ids, and answered so; after each error but Disk nothing is appended
 abbrev pub IsVoucherCall : {N : Type 0} → Ghosts N → N → N → List (List ℕ) → Result (Unit {0}) VoucherError → Type 0
 IsVoucherCall g old new ids result =
     IsNodeCall g old new (records_of (new_vouchers (g.stands old).me (g.records old) ids))

@@ -24,25 +24,25 @@ takes_update r = []
 abbrev pub take_an_update : List Record → Bool
 take_an_update new = nat_lt 0 (length (flat_map takes_update new))
 
--- how many leaves of other writers count with these records behind a journal: all that there are then, where one of the
+-- how many leaves of other writers count with these records after a journal: all that there are then, where one of the
 -- records takes an update of another, and else none
 abbrev pub leaves_counted : ℕ → List Record → List Record → Option ℕ
 leaves_counted me J new = when (take_an_update new) (length (foreign_leaves me (J ++ new)))
 
--- the limit of leaves, where so many count then, with the number now
+-- the limit of leaves, where this many count then, with the number now
 abbrev pub leaves_passed : ℕ → Option ℕ → Option Full
 leaves_passed leaves None = None
 leaves_passed leaves (Some leaves_then) = when (nat_lt MOST_FOREIGN_LEAVES leaves_then) (record { what = full_of.Writers; number = leaves })
 
--- The first limit that is passed, of records, bytes and leaves of other writers, where a journal has so many of each now and
--- will have so many then; with the number now. None where all are kept.
+-- The first limit that is passed, of records, bytes and leaves of other writers, where a journal has these numbers of
+-- them now and will have those; with the number now. None where all are kept.
 abbrev pub limit_passed : ℕ → ℕ → ℕ → ℕ → ℕ → Option ℕ → Option Full
 limit_passed records bytes leaves records_then bytes_then leaves_then = first (
     when (nat_lt MOST_RECORDS records_then) (record { what = full_of.Records; number = records }) ∷
     when (nat_lt MOST_JOURNAL bytes_then) (record { what = full_of.Bytes; number = bytes }) ∷
     leaves_passed leaves leaves_then ∷ [])
 
--- the limit that a journal would pass with these records behind it; none where there is room
+-- the limit that a journal would pass with these records after it; none where there is room
 unfoldable pub full_with : ℕ → List Record → List Record → Option Full
 full_with me J new = limit_passed (length J) (journal_bytes J) (length (foreign_leaves me J)) (length (J ++ new)) (journal_bytes (J ++ new)) (leaves_counted me J new)
 

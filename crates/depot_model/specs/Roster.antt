@@ -1,4 +1,4 @@
--- What a roster tells of its nodes.
+-- What a roster says of its nodes.
 use Rattle.std.specs.Prelude.{ℕ, List, [], ◌∷◌, Bool, false, ◌==◌, is_some, Option, Some, None, if◌then◌else◌}
 use Rattle.std.specs.Option.{option_map_or}
 use Rattle.depot_base.specs.Statement.{writer_of, seq_of}

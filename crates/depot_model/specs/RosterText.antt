@@ -11,14 +11,15 @@ use Rattle.depot_model.specs.declared.roster_format.RosterError.{RosterError}
 use Rattle.depot_model.specs.declared.roster_format.RosterError.TheVariants as error
 use Rattle.depot_model.specs.Texts.{IsRoster, text_of_roster, roster}
 
--- the version and the kind are a roster's, and a count over 256 stands behind them
+-- the version and the kind are a roster's, and a count over 256 follows them
 pub record HasGreatCount (text : List ℕ) (count : ℕ) : Type 0 where
   pub rest : List ℕ
   pub parts : text ≡ 1 ∷ 4 ∷ (numeral w16 count ++ rest)
   pub fits : count < 2 ^ 16
   pub great : MOST_NODES < count
 
--- Good entries stand in front, fewer than are counted, and behind them a whole entry with good fields, which names the node of the last of them.
+-- Good entries come first, fewer than are counted, and after them a whole entry with good fields, which names the node
+-- of the last of them.
 pub record RepeatsNode (text : List ℕ) (node : ℕ) : Type 0 where
   pub count : ℕ
   pub front : List RosterEntry
@@ -33,7 +34,7 @@ pub record RepeatsNode (text : List ℕ) (node : ℕ) : Type 0 where
   pub first : before.node ≡ node
   pub second : again.node ≡ node
 
--- The text goes wrong at this offset, and not by a count over 256 or by a node that stands in it twice.
+-- The text goes wrong at this offset, and not by a count over 256 or by a node that is in it twice.
 pub record GoesWrongAt (text : List ℕ) (at : ℕ) : Type 0 where
   pub fault : FirstFault roster text at
   pub no_count : (count : ℕ) → HasGreatCount text count → ⊥
@@ -51,7 +52,7 @@ pub record ParsesRoster (text : List ℕ) (result : Result (List RosterEntry) Ro
   -- what is given is the roster with this text, and a roster with this text is given
   pub found : (r : List RosterEntry) → result ≡ Ok r → IsRoster r × (text ≡ text_of_roster r)
   pub only : (r : List RosterEntry) → IsRoster r → text ≡ text_of_roster r → (result ≡ Err error.Memory) ⊎ (result ≡ Ok r)
-  -- an error is why the text is no roster's, and where it is none the error is told
+  -- an error is why the text is no roster's, and where it is none the error is reported
   pub refused : (e : RosterError) → result ≡ Err e → (e ≡ error.Memory) ⊎ IsRefusedFor text e
   pub told : (e : RosterError) → IsRefusedFor text e → (result ≡ Err error.Memory) ⊎ (result ≡ Err e)
 

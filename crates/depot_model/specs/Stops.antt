@@ -1,6 +1,6 @@
--- What a stop at any moment leaves of a node's journal.
+-- What every crash image of the call has of a node's journal.
 --
--- A stop leaves a file. The node is started again from the records of that file, so these are what has to last.
+-- A stop leaves a crash image. The node is started again from the records of that file, so these are what has to last.
 use Rattle.std.specs.Prelude.{◌≡◌, ℕ, List, [], ◌++◌, length, map, take, Bool, false}
 use Rattle.depot_base.specs.Calls.{Call, calls_to_append_all}
 use Rattle.depot_base.specs.File.{IsFileOf, blocks}
@@ -11,19 +11,19 @@ use Rattle.depot_model.specs.Records.{text_of_record}
 abbrev pub HasRecords : List Record → List ℕ → Type 0
 HasRecords J file = IsFileOf file (map text_of_record J)
 
--- the records of the file are these, and then a front of those that a call appends
+-- the records of the file are these, and then a prefix of those that a call appends
 pub record HasFront (J new : List Record) (file : List ℕ) : Type 0 where
   pub count : ℕ
   pub has : HasRecords (J ++ take count new) file
 
--- The records of the file are these. Behind them stands nothing but, once the disk failed, maybe more, of which what holds at every
--- moment of a call says which.
+-- The records of the file are these. Nothing follows them, unless the disk failed: then more may, as the property of
+-- every moment of a call says.
 pub record HasAll (J : List Record) (stopped : Bool) (file : List ℕ) : Type 0 where
   pub more : List (List ℕ)
   pub has : IsFileOf file (map text_of_record J ++ more)
   pub none : stopped ≡ false → more ≡ []
 
--- each file that a stop may leave now has all records of the node
+-- each crash image now has all records of the node
 abbrev pub LeavesAll : List Record → Bool → (List ℕ → Type 0) → Type 0
 LeavesAll J stopped images = (file : List ℕ) → images file → HasAll J stopped file
 

@@ -89,9 +89,9 @@ pub record IsCutByDisk (here : Setting) (J : List Record) (x : Given) (then : Li
 abbrev pub OfGiven : {V : Type 0} → Closed V → (V → Given) → List ℕ → (Given → Type 0) → Type 0
 OfGiven {V} f give text P = (v : V) × (f.fits v × ((text ≡ f.text v) × P (give v)))
 
--- The answer to a text of a form, and the journal after it. A text of another form is refused as ill-formed at its first
--- fault. Memory may stand in place of each answer, and then nothing is appended; nor is it by a stopped node. Where the disk
--- fails, the records before the failing one were appended.
+-- The answer to a text of a form, and the journal after it. A text of another form is refused as ill-formed at its
+-- first fault. Memory may come in place of each answer, and then nothing is appended; nor is it by a stopped node.
+-- Where the disk fails, the records before the failing one were appended.
 abbrev pub Takes : {V : Type 0} → Closed V → (V → Given) → Setting → List Record → List ℕ → Result Taken TakeError → List Record → Type 0
 Takes f give here J text (Ok taken) then = OfGiven f give text (λ x. IsAnswered here J x (Ok taken) then)
 Takes f give here J text (Err refused.Memory) then = then ≡ J
@@ -117,15 +117,15 @@ TakesAs as_statement = TakesStatement
 TakesAs as_proof = TakesProof
 TakesAs as_value = TakesValue
 
--- The answer isn't one that want of memory or the disk gave in place of another.
+-- The answer isn't one that lack of memory or the disk gave in place of another.
 abbrev pub IsUndisturbed : Result Taken TakeError → Type 0
 IsUndisturbed (Err refused.Memory) = ⊥
 IsUndisturbed (Err refused.Disk) = ⊥
 IsUndisturbed (Err refused.Stopped) = ⊥
 IsUndisturbed other = Unit {0}
 
--- Texts of a form have one answer: where neither memory nor the disk gave out, what is answered and what the journal is then are
--- the functions'.
+-- Texts of a form have one answer: unless memory runs out or the disk fails, the functions give the answer and the
+-- journal after it.
 abbrev pub HaveOneAnswer : Form → Type 0
 HaveOneAnswer form = (here : Setting) (J : List Record) (text : List ℕ) (result : Result Taken TakeError) (then : List Record)
     → TakesAs form here J text result then → IsUndisturbed result

@@ -37,14 +37,14 @@ pub record Trace : Type 0 where
 abbrev pub answered : Shown → Answered
 answered s = record { id = id_of_update s.update; shown = s.seen }
 
--- a read of a trace is what the journal showed; the read before it was made at so many records
+-- a read of a trace is what the journal showed; the read before it was made at this many records
 pub record IsRightRead (J : List Record) (last : ℕ) (r : ReadTrace) : Type 0 where
   pub begun : 0 < r.length
   pub later : last ≤ r.length
   pub within : r.length ≤ length J
   pub answer : r.answer ≡ map answered (shown_of (take r.length J) r.key)
 
--- all are, the first behind one at so many records
+-- all are, where the one before the first saw this many records
 abbrev pub AreRightReads : List Record → ℕ → List ReadTrace → Type 0
 AreRightReads J last [] = Unit {0}
 AreRightReads J last (r ∷ rs) = IsRightRead J last r × AreRightReads J r.length rs
@@ -56,7 +56,7 @@ last_length n (r ∷ rs) = last_length r.length rs
 
 -- ---- nodes
 
--- where a node of a trace stands
+-- the setting of a node of a trace
 abbrev pub at_node : Verifies → List RosterEntry → Trace → Setting
 at_node verifies listed t = record { verifies = verifies; me = t.node; listed = listed }
 
@@ -86,7 +86,7 @@ pub record IsFirstBad (verifies : Verifies) (listed : List RosterEntry) (t : Tra
 
 -- ---- findings
 
--- put in front of the first of a higher node
+-- put before the first of a higher node
 unfoldable pub put_by_node : Trace → List Trace → List Trace
 put_by_node t [] = t ∷ []
 put_by_node t (x ∷ xs) = if nat_lt x.node t.node then x ∷ put_by_node t xs else t ∷ x ∷ xs
@@ -133,7 +133,7 @@ IsFindingOf verifies listed traces (answer_found n place) = AllByRecursion (IsLa
     × FirstAt (HasRightReads verifies listed) (by_node traces) (λ t. (t.node ≡ n) × IsFirstBad verifies listed t place)
 IsFindingOf verifies listed traces f = (W : World) × (AreTraced verifies listed traces W × (finding_in W ≡ f))
 
--- the traces make a world, which is fork-join-causal, and in which no conviction names a node
+-- the traces make a world, which is fork-join causal, and in which no conviction names a node
 pub record IsCausalWorldOf (verifies : Verifies) (listed : List RosterEntry) (traces : List Trace) : Type 0 where
   pub world : World
   pub traced : AreTraced verifies listed traces world

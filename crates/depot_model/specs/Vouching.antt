@@ -45,12 +45,12 @@ rising (h ∷ hs) = put_rising h (rising hs)
 
 -- ---- groups
 
--- one more in front of the first group
+-- one more before the first group
 abbrev pub into_first : {X : Type 0} → X → List (List X) → List (List X)
 into_first x [] = (x ∷ []) ∷ []
 into_first x (g ∷ gs) = (x ∷ g) ∷ gs
 
--- groups of a size, where the first has room for so many
+-- groups of a size, where the first has room for this many
 unfoldable pub groups_behind : {X : Type 0} → ℕ → ℕ → List X → List (List X)
 groups_behind size room [] = [] ∷ []
 groups_behind size zero (x ∷ xs) = [] ∷ into_first x (groups_behind size (size - 1) xs)
@@ -84,8 +84,8 @@ limit_of_new here J vs = first (spent_by here J (length vs) ∷ option_map full 
 unfoldable pub limit_of_vouchers : Setting → List Record → List (List ℕ) → Option Limit
 limit_of_vouchers here J ids = limit_of_new here J (new_vouchers here.me J ids)
 
--- What a node answers where it is to vouch for these ids, and the journal after it. Memory may stand in place of each answer,
--- and then nothing is appended; nor is it by a stopped node, or where a limit is met.
+-- What a node answers where it is to vouch for these ids, and the journal after it. Memory may come in place of each
+-- answer, and then nothing is appended; nor is it by a stopped node, or where a limit is met.
 abbrev pub Vouches : Setting → List Record → List (List ℕ) → Result (Unit {0}) VoucherError → List Record → Type 0
 Vouches here J ids (Ok done) after = (limit_of_vouchers here J ids ≡ None) × (after ≡ J ++ records_of (new_vouchers here.me J ids))
 Vouches here J ids (Err refused.Memory) after = after ≡ J

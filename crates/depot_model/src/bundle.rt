@@ -1,13 +1,13 @@
-//! What is told of a bundle, and of a stream that was fed.
+//! What a node reports of a bundle, and of a stream that it was fed.
 ghost use Rattle.std.specs.Prelude.{◌≡◌};
 ghost use Rattle.depot_model.specs.declared.bundle.VoucherError.TheVariants as voucher_error;
 
 use depot_base::{Check, Full, Memory, Sequence};
 
-/// Why a node makes no vouchers. It is as before, but after `Disk`.
+/// Why a node makes no vouchers. It is unchanged, except on `Disk`.
 #[derive(Clone, Copy, Debug, PartialEq, Eq)]
 pub enum VoucherError {
-    /// No memory was found.
+    /// Memory ran out.
     Memory,
     /// The disk failed; the node is stopped.
     Disk,
@@ -15,7 +15,7 @@ pub enum VoucherError {
     Stopped,
     /// There is no room for their records.
     Full(Full),
-    /// The node has made so many statements, and has too few leaves left to sign the vouchers.
+    /// The node has made this many statements, and too few leaves are left to sign the vouchers.
     Spent(u32),
 }
 
@@ -55,15 +55,15 @@ pub type Refusals = Sequence<Refusal>;
 /// How a stream ended.
 #[derive(Clone, Copy, Debug, PartialEq, Eq)]
 pub enum Ending {
-    /// A piece was answered with an error.
+    /// A piece got an error.
     Closed,
     /// An End frame said that nothing was left.
     Whole,
     /// An End frame said that there is more.
     More,
-    /// No End frame came, and no frame stands open.
+    /// No End frame came; the stream ends between frames.
     Bare,
-    /// No End frame came, and so many bytes of a frame stand open.
+    /// No End frame came; the stream ends after this many bytes of a frame.
     Cut(u32),
 }
 
@@ -74,7 +74,7 @@ pub struct Report {
     pub accepted: u32,
     /// How many were here before.
     pub known: u32,
-    /// Those that were refused.
+    /// The refused ones.
     pub refused: Refusals,
     /// How the stream ended.
     pub ending: Ending,

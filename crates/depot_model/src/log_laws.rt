@@ -11,7 +11,7 @@ pub fn logs_are_read_in_one_way()
     ensures one_fault { (bytes : List ℕ) (i j : ℕ) → IsLogFault bytes i → IsLogFault bytes j → i ≡ j }
 {}
 
-/// Where each parent in a log stands before its children, the same holds without the repeats, and no id stands twice.
+/// Where each parent in a log comes before its children, the same holds without the repeats, and no id occurs twice.
 pub fn firsts_keep_parents_before_children()
     ensures { (us : List Update) → first_orphan us ≡ None → IsCausal [] (firsts us) }
 {}

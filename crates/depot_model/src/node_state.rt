@@ -1,4 +1,4 @@
-//! What contracts see of a node.
+//! A node, as contracts see it.
 ghost use Rattle.std.specs.Prelude.{ℕ, List, Bool};
 ghost use Rattle.depot_base.specs.Calls.{Made};
 ghost use Rattle.depot_base.specs.declared.key.PublicKey.{PublicKey};
@@ -6,9 +6,9 @@ ghost use Rattle.depot_base.specs.declared.record.Record.{Record};
 ghost use Rattle.depot_model.specs.Bundle.{Signs};
 ghost use Rattle.depot_model.specs.Checks.{Setting};
 
-/// What contracts see of a node: who it is, its journal, and the disk on which it keeps that.
+/// A node, as contracts see it: who it is, its journal, and the disk on which it keeps that.
 pub trait NodeState {
-    /// Its scheme's answers, its own number and its roster.
+    /// Its setting: its scheme's answers, its own number and its roster.
     ghost stands: { Self → Setting };
 
     /// The records of its journal.
@@ -29,19 +29,19 @@ pub trait NodeState {
     /// How often that disk has failed.
     ghost faults: { Self → ℕ };
 
-    /// That disk never fails from now on. A node whose disk can't promise this leaves it out.
+    /// That disk never fails from now on. A node whose disk can't promise this keeps the default, which never holds.
     ghost is_faultless: { Self → Type 0 } = { λ _. ⊥ };
 
-    /// Whether that disk tells its bytes, and with them what a stop may leave.
+    /// Whether that disk's bytes and crash images are visible.
     ghost tells: { Self → Bool };
 
-    /// The files that a stop at this moment may leave on it.
+    /// The crash images of the disk at this moment.
     ghost may_leave: { Self → List ℕ → Type 0 };
 
     /// This moment of it, as a number that never falls.
     ghost moment: { Self → ℕ };
 
-    /// The files that a stop at some moment from this one on might have left.
+    /// The crash images of all moments since this one.
     ghost left_since: { Self → ℕ → List ℕ → Type 0 };
 
     /// The file on it, as it reads.

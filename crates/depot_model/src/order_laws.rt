@@ -4,14 +4,14 @@ ghost use Rattle.depot_base.specs.declared.update.Update.{Update};
 ghost use Rattle.depot_model.specs.Lists.{IsIn};
 ghost use Rattle.depot_model.specs.Order.{Precedes, past, IsCausal, AreLatestIn};
 
-/// In a list in which each parent stands before its children and no id stands twice, the past of an update is what
-/// precedes it: of one of the list, and of any that would stand behind it.
+/// In a list in which each parent comes before its children and no id occurs twice, the past of an update is what
+/// precedes it. That holds of each update of the list, and of any that would follow the list.
 pub fn past_is_what_precedes()
     ensures listed { (us : List Update) (u t : Update) → IsCausal [] us → IsIn u us → (IsIn t (past u us) ↔ Precedes us t u) }
     ensures next { (us : List Update) (u t : Update) → IsCausal [] us → (IsIn t (past u us) ↔ (IsIn t us × Precedes (us ++ u ∷ []) t u)) }
 {}
 
-/// The latest writes of a key in a list are one list: no two answers are right.
+/// A key has one list of latest writes: no two answers are right.
 pub fn latest_writes_are_one_list()
     ensures { (wanted : List ℕ) (among us vs : List Update) → AreLatestIn wanted among us → AreLatestIn wanted among vs → us ≡ vs }
 {}

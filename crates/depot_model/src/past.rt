@@ -1,4 +1,4 @@
-//! What a set of accepted updates tells.
+//! A set of accepted updates.
 ghost use Rattle.std.specs.Prelude.{◌≡◌, ◌<◌, ◌+◌, ◌↔◌, List, [], length, IsTrue, Some, slice_get};
 ghost use Rattle.depot_base.specs.declared.update.Update.{Update};
 ghost use Rattle.depot_model.specs.Texts.{id_of_update};

@@ -1,4 +1,4 @@
-//! What a node tells others of what it has.
+//! The calls by which a node makes hellos and bundles.
 ghost use Rattle.std.specs.Prelude.{◌≡◌, [], ◌∷◌, true, false, length, map, Some, IfOk, option_copied, option_to_list, slice_get};
 ghost use Rattle.std.specs.List.{AllByRecursion};
 ghost use Rattle.depot_base.specs.declared.record.Record.{Record};
@@ -13,8 +13,8 @@ ghost use Rattle.depot_model.specs.Vouching.{Vouches, is_mine_vouched};
 use crate::{HelloLeaves, Replica, VoucherError};
 use depot_base::{Bytes, Hash32, Ids, Items, Memory, NodeId, Nodes, Update};
 
-/// A replica that tells others what it has, and vouches for what it took. Of what it has accepted a node that is stopped tells no
-/// more than the texts of its records and of its signed statements.
+/// A replica that makes hellos and bundles from what it has, and vouches for what it took. A stopped node still gives
+/// the texts of its records and of its signed statements, and nothing else of what it has accepted.
 pub trait Peer: Replica {
     /// The convicted nodes, in rising order.
     fn convicted(&self) -> Result<Nodes, Memory>
@@ -76,10 +76,11 @@ pub trait Peer: Replica {
         requires { Self.stopped self.now ≡ false }
         ensures { result ≡ is_mine_vouched (Self.records self.now) id.now };
 
-    /// Vouches for accepted updates of others that it hasn't vouched for: one own voucher for each 256 ids in the order given. All
-    /// are appended or none; but after Disk those before the failing one stand, and the node is stopped. `Spent` comes exactly where the vouchers would pass the leaves of its tree, with the number of its statements, and
-    /// else `Full` exactly where there is no room for them. A stop at any moment leaves the records from before and a front of the
-    /// vouchers; of a call that answers another error than Disk, none of these.
+    /// Vouches for accepted updates of others that it hasn't vouched for: one own voucher for each 256 ids, in the
+    /// order given. Appends all of them or none. On `Disk` those before the failing one are appended, and the node is
+    /// stopped. `Spent` comes exactly where the vouchers would pass the leaves of its tree, with the number of its
+    /// statements; else `Full` comes exactly where there is no room for them. Every crash image of the call has the
+    /// records from before and a prefix of the vouchers; on an error other than `Disk`, none of the vouchers.
     fn own_vouchers(&mut self, ids: &Ids) -> Result<(), VoucherError>
         requires apart { AreApart ids.now }
         requires foreign { AllByRecursion (λ h. is_foreign (Self.stands self.old).me (accepted (Self.records self.old)) h ≡ true) ids.now }

@@ -1,4 +1,4 @@
-//! What a put answers.
+//! What a put returns.
 ghost use Rattle.std.specs.Prelude.{◌≡◌};
 ghost use Rattle.depot_model.specs.declared.put_answers.PutError.TheVariants as put_error;
 
@@ -15,18 +15,18 @@ pub struct PutDone {
     pub clock: u64,
 }
 
-/// Why a node puts nothing. It is as before, but after `Disk`.
+/// Why a put fails. The node is unchanged, except on `Disk`.
 #[derive(Clone, Copy, Debug, PartialEq, Eq)]
 pub enum PutError {
-    /// No memory was found.
+    /// Memory ran out.
     Memory,
     /// The disk failed; the node is stopped.
     Disk,
     /// The disk failed in an earlier call.
     Stopped,
-    /// The node has made so many statements, and has no leaf left to sign another.
+    /// The node has made this many statements, and no leaf is left to sign another.
     Spent(u32),
-    /// The update would have so many entries, more than 1,024.
+    /// The update would have this many entries, more than 1,024.
     Tips(u32),
     /// The update's id is 32 zero bytes or that of an accepted update.
     Collides(Hash32),

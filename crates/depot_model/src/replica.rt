@@ -1,4 +1,4 @@
-//! What others see of a node's journal, and give it.
+//! A node as others see it: what they read of its journal, and what they give it.
 ghost use Rattle.std.specs.Prelude.{◌≡◌, ◌<◌, ◌≤◌, ◌^◌, ◌++◌, ℕ, List, [], IsTrue, true, false, length, map, Some, slice_get};
 ghost use Rattle.depot_base.specs.Calls.{Made};
 ghost use Rattle.depot_base.specs.declared.limits.TheConstants.{MOST_SIGNATURE};
@@ -13,8 +13,8 @@ ghost use Rattle.depot_model.specs.Texts.{IsRoster, hash_of_roster};
 use crate::{NodeState, Scheme, TakeError, Taken};
 use depot_base::{Hash32, NodeId};
 
-/// A replica: a node with a journal, which takes what others give it. Calls that answer no Memory take none. A node that is stopped,
-/// since its disk failed, answers Stopped to each call that would change it.
+/// A replica: a node with a journal, which takes what others give it. A call that never returns Memory takes none. A
+/// node whose disk failed is stopped: each call that would change it returns Stopped.
 pub trait Replica: NodeState {
     /// The scheme by which it verifies signatures.
     type Of: Scheme;
@@ -31,7 +31,7 @@ pub trait Replica: NodeState {
     fn has_node(&self, node: NodeId) -> bool
         ensures { result ≡ has_node (Self.stands self.now).listed node };
 
-    /// Whether it is stopped. Its records stand in each file that a stop may leave.
+    /// Whether it is stopped. Its records are in every crash image.
     fn is_stopped(&self) -> bool
         ensures stopped { result ≡ Self.stopped self.now }
         ensures stable { IsTrue (Self.tells self.now) → LeavesAll (Self.records self.now) (Self.stopped self.now) (Self.may_leave self.now) };
@@ -45,21 +45,22 @@ pub trait Replica: NodeState {
         requires { place < length (Self.records self.now) }
         ensures { slice_get (map text_of_record (Self.records self.now)) place ≡ Some result.now };
 
-    /// Takes the text of a signed statement of others. Known and New, the first check that fails and Full come exactly
-    /// where the definition says, and the journal grows by what it says. After Memory and Full it is as before, after a
-    /// refused check too, but where a fork or a step back convicts the writer. After Disk the records before the failing one
-    /// stand, and the node is stopped. A stop at any moment leaves the records from before and a front of those that are appended;
-    /// of a call that answers Memory, none of these. On the disk it makes the calls that append records, and no other.
+    /// Takes the text of a signed statement of others. Known, New, the first check that fails, and Full come exactly
+    /// where the definition says, and the journal grows by what it says. On `Memory` and `Full` the node is unchanged;
+    /// so it is after a failed check, except where a fork or a step back convicts the writer. On `Disk` the records
+    /// before the failing one are appended, and the node is stopped. Every crash image of the call has the records from
+    /// before and a prefix of those that are appended; on `Memory`, none of these. On the disk the call makes the calls
+    /// that append records, and no other.
     fn take_statement(&mut self, text: &[u8]) -> Result<Taken, TakeError>
         ensures takes { TakesStatement (Self.stands self.old) (Self.records self.old) text.now result (Self.records self.new) }
         ensures call { IsTakeCall Self.NodeState as_statement self.old self.new text.now result };
 
-    /// The same of the text of a proof.
+    /// The same for the text of a proof.
     fn take_proof(&mut self, text: &[u8]) -> Result<Taken, TakeError>
         ensures takes { TakesProof (Self.stands self.old) (Self.records self.old) text.now result (Self.records self.new) }
         ensures call { IsTakeCall Self.NodeState as_proof self.old self.new text.now result };
 
-    /// The same of a value, whose text is its bytes.
+    /// The same for a value, whose text is its bytes.
     fn take_value(&mut self, text: &[u8]) -> Result<Taken, TakeError>
         ensures takes { TakesValue (Self.stands self.old) (Self.records self.old) text.now result (Self.records self.new) }
         ensures call { IsTakeCall Self.NodeState as_value self.old self.new text.now result };
@@ -67,10 +68,10 @@ pub trait Replica: NodeState {
     /// Its journal is lawful, whether it is stopped or not.
     ghost lawful: { (r : Self) → IsLawful (Self.stands r) (Self.records r) };
 
-    /// Its journal has a record: the birth stands first.
+    /// Its journal isn't empty: the birth comes first.
     ghost some: { (r : Self) → is_empty (Self.records r) ≡ false };
 
-    /// Its roster has a text, and in it its own key.
+    /// Its roster has a text, and its own key is in the roster.
     ghost formed: { (r : Self) → IsRoster (Self.stands r).listed };
 
     /// The key under which it signs is the roster's for it.

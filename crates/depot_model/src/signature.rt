@@ -15,7 +15,7 @@ pub trait Scheme: Drop {
         ensures { result ≡ verifies key.now seq body.now signature.now };
 }
 
-/// A scheme that is lent is a scheme with the same answers.
+/// A borrowed scheme is a scheme with the same answers.
 impl<S: Scheme> Scheme for &S {
     ghost verifies = { S.verifies };
 
@@ -24,7 +24,7 @@ impl<S: Scheme> Scheme for &S {
     }
 }
 
-/// Who signs under one key. Equal arguments give equal signatures.
+/// A signer: it signs under one key. Equal arguments give equal signatures.
 pub trait Signer: Drop {
     /// The scheme by which its signatures verify.
     type Of: Scheme;
@@ -32,7 +32,7 @@ pub trait Signer: Drop {
     /// Its public key.
     ghost key_of: { Self → PublicKey };
 
-    /// Its signature by a leaf of a body.
+    /// Its signature of a body by a leaf.
     ghost signature_of: { Self → ℕ → List ℕ → List ℕ };
 
     /// Its public key. It takes no memory.
@@ -51,7 +51,7 @@ pub trait Signer: Drop {
     ghost is_short: { (s : Self) (seq : ℕ) (body : List ℕ) → length (signature_of s seq body) ≤ MOST_SIGNATURE };
 }
 
-/// A signer that is lent is a signer with the same key and signatures.
+/// A borrowed signer is a signer with the same key and signatures.
 impl<G: Signer> Signer for &G {
     type Of = G::Of;
 

@@ -34,7 +34,7 @@ untrue e = cc
 
 -- ---- what may be answered
 
--- the memory found covers the texts of these records
+-- the reserved memory covers the texts of these records
 pub covers : {D : Type 0} (v : JournalContents D) (new : List Record) (more : List (List ℕ)) → AreTextsFor new more → length new ≤ v.room_records → bytes_of_records new ≤ v.room_bytes + 5 * length new → HasMemoryFor v more
 covers v new more u records bytes = (omega (arith, as_many new more u, records), omega (arith, as_many new more u, bytes, blocks_long new more u))
 
@@ -83,7 +83,7 @@ calls_of_texts : (J new : List Record) (texts more : List (List ℕ)) → AreTex
 calls_of_texts J new texts more t u =
     ap (λ (x : List (List ℕ)). calls_to_append_all (length (blocks x)) more) t.are ∙ ap (calls_to_append_all (length (blocks (map text_of_record J)))) u.are
 
--- all records of a store that runs are a front with none of the new ones
+-- all records of a store that runs are a prefix with none of the new ones
 none_of_new : (J new : List Record) (file : List ℕ) → HasAll J false file → HasFront J new file
 none_of_new J new file all = record {
   count = 0;

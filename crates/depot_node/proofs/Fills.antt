@@ -51,7 +51,7 @@ pub runs_after : {D : Type 0} (g : Ghosts D) (old new : Holding D) (appends : Li
 runs_after g old new appends call ran well = not_true new.stopped (λ now. elim (call.stops.left.0 now) [ inl before ↦ (let no = sym before ∙ ran in absurd cc) | inr is ↦ well is ])
 
 module _ {D : Type 0} (g : Ghosts D) (here : Setting) (old new : Holding D) where
-  -- a stop in it leaves what might have been left before, or a front of the birth
+  -- a crash image of it is one that was possible before, or a prefix of the birth
   fronts : (birth : List Record) → old.records ≡ [] → old.unread ≡ [] → LeavesOnly (λ (v : Holding D). g.moment v.disk) (λ (v : Holding D) (t : ℕ) (file : List ℕ). g.left_since v.disk t file) old new (HasFront old.records birth)
       → LeavesOnly g.moment g.left_since old.disk new.disk (LeavesNew birth (old.unread ≡ []) (g.may_leave old.disk))
   fronts birth none read l = record {
@@ -105,12 +105,12 @@ module _ {D : Type 0} (g : Ghosts D) (here : Setting) (old new : Holding D) wher
 
 -- ---- nothing is done to the disk
 
--- so a stop leaves what it might have left before
+-- so each crash image was possible before
 pub left_alone : {D : Type 0} (g : Ghosts D) → ((d : D) (image : List ℕ) → g.left_since d (g.moment d) image → g.may_leave d image) → (d end : D) (new : List Record) (none : Type 0) → end ≡ d → LeavesOnly g.moment g.left_since d end (LeavesNew new none (g.may_leave d))
 left_alone g only_now d end new none same = subst (λ (x : _). LeavesOnly g.moment g.left_since d x (LeavesNew new none (g.may_leave d))) (sym same)
     (record { later = omega arith; each = λ image left. inl (only_now d image left); before = λ t image at left. inl left })
 
--- the birth of another stands first
+-- the birth of another comes first
 pub other_not_filled : {D : Type 0} (g : Ghosts D) → ((d : D) (image : List ℕ) → g.left_since d (g.moment d) image → g.may_leave d image) → (here : Setting) (v : Holding D) (text : List ℕ) (rest : List (List ℕ)) (e : StartError) → v.unread ≡ text ∷ rest → AreOther here (text ∷ rest) e → IsNotFilled g here v v e
 other_not_filled g only_now here v text rest e next other = record {
   wrong = subst (λ (texts : List (List ℕ)). AreNotRead here texts e) (sym next) (other_not_read here (text ∷ rest) e other);

@@ -21,7 +21,7 @@ convicted : (p : Proof) (text : List ℕ) (b : Bool) → IsGiven (if b then [] e
 convicted p text true = tt
 convicted p text false = tt
 
--- a statement, maybe behind a conviction
+-- a statement, maybe after a conviction
 behind : (p : Proof) (s : Signed) (b : Bool) → IsGiven ((if b then [] else Conviction p ∷ []) ++ Foreign s ∷ []) (text_of_signed s)
 behind p s true = refl
 behind p s false = refl

@@ -24,7 +24,7 @@ records_of_texts (r ∷ rs) all = ap (λ (xs : List Record). xs ++ records_in_te
 
 -- ---- the records of a lawful journal
 
--- each has a text, also of those behind some
+-- each has a text, also of those after some
 pub all_fit : (here : Setting) (front J : List Record) → IsLawful here (front ++ J) → AllByRecursion IsRecord J
 all_fit here front [] l = tt
 all_fit here front (r ∷ J) l = ((l.each front r J refl).text, all_fit here (front ++ r ∷ []) J (subst (λ (x : List Record). IsLawful here x) (sym (append_assoc front (r ∷ []) J)) l))

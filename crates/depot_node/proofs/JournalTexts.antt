@@ -1,4 +1,4 @@
--- The records of a journal, and their texts as they stand on its disk.
+-- The records of a journal, and their texts as they are on its disk.
 use Rattle.std.proofs.Common.{◌≡◌, ◌≤◌, ◌^◌, ℕ, ◌+◌, zero, suc, Bool, List, [], ◌∷◌, ◌++◌, length, map, take, drop, refl, sym, ap, subst, ◌∙◌, arith, length-append, length-drop, append-nil}
 use Rattle.std.proofs.Math.Seq.{drop-append-add, drop-length, take-append-add, take-append_seam, take-length}
 use Rattle.std.specs.List.{AllByRecursion}
@@ -37,7 +37,7 @@ texts_for texts t = record { fit = t.fit; are = t.are }
 pub as_many : (J : List Record) (texts : List (List ℕ)) → AreTextsFor J texts → length texts ≡ length J
 as_many J texts t = ap length t.are ∙ length-map J text_of_record
 
--- of records and more behind them
+-- of records and more after them
 pub both_texts : (J new : List Record) (texts more : List (List ℕ)) → AreTextsFor J texts → AreTextsFor new more → AreTextsFor (J ++ new) (texts ++ more)
 both_texts J new texts more t u = record {
   fit = all_both IsRecord J new t.fit u.fit;
@@ -49,7 +49,7 @@ all_front P zero xs all = tt
 all_front P (suc n) [] all = tt
 all_front P (suc n) (x ∷ xs) all = (all.0, all_front P n xs all.1)
 
--- of a front of the records
+-- of a prefix of the records
 pub front_texts : (n : ℕ) (J : List Record) (texts : List (List ℕ)) → AreTextsFor J texts → AreTextsFor (take n J) (take n texts)
 front_texts n J texts t = record { fit = all_front IsRecord n J t.fit; are = ap (take n) t.are ∙ take-map text_of_record n J }
 
@@ -73,7 +73,7 @@ blocks_long J texts t = ap (λ (x : List (List ℕ)). length (blocks x)) t.are �
 pub journal_long : (J : List Record) (texts : List (List ℕ)) → AreTextsFor J texts → 1 + length (blocks texts) ≡ journal_bytes J
 journal_long J texts t = omega (arith, blocks_long J texts t)
 
--- ---- what a stop leaves
+-- ---- the crash images
 
 pub front_of_records : (J new : List Record) (texts more : List (List ℕ)) (file : List ℕ) → AreTextsFor J texts → AreTextsFor new more → files.HasBodyFront texts more file → HasFront J new file
 front_of_records J new texts more file t u front = record {
@@ -105,7 +105,7 @@ passes_none J new texts more t u few small full_of.Writers number passes = passe
 
 -- ---- what was read of a journal's texts
 
--- so many were read
+-- this many were read
 pub read_count : (n : ℕ) (texts : List (List ℕ)) → AreRecordTexts (take n texts) → n ≤ length texts → length (records_in_texts (take n texts)) ≡ n
 read_count n texts t within = sym (as_many (records_in_texts (take n texts)) (take n texts) (texts_for (take n texts) t)) ∙ length-take-le n texts within
 
@@ -121,7 +121,7 @@ whole_texts n texts t none = let all = all_read n texts none in subst (λ (x : L
 behind : (n m : ℕ) (texts front more : List (List ℕ)) → texts ≡ front ++ more → length front ≡ n → take (n + m) texts ≡ front ++ take m more
 behind n m texts front more whole long = ap (take (n + m)) whole ∙ ap (λ (k : ℕ). take (k + m) (front ++ more)) (sym long) ∙ take-append-add front more m
 
--- so many more texts
+-- this many more texts
 pub take_more_texts : (n : ℕ) (texts more rest : List (List ℕ)) → n ≤ length texts → drop n texts ≡ more ++ rest → take (n + length more) texts ≡ take n texts ++ more
 take_more_texts n texts more rest within is =
     behind n (length more) texts (take n texts) (drop n texts) (sym (take-append-drop n texts)) (length-take-le n texts within)

@@ -16,7 +16,7 @@ use Rattle.depot_node.specs.declared.start_error.StartError.TheVariants as stopp
 
 -- ---- one record
 
--- its text stands first among those that weren't read
+-- its text comes first among those that weren't read
 pub read_stands_first : (here : Setting) (J : List Record) (text : List ℕ) (rest : List (List ℕ)) (new : List Record) → IsReadFrom here J text new → text ∷ rest ≡ map text_of_record new ++ rest
 read_stands_first here J text rest new r = ap (λ (t : List ℕ). t ∷ rest) r.is ∙ ap (λ (rs : List Record). map text_of_record rs ++ rest) (sym r.alone)
 
@@ -65,7 +65,7 @@ reading_goes_on here there old now new r on stands =
       lawful = subst (λ (J : List Record). IsLawful here J) (sym records) (subst (λ (s : Setting). IsLawful s (now.records ++ on.one ∷ [])) stands on.lawful);
     }
 
--- where the node stands stays the same
+-- the setting of the node stays the same
 pub reading_stands : {D : Type 0} (verifies : Verifies) (here : Setting) (old now : Holding D) → IsReading here old now → node_setting verifies now ≡ node_setting verifies old
 reading_stands verifies here old now r = ap (λ (v : Holding _). node_setting verifies v) r.same
 

@@ -1,4 +1,4 @@
--- What is seen of a store, and what stands inside.
+-- What is seen of a store, and what is inside.
 use Rattle.std.proofs.Common.{◌≡◌, ℕ, ◌+◌, ◌≤◌, false, List, ◌++◌, length, map, take, drop, refl, sym, ap, subst, ◌∙◌}
 use Rattle.depot_base.specs.WithRest.{with_rest}
 use Rattle.depot_base.specs.declared.record.Record.{Record}
@@ -28,11 +28,11 @@ whole_inside {D} inside seen same whole = subst (λ (x : Holding D). IsWhole x) 
 
 -- ---- texts of new records
 
--- records behind which a journal is lawful have texts
+-- records after which a journal is lawful have texts
 pub new_texts : (here : Setting) (J new : List Record) → IsLawful here (J ++ new) → AreTextsFor new (map text_of_record new)
 new_texts here J new l = record { fit = all_fit here J new l; are = refl }
 
--- those that a growth gives, with the rest behind the last
+-- those that a growth gives, with the rest after the last
 pub given_texts : (here : Setting) (J new : List Record) (texts : List (List ℕ)) (rest : List ℕ) → IsLawful here (J ++ new) → with_rest texts (given_of new) ≡ map text_of_record new → rest ≡ given_of new → AreTextsFor new (with_rest texts rest)
 given_texts here J new texts rest l are is = record { fit = all_fit here J new l; are = ap (with_rest texts) is ∙ are }
 

@@ -43,7 +43,7 @@ disk_of_journal journal_error.Memory is = absurd cc
 disk_of_journal journal_error.Disk is = refl
 disk_of_journal (journal_error.Damaged at) is = absurd cc
 
--- a fault behind a call in which none came
+-- a fault after a call in which none came
 pub cause_behind : (before mid new back : ℕ) (failed answered : Type 0) → mid ≡ before → back ≡ new → (answered → failed) → (failed → answered) → HasCause mid new failed → HasCause before back answered
 cause_behind before mid new back failed answered first last on from c = record {
   never_falls = omega (arith, c.never_falls, first, last);

@@ -1,4 +1,4 @@
--- Starts from a file with the records of a lawful journal: none is refused for what stands there.
+-- Starts from a file with the records of a lawful journal: none is refused for what is there.
 use Rattle.std.proofs.Common.{◌≡◌, ℕ, Bool, IsTrue, List, [], ◌∷◌, ◌++◌, map, Some, is_some, refl, sym, ap, subst, ◌∙◌, append_assoc}
 use Rattle.std.proofs.lemmas.Bool.{both_ways}
 use Rattle.std.proofs.lemmas.List.{append-nil}
@@ -36,7 +36,7 @@ first_is_own here (r ∷ J) node roster l b =
 
 -- ---- faults
 
--- where a text stands among those of a journal behind those of some records
+-- where a text is among those of a journal after those of some records
 record StandsBehind (J before : List Record) (text : List ℕ) : Type 0 where
   pub one : Record
   pub after : List Record
@@ -87,7 +87,7 @@ other_roster here file J roster has l (texts, (is, begins)) = (own_birth here fi
 
 -- ---- starts
 
--- a start from the file of a lawful journal, with the node's key, is refused for want of memory or by the disk alone
+-- a start from the file of a lawful journal, with the node's key, is refused for lack of memory or by the disk alone
 pub lawful_file_starts : (here : Setting) (key : PublicKey) (told : Bool) (file : List ℕ) (J : List Record) (e : StartError) → IsTrue told → key_of here.listed here.me ≡ Some key → HasRecords J file → IsLawful here J → IsNotStarted here key (IsTrue told) file e → LeavesFile e → ⊥
 lawful_file_starts here key told file J refused.Memory tells keyed has l w leaves = leaves
 lawful_file_starts here key told file J refused.Disk tells keyed has l w leaves = leaves

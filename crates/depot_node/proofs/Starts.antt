@@ -15,7 +15,7 @@ use Rattle.depot_node.specs.Starting.{AreNotRead, AreOwn, BeginWithBirth, IsDisk
 use Rattle.depot_node.specs.declared.start_error.StartError.{StartError}
 use Rattle.depot_node.specs.declared.start_error.StartError.TheVariants as refused
 
--- ---- what a stop may leave
+-- ---- the crash images
 
 -- of a journal that is started: a file of at most one byte has no records, as the one before it
 journal_leaves : (new : List Record) (file : List ℕ) (before : List ℕ → Type 0) (image : List ℕ) → files.StartLeavesFile before file image → LeavesNew new (IsFileOf file []) before image
@@ -67,7 +67,7 @@ reading_fault here told file texts e has w = absurd w
 begins : (text : List ℕ) (item : Record) (node : ℕ) (roster : List ℕ) (rest : List (List ℕ)) → IsRecord item → text ≡ text_of_record item → item ≡ Birth node roster → BeginWithBirth (text ∷ rest) node roster
 begins text item node roster rest fits is birth = record { rest = rest; fits = subst IsRecord birth fits; is = ap (λ (t : List ℕ). t ∷ rest) (is ∙ ap text_of_record birth) }
 
--- of a birth of another node or roster that stands first
+-- of a birth of another node or roster that comes first
 pub other_begins : (here : Setting) (text : List ℕ) (item : Record) (node : ℕ) (roster : List ℕ) (result : Result (Unit {0}) StartError) → IsRecord item → text ≡ text_of_record item → item ≡ Birth node roster
     → IfErr result (IsOtherBirth here node roster) → IfErr result (λ e. (rest : List (List ℕ)) → AreOther here (text ∷ rest) e)
 other_begins here text item node roster (Ok done) fits is birth other = tt
@@ -92,7 +92,7 @@ other_not_read here texts e other = absurd other
 pub other_is_no_fault : (here : Setting) (texts : List (List ℕ)) (e : StartError) → AreOther here texts e → e ≢ refused.Disk
 other_is_no_fault here texts e other disk = subst (λ (x : StartError). AreOther here texts x) disk other
 
--- so is a record that is wrong, where no such birth stands first
+-- so is a record that is wrong, where no such birth comes first
 pub wrong_not_read : (here : Setting) (texts : List (List ℕ)) (result : Result (Unit {0}) StartError) → AreOwn here texts → IfErr result (AreWrong here texts) → IfErr result (AreNotRead here texts)
 wrong_not_read here texts (Ok done) own wrong = tt
 wrong_not_read here texts (Err refused.Memory) own wrong = tt

@@ -30,7 +30,7 @@ holding_code {D} code_of =
     (coded× (coded_list (coded_list coded_ℕ)) (coded× coded_bool code_of)))))
     (λ v. (v.me, (v.listed, (v.records, (v.unread, (v.stopped, v.disk)))))) holding_of (λ _. refl)
 
--- where the node stands
+-- the setting of the node
 abbrev pub node_setting : {D : Type 0} → Verifies → Holding D → Setting
 node_setting verifies v = record { verifies = verifies; me = v.me; listed = v.listed }
 

@@ -25,7 +25,7 @@ use Rattle.depot_node.specs.declared.commit.WriteError.TheVariants as unwritten
 
 -- ---- calls of the store, which are made while it runs
 
--- the call was to append these records, and answered so; after Memory none is appended
+-- the call was asked to append these records, and answered so; on `Memory` none is appended
 abbrev pub IsWriteCall : {D : Type 0} → Ghosts D → Holding D → Holding D → List Record → Result (Unit {0}) WriteError → Type 0
 IsWriteCall g old new appends result = IsJournalCall (journal_on g) old new appends ⊥ (IsErrOf result unwritten.Disk) (IsErrOf result unwritten.Memory)
 
@@ -33,25 +33,25 @@ IsWriteCall g old new appends result = IsJournalCall (journal_on g) old new appe
 abbrev pub IsCommitCall : {D : Type 0} → Ghosts D → Holding D → Holding D → List Record → Result (Unit {0}) CommitError → Type 0
 IsCommitCall g old new appends result = IsJournalCall (journal_on g) old new appends ⊥ (IsErrOf result refused.Disk) (IsErrAnd result (λ e. e ≢ refused.Disk))
 
--- what was decided is carried out, which is to append these records; after Memory none is appended
+-- what was decided is carried out, which is to append these records; on `Memory` none is appended
 abbrev pub IsCarryCall : {D : Type 0} → Ghosts D → Holding D → Holding D → List Record → Result Taken TakeError → Type 0
 IsCarryCall g old new appends result = IsJournalCall (journal_on g) old new appends ⊥ (IsErrOf result untaken.Disk) (IsErrOf result untaken.Memory)
 
 -- ---- calls of a node on its store, which may be stopped
 
--- the call was given a text of this form, and answered so; after Memory nothing is appended
+-- the call was given a text of this form, and answered so; on `Memory` nothing is appended
 abbrev pub IsStoreTake : {D : Type 0} → Ghosts D → Verifies → Form → Holding D → Holding D → List ℕ → Result Taken TakeError → Type 0
 IsStoreTake g verifies form old new text result =
     IsJournalCall (journal_on g) old new (growth_of_text (node_setting verifies old) old.records form text)
     (IsErrOf result untaken.Stopped) (IsErrOf result untaken.Disk) (IsErrOf result untaken.Memory)
 
--- the call was to put these changes, and answered so; after each error but Disk nothing is appended
+-- the call was asked to put these changes, and answered so; after each error but Disk nothing is appended
 abbrev pub IsStorePut : {D : Type 0} → Ghosts D → Verifies → Holding D → Holding D → List Change → Result PutDone PutError → Type 0
 IsStorePut g verifies old new changes result =
     IsJournalCall (journal_on g) old new (put_records (node_setting verifies old) old.records changes)
     (IsErrOf result unput.Stopped) (IsErrOf result unput.Disk) (IsErrAnd result (λ e. e ≢ unput.Disk))
 
--- the call was to vouch for these ids, and answered so; after each error but Disk nothing is appended
+-- the call was asked to vouch for these ids, and answered so; after each error but Disk nothing is appended
 abbrev pub IsStoreVouch : {D : Type 0} → Ghosts D → Verifies → Holding D → Holding D → List (List ℕ) → Result (Unit {0}) VoucherError → Type 0
 IsStoreVouch g verifies old new ids result =
     IsJournalCall (journal_on g) old new (records_of (new_vouchers (node_setting verifies old).me old.records ids))
@@ -59,7 +59,7 @@ IsStoreVouch g verifies old new ids result =
 
 -- ---- the store of a node
 
--- All its records were read. They are a lawful journal where the node stands, and there is one.
+-- All its records were read. They are a lawful journal under the node's setting, and there is one.
 pub record IsKept {D : Type 0} (verifies : Verifies) (v : Holding D) : Type 0 where
   pub read : v.unread ≡ []
   pub lawful : IsLawful (node_setting verifies v) v.records

@@ -1,4 +1,4 @@
-//! The journal grows: this is the one write path.
+//! The one write path: here the journal grows.
 ghost use Rattle.std.specs.Prelude.{◌≡◌, ◌++◌, [], false, Some};
 ghost use Rattle.depot_base.specs.declared.check.Full.{Full};
 ghost use Rattle.depot_model.specs.Journal.{accepted};
@@ -22,10 +22,10 @@ use depot_outside::Disk;
 use depot_readings::{Growth, RECORD_OVERHEAD};
 use std::alloc::Global;
 
-/// Why records were not appended, for which there is room.
+/// Why records were not appended, where there is room for them.
 #[derive(Clone, Copy, Debug, PartialEq, Eq)]
 pub enum WriteError {
-    /// No memory was found.
+    /// Memory ran out.
     Memory,
     /// The disk failed. The records before the failing one were appended, and the store is stopped.
     Disk,
@@ -42,7 +42,7 @@ impl From<Memory> for WriteError {
 /// Why nothing was appended.
 #[derive(Clone, Copy, Debug, PartialEq, Eq)]
 pub enum CommitError {
-    /// No memory was found.
+    /// Memory ran out.
     Memory,
     /// The disk failed.
     Disk,
@@ -51,11 +51,11 @@ pub enum CommitError {
 }
 
 impl<D: Disk, S: Scheme> Store<D, S> {
-    /// Appends a growth where there is room for it, and else leaves all as it is. Where it ends with a statement of another, `given` is
-    /// that statement's text; `parents` are those of its update, if it has them. `Full` comes exactly where a limit would be passed, the
-    /// first of records, bytes and leaves of other writers, with the number now. After `Disk` the records before the failing one were
-    /// appended, and the store is stopped. A stop at any moment leaves the records from before, and a front of the new ones; after
-    /// Memory and `Full` none of these.
+    /// Appends a growth where there is room for it, and else changes nothing. Where the growth ends with a statement of
+    /// another, `given` is that statement's text; `parents` are those of its update, if it has them. `Full` comes
+    /// exactly where a limit would be passed, the first of records, bytes and leaves of other writers, with the number
+    /// now. On `Disk` the records before the failing one were appended, and the store is stopped. Every crash image of
+    /// the call has the records from before, and a prefix of the new ones; on `Memory` and `Full` none of these.
     pub fn commit(
         &mut self,
         alloc: Global,
@@ -74,7 +74,7 @@ impl<D: Disk, S: Scheme> Store<D, S> {
         ensures full { (what : Full) → full_by self.old.me self.old.records new ≡ Some what → self.new ≡ self.old }
         ensures call { IsCommitCall D.Disk self.old self.new new result }
     {
-        // Called for its clause alone: what a stop may leave has the records.
+        // Called for its clause alone: the crash images have the records.
         let _runs = self.is_stopped();
         if let Some(full) = self.readings.limit(&new) {
             drop(new);
@@ -88,8 +88,8 @@ impl<D: Disk, S: Scheme> Store<D, S> {
         }
     }
 
-    /// Appends the records of a growth: all; or none, and then no memory was found, and a stop leaves none; or those before the one on
-    /// which the disk failed. No limit is asked for: that there is room is known, since the journal stays lawful.
+    /// Appends the records of a growth: all; or none, and then memory ran out, and no crash image has any; or those
+    /// before the one on which the disk failed. No limit is checked: there is room, since the journal stays lawful.
     pub(crate) fn append(
         &mut self,
         alloc: Global,
@@ -106,7 +106,7 @@ impl<D: Disk, S: Scheme> Store<D, S> {
         ensures read { self.new.unread ≡ [] }
         ensures call { IsWriteCall D.Disk self.old self.new new result }
     {
-        // Called for its clause alone: what a stop may leave has the records.
+        // Called for its clause alone: the crash images have the records.
         let _runs = self.journal.is_stopped();
         let mut new = new;
         let count = new.count() as u32;

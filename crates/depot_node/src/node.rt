@@ -22,8 +22,8 @@ use depot_queries::held_as;
 use depot_readings::JournalCounts;
 use std::alloc::Global;
 
-/// A node with its journal on a disk. The journal is lawful, and the roster has the signer's key for the node. Once the disk failed
-/// the node is stopped: it is started again from its disk.
+/// A node with its journal on a disk. The journal is lawful, and the roster has the signer's key for the node. Once the
+/// disk failed the node is stopped: start it again from its disk.
 #[derive(Drop)]
 pub struct Node<D: Disk, S: Scheme, G: Signer<Of = S>> {
     pub(crate) alloc: Global,
@@ -34,7 +34,7 @@ pub struct Node<D: Disk, S: Scheme, G: Signer<Of = S>> {
     ghost keyed: { key_of store.listed store.me ≡ Some (G.key_of signer) } by { HasKey-prop store.listed store.me (G.key_of signer) },
 }
 
-/// What keeps its journal on a disk, which contracts see.
+/// Something with a journal on a disk that contracts see.
 pub trait OnDisk<D> {
     /// The disk.
     ghost disk: { Self → D };
@@ -45,7 +45,7 @@ impl<D: Disk, S: Scheme, G: Signer<Of = S>> OnDisk<D> for Node<D, S, G> {
 }
 
 impl<D: Disk, S: Scheme, G: Signer<Of = S>> Node<D, S, G> {
-    /// Its disk as it stands, of a node that is stopped too. It takes no memory.
+    /// Returns its disk as it is, of a stopped node too. It takes no memory.
     pub fn into_disk(self) -> D
         ensures { result ≡ ⟦<Node<D, S, G> as OnDisk<D>>⟧.disk self }
     {
@@ -60,8 +60,9 @@ impl<D: Disk, S: Scheme, G: Signer<Of = S>> Node<D, S, G> {
         self.store.readings().state().graph().count()
     }
 
-    /// The items of the latest writes of a key among the accepted updates, in rising order of clock, writer, seq and id,
-    /// and none for a key that no update writes. An item is a place among the accepted updates, from 0. It takes no memory.
+    /// The items of the latest writes of a key among the accepted updates, in rising order of clock, writer, seq and
+    /// id; none for a key that no update writes. An item is a place among the accepted updates, from 0. It takes no
+    /// memory.
     pub fn latest(&self, key: &Key) -> &[u32]
         requires { ⟦<Node<D, S, G> as NodeState>⟧.stopped self.now ≡ false }
         ensures latest { AreLatestIn key.now (accepted (⟦<Node<D, S, G> as NodeState>⟧.records self.now)) (updates_at (accepted (⟦<Node<D, S, G> as NodeState>⟧.records self.now)) result.now) }

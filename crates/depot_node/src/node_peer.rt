@@ -1,4 +1,4 @@
-//! What a node tells others of its journal, and the vouchers that it makes for them.
+//! What a node sends others of its journal, and the vouchers that it makes for them.
 
 use crate::node::Node;
 use crate::vouch::own_vouchers;

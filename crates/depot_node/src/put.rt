@@ -1,4 +1,4 @@
-//! Puts: what is decided of one is carried out.
+//! Puts: decides on one, and carries the decision out.
 ghost use Rattle.std.specs.Prelude.{◌≡◌, ◌≤◌, length, true};
 ghost use Rattle.depot_base.specs.Pairs.{AllPairsByRecursion};
 ghost use Rattle.depot_base.specs.Parts.{is_below};
@@ -16,7 +16,7 @@ use depot_model::{PutDone, PutError, Scheme};
 use depot_outside::Disk;
 use std::alloc::Global;
 
-/// Puts a value under a key: the one change that this is. A store that is stopped is asked for no memory.
+/// Puts a value under a key: `put_all` with this one change. A stopped store takes no memory for it.
 pub fn put<D: Disk, S: Scheme>(
     alloc: Global,
     store: &mut Store<D, S>,
@@ -36,8 +36,8 @@ pub fn put<D: Disk, S: Scheme>(
     put_all(alloc, store, changes)
 }
 
-/// Puts 1 to 16 changes, whose keys rise strictly: the journal grows by the next own update, and stays lawful. A refusal leaves all as
-/// it is, but after `Disk` the store is stopped. A store that is stopped puts nothing.
+/// Puts 1 to 16 changes, whose keys rise strictly: the journal grows by the next own update, and stays lawful. A
+/// refusal changes nothing, except that on `Disk` the store is stopped. A stopped store puts nothing.
 pub fn put_all<D: Disk, S: Scheme>(
     alloc: Global,
     store: &mut Store<D, S>,

@@ -1,4 +1,4 @@
-//! A node is started from the journal on its disk.
+//! Starts a node from the journal on its disk.
 ghost use Rattle.std.specs.Prelude.{◌≡◌, [], List, true, IsTrue, Some, None, IfOk, IfErr, IfSome};
 ghost use Rattle.depot_base.specs.declared.record.Record.{Record};
 ghost use Rattle.depot_model.specs.Lawful.{IsLawful};
@@ -20,12 +20,12 @@ use depot_sign::Roster;
 use std::alloc::Global;
 
 impl<D: Disk, S: Scheme, G: Signer<Of = S>> Node<D, S, G> {
-    /// Starts the node `me` of a roster from the journal on a disk, which is checked record by record, each as if it came now. A
-    /// disk without records gets the birth record of the node.
+    /// Starts the node `me` of a roster from the journal on a disk, checking record by record, each as if it came now.
+    /// A disk without records gets the birth record of the node.
     ///
-    /// `UnknownMe` and `OtherKey` are found before the disk is touched, then `Damaged`, `OtherNode`, `OtherRoster` and `NotLawful`,
-    /// each exactly where it is so; the file then reads as before. The disk is given back. A birth may stand on it where the disk
-    /// failed, and after no other refusal.
+    /// `UnknownMe` and `OtherKey` are found before the disk is accessed, then `Damaged`, `OtherNode`, `OtherRoster` and
+    /// `NotLawful`, each exactly where it is so; the file then reads as before. The disk is given back. A birth may be
+    /// on it where the disk failed, and on no other error.
     pub fn start(
         alloc: Global,
         disk: D,
@@ -39,7 +39,7 @@ impl<D: Disk, S: Scheme, G: Signer<Of = S>> Node<D, S, G> {
         ensures refused { IfErr result (λ b. IsNotStarted (placed S.verifies me roster) (G.key_of signer) (IsTrue (D.tells disk)) (D.seen disk) b.error) }
         ensures untouched { IfErr result (λ b. IsKeyFault roster me (G.key_of signer) b.error → b.disk ≡ disk) }
         ensures back { IfErr result (IsHandedBack D.Disk (placed S.verifies me roster) disk) }
-        // The disk that comes back, in the node or without it.
+        // The disk that is given back, in the node or without it.
         ensures disk { IsDiskThen D.Disk (placed S.verifies me roster) disk (disk_left result ⟦<Node<D, S, G> as OnDisk<D>>⟧.disk) }
     {
         if let Some(error) = key_fault(&roster, &signer, me) {
@@ -62,7 +62,7 @@ impl<D: Disk, S: Scheme, G: Signer<Of = S>> Node<D, S, G> {
     }
 }
 
-/// The store of the journal on a disk, of which every record is read, or which gets the birth record of the node.
+/// Opens the store of the journal on a disk: reads every record, or appends the birth record of the node.
 fn open<D: Disk, S: Scheme>(
     alloc: Global,
     disk: D,
@@ -116,7 +116,7 @@ fn key_fault<G: Signer>(roster: &Roster, signer: &G, me: NodeId) -> Option<Start
     })
 }
 
-/// Why a journal isn't started, as a node tells it.
+/// Why a journal isn't started, as a node's error.
 fn error_of(error: JournalError) -> StartError
     ensures { result ≡ of_journal error }
 {

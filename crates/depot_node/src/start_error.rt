@@ -5,17 +5,17 @@ ghost use Rattle.depot_node.specs.declared.start_error.StartError.TheVariants as
 use depot_base::{Hash32, Memory, NodeId, PublicKey};
 use depot_model::RecordFault;
 
-/// Why a node isn't started. After each of these but `Memory` and `Disk` the file of the disk reads as before.
+/// Why a node isn't started. On each error but `Memory` and `Disk` the file of the disk reads as before.
 #[derive(Clone, Copy, Debug, PartialEq, Eq)]
 pub enum StartError {
-    /// No memory was found.
+    /// Memory ran out.
     Memory,
     /// The disk failed.
     Disk,
-    /// The file of the disk is damaged: at this offset in bytes an open gate stands, and behind it no whole record, or one with which
-    /// the journal would pass its limits.
+    /// The file of the disk is damaged: at this offset in bytes is an open gate, followed by no whole record, or by one
+    /// with which the journal would pass its limits.
     Damaged(u64),
-    /// The record of this place, from 0, isn't lawful behind those before it.
+    /// The record of this place, from 0, isn't lawful after those before it.
     NotLawful {
         place: u32,
         fault: RecordFault,
@@ -29,7 +29,7 @@ pub enum StartError {
     },
     /// The journal is that of this other node.
     OtherNode(NodeId),
-    /// The journal was begun under another roster. SHA-256 of both rosters' texts.
+    /// The journal was begun under another roster. Both are SHA-256 of a roster's text.
     OtherRoster {
         kept: Hash32,
         given: Hash32,

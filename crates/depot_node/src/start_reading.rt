@@ -1,4 +1,4 @@
-//! The records of a journal are read one by one, each checked as if it came now.
+//! Reads the records of a journal one by one, checking each as if it came now.
 ghost use Rattle.std.specs.Prelude.{◌≡◌, ◌∷◌, [], ℕ, List, true, false, IsTrue, OnOk, OnErr, IfOk, IfErr, IsErrOf};
 ghost use Rattle.depot_model.specs.JournalCalls.{KeepsDisk};
 ghost use Rattle.depot_model.specs.RecordFaults.{AreTextsOf};
@@ -20,7 +20,7 @@ use depot_readings::Growth;
 use depot_update::decode_record;
 use std::alloc::Global;
 
-/// Reads all records of a journal, of which none was read yet. One without records gets the birth record of the node.
+/// Reads all records of a journal that has none read yet. A journal without records gets the birth record of the node.
 ///
 /// `OtherNode`, `OtherRoster` and `NotLawful` come in this order, each exactly where it is so; nothing is then done to the disk.
 pub fn fill<D: Disk, S: Scheme>(alloc: Global, store: &mut Store<D, S>) -> Result<(), StartError>
@@ -109,7 +109,7 @@ fn check_birth<D: Disk, S: Scheme>(
     Ok(())
 }
 
-/// Reads the records of a journal, of which none was read yet.
+/// Reads the records of a journal that has none read yet.
 fn read_all<D: Disk, S: Scheme>(alloc: Global, store: &mut Store<D, S>) -> Result<(), StartError>
     requires runs { store.old.stopped ≡ false }
     requires none { store.old.records ≡ [] }
@@ -121,12 +121,12 @@ fn read_all<D: Disk, S: Scheme>(alloc: Global, store: &mut Store<D, S>) -> Resul
     ensures stable { OnOk result (IsTrue (D.tells store.new.disk) → LeavesAll store.new.records false (D.may_leave store.new.disk)) }
 {
     while read_next(alloc, store)? {}
-    // Called for its clause alone: what a stop may leave has the records.
+    // Called for its clause alone: the crash images have the records.
     let _runs = store.is_stopped();
     Ok(())
 }
 
-/// Reads the first record that wasn't read yet. False where every record was.
+/// Reads the first record that wasn't read yet. Returns false where every record was.
 fn read_next<D: Disk, S: Scheme>(alloc: Global, store: &mut Store<D, S>) -> Result<bool, StartError>
     requires runs { store.old.stopped ≡ false }
     ensures read { IfOk result (λ more. more ≡ true → IsReadOn (node_setting S.verifies store.old) store.old store.new) }

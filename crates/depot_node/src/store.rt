@@ -19,11 +19,12 @@ use depot_sign::Roster;
 use std::alloc::Global;
 use std::marker::Model;
 
-/// The journal of a node on its disk, and what was read off it. A journal that was started is read record by record (`read`); from then
-/// on it grows by what is committed. Once the disk failed the store is stopped: it tells the texts of its records, and no more.
+/// The journal of a node on its disk, and what was read off it. A journal that was started is read record by record
+/// (`read`); from then on it grows by what is committed. Once the disk failed the store is stopped: it still gives the
+/// texts of its records, and nothing more.
 #[derive(Drop)]
 pub struct Store<D: Disk, S: Scheme> {
-    // Once the disk failed these may be of more records than the journal has.
+    // Once the disk failed, these may be of more records than the journal has.
     pub(crate) readings: Readings<S>,
     pub(crate) journal: Journal<D>,
     // How many of the journal's records were read.
@@ -53,7 +54,7 @@ impl<D: Disk, S: Scheme> Model for Store<D, S> {
 }
 
 impl<D: Disk, S: Scheme> Store<D, S> {
-    /// The store of a journal of which no record was read yet. It takes no memory.
+    /// The store of a journal with no record read yet. It takes no memory.
     pub fn new(alloc: Global, state: State<S>, journal: Journal<D>) -> Store<D, S>
         requires { IsStateOf [] state }
         ensures { result ≡ record { me = state.me; listed = state.listed; records = []; unread = journal.records; stopped = journal.is_stopped; disk = journal.disk } }
@@ -65,7 +66,7 @@ impl<D: Disk, S: Scheme> Store<D, S> {
         }
     }
 
-    /// What was read off the records, of a store that runs. It takes no memory.
+    /// What was read off the records, for a store that runs. It takes no memory.
     pub fn readings(&self) -> &Readings<S>
         requires { self.now.stopped ≡ false }
         ensures { result.now ≡ known self.now }
@@ -73,8 +74,8 @@ impl<D: Disk, S: Scheme> Store<D, S> {
         &self.readings
     }
 
-    /// Reads the first record that wasn't read yet, which comes decoded, with the parents of its update if it has them. No text of it is
-    /// made, and nothing is done to the disk. After Memory all is as before.
+    /// Reads the first record that wasn't read yet; it is given decoded, with the parents of its update if it has them.
+    /// Its text isn't encoded, and the disk isn't accessed. On `Memory` all is unchanged.
     pub(crate) fn read(&mut self, new: Growth, parents: Option<Parents>) -> Result<(), Memory>
         requires runs { self.old.stopped ≡ false }
         requires next { (rest : List (List ℕ)) × (self.old.unread ≡ map text_of_record new ++ rest) }
@@ -115,7 +116,7 @@ impl<D: Disk, S: Scheme> Store<D, S> {
         journal.into_disk()
     }
 
-    /// Whether the disk has failed. The records stand in each file that a stop may leave. It takes no memory.
+    /// Whether the disk has failed. The records are in each crash image. It takes no memory.
     pub fn is_stopped(&self) -> bool
         ensures stopped { result ≡ self.now.stopped }
         ensures stable { self.now.unread ≡ [] → IsTrue (D.tells self.now.disk) → LeavesAll self.now.records self.now.stopped (D.may_leave self.now.disk) }

@@ -1,4 +1,4 @@
-//! What a node takes: it is decided over what was read, and then carried out. A node that is stopped takes nothing.
+//! What a node takes: decides over what was read, and carries the decision out. A stopped node takes nothing.
 ghost use Rattle.std.specs.Prelude.{◌≡◌, false, Some};
 ghost use Rattle.depot_base.specs.declared.check.Full.{Full};
 ghost use Rattle.depot_model.specs.Journal.{accepted};
@@ -17,7 +17,7 @@ use depot_model::{Scheme, TakeError, Taken};
 use depot_outside::Disk;
 use std::alloc::Global;
 
-/// Takes the text of a signed statement, and keeps the journal lawful. Behind its tag the text is appended as it came.
+/// Takes the text of a signed statement, and keeps the journal lawful. After its tag the text is appended as it came.
 pub fn take_statement<D: Disk, S: Scheme>(
     alloc: Global,
     store: &mut Store<D, S>,
@@ -74,8 +74,8 @@ pub fn take_value<D: Disk, S: Scheme>(
     carry_out(alloc, store, decision, &[])
 }
 
-/// Appends what a decision says where there is room for it, and gives its answer. `given` is the text of the statement with which that
-/// ends, if it ends with one.
+/// Appends a decision's growth where there is room for it, and returns its answer. `given` is the text of the statement
+/// with which the growth ends, if it ends with one.
 fn carry_out<D: Disk, S: Scheme>(
     alloc: Global,
     store: &mut Store<D, S>,

@@ -1,4 +1,4 @@
-//! The vouchers that a node makes for what it took from others: what is decided of them is carried out.
+//! The vouchers that a node makes for what it took from others: decides on them, and carries the decision out.
 ghost use Rattle.std.specs.Prelude.{◌≡◌, true, false};
 ghost use Rattle.std.specs.List.{AllByRecursion};
 ghost use Rattle.depot_model.specs.Journal.{accepted, is_foreign};
@@ -15,11 +15,11 @@ use depot_model::{Scheme, VoucherError};
 use depot_outside::Disk;
 use std::alloc::Global;
 
-/// Vouches for accepted updates of others that the node hasn't vouched for, and keeps the journal lawful: one own voucher for each
-/// 256 ids in the order given. All are appended or none. `Spent` comes exactly where the vouchers would pass the leaves of the
-/// node's tree, with the number of its statements, and else `Full` exactly where there is no room for them. `Memory` may come in
-/// place of each answer. After an error the journal is as before, but after `Disk` those before the failing one stand, and the store
-/// is stopped. A store that is stopped vouches for nothing.
+/// Vouches for accepted updates of others that the node hasn't vouched for, and keeps the journal lawful: one own
+/// voucher for each 256 ids in the order given. Appends all of them or none. `Spent` comes exactly where the vouchers
+/// would pass the leaves of the node's tree, with the number of its statements, and else `Full` exactly where there is
+/// no room for them. `Memory` may come in place of each answer. On an error the journal is unchanged, except that on
+/// `Disk` those before the failing one are appended, and the store is stopped. A stopped store vouches for nothing.
 pub fn own_vouchers<D: Disk, S: Scheme>(
     alloc: Global,
     store: &mut Store<D, S>,

@@ -1,4 +1,4 @@
--- What a stop leaves is an image, also with FF in place of what was written.
+-- What a stop leaves is a crash image, also with FF in place of what was written.
 use Rattle.std.proofs.Common.{◌≡◌, ◌≤◌, ℕ, zero, suc, ◌+◌, ◌-◌, List, [], ◌∷◌, ◌++◌, length, take, drop, replicate, refl, sym, ◌∙◌, ap, subst, arith}
 use Rattle.depot_base.specs.Disk.{ImagesFollow, IsTorn, Within}
 use Rattle.depot_outside.specs.Images.{LeadTo, Moment, Moments, Written, after_sync, images_at, images_of, reads_as, written_at}
@@ -20,7 +20,7 @@ blank_long zero zero (b ∷ bytes) = refl
 blank_long zero (suc count) (b ∷ bytes) = ap suc (blank_long zero count bytes)
 blank_long (suc at) count (b ∷ bytes) = ap suc (blank_long at count bytes)
 
--- as three parts, where the range stands in the bytes
+-- as three parts, where the range is in the bytes
 pub blank_parts : (at count : ℕ) (bytes : List ℕ) → at + count ≤ length bytes → blank at count bytes ≡ take at bytes ++ replicate count 255 ++ drop (at + count) bytes
 blank_parts zero zero [] h = refl
 blank_parts zero (suc count) [] h = absurd (omega (arith, h))
@@ -33,7 +33,7 @@ blank_parts (suc at) count (b ∷ bytes) h =
     let next : suc (at + count) ≡ suc at + count = omega arith in
     ap (λ (l : List ℕ). b ∷ l) (blank_parts at count bytes (omega (arith, h))) ∙ ap (λ (n : ℕ). b ∷ (take at bytes ++ replicate count 255 ++ drop n (b ∷ bytes))) next
 
--- of a front
+-- of a prefix
 pub blank_take : (k at count : ℕ) (bytes : List ℕ) → take k (blank at count bytes) ≡ blank at count (take k bytes)
 blank_take zero at count bytes = refl
 blank_take (suc k) at count [] = refl
@@ -51,7 +51,7 @@ blank_drop (suc k) zero (suc count) (b ∷ bytes) =
 blank_drop (suc k) (suc at) count (b ∷ bytes) =
     blank_drop k at count bytes ∙ ap (λ (n : ℕ). blank n (count - (k - at)) (drop k bytes)) (omega arith) ∙ ap (λ (n : ℕ). blank (suc at - suc k) n (drop k bytes)) (omega arith)
 
--- nothing before the range changes, and nothing behind it
+-- nothing before the range changes, and nothing after it
 pub blank_before : (at count : ℕ) (bytes : List ℕ) → take at (blank at count bytes) ≡ take at bytes
 blank_before at count [] = refl
 blank_before zero count (b ∷ bytes) = refl
@@ -85,7 +85,7 @@ pub torn_others : (at count : ℕ) (rs : List Range) (old new : List ℕ) → Is
 torn_others at count [] old new torn = torn
 torn_others at count (r ∷ rs) old new torn = torn_others at count rs (blank r.at r.count old) (blank r.at r.count new) (torn_other at count r.at r.count old new torn)
 
--- ---- what a stop leaves is one of the images
+-- ---- a crash image is one of the images
 
 pub torn_none : (at count : ℕ) (file : List ℕ) → IsTorn at count file file
 torn_none at count file = record { before = refl; after = refl; no_shorter = omega arith; no_longer = omega arith }

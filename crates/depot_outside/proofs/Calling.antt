@@ -52,7 +52,7 @@ counts_done (reads_at at count) s = refl
 counts_done (writes_at at bytes) s = refl
 counts_done syncs s = refl
 
--- what a stop in this call leaves
+-- the crash image of a stop in this call
 abbrev left_in : Call → Image → State → List ℕ
 left_in call image s = left_by image (done_before_stop call s).unsynced (done_before_stop call s).file
 

@@ -4,7 +4,7 @@ use Rattle.std.proofs.lemmas.List.{take_rest, take-append-le, take_all}
 use Rattle.std.proofs.KnownBytes.{Appends-trans, Appends-kept}
 use Rattle.std.specs.Io.KnownBytes.{Appends, Keeps}
 
--- a front of the piece went out, and this is left of it
+-- a prefix of the piece went out, and this is left of it
 pub record HasWritten (old new : Option (List ℕ)) (piece left : List ℕ) : Type 0 where
   pub front : List ℕ
   pub split : piece ≡ front ++ left
@@ -22,7 +22,7 @@ more_written old mid new piece left n w a = record {
 pub none_written : (old mid new : Option (List ℕ)) (piece left : List ℕ) → HasWritten old mid piece left → Keeps mid new → HasWritten old new piece left
 none_written old mid new piece left w k = record { front = w.front; split = w.split; appended = Appends-kept old mid new w.front w.appended k }
 
--- what went out is a front of the piece
+-- what went out is a prefix of the piece
 pub front_written : (old new : Option (List ℕ)) (piece left : List ℕ) → HasWritten old new piece left → (n : ℕ) × Appends old new (take n piece)
 front_written old new piece left w =
     let first : take (length w.front) piece ≡ w.front = ap (take (length w.front)) w.split ∙ take-append-le (length w.front) w.front left (omega arith) ∙ take_all (length w.front) w.front (omega arith) in

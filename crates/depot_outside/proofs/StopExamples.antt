@@ -59,7 +59,7 @@ first_goes = (
       absurd (omega (arith, wrong)),
 )
 
--- the second does, and changes nothing but how many were made
+-- the second does, and changes only how many were made
 second_fails : IsOutcome written true
 unfolding written IsOutcome
 second_fails = (λ _. (0, omega arith, refl), λ _. refl)

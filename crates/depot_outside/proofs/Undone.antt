@@ -68,7 +68,7 @@ left_is image.Blanked moment log bytes file lead all = ap (λ (rs : List Range).
 long_written : (old piece : List ℕ) (at : ℕ) → at ≤ length old → length (take at old ++ piece ++ drop (at + length piece) old) ≡ max (length old) (at + length piece)
 long_written old piece at inside = grind (arith, common_steps)
 
--- the bytes behind the range that were there before
+-- the bytes after the range that were there before
 behind_written : (old new piece : List ℕ) (at : ℕ) → at ≤ length old → IsWritten old at piece new
     → drop (at + length (take (length piece) (drop at old))) (take (length old) new) ≡ drop (at + length (take (length piece) (drop at old))) old
 behind_written old new piece at inside put =

@@ -9,7 +9,7 @@ take_written file bytes at h = grind (arith, common_steps)
 drop_written : (file bytes : List ℕ) (at : ℕ) → at ≤ length file → drop (at + length bytes) (take at file ++ bytes ++ drop (at + length bytes) file) ≡ drop (at + length bytes) file
 drop_written file bytes at h = grind (arith, common_steps)
 
--- a write that isn't cut short is one of those that a stop may leave
+-- a write that isn't cut short gives one of the crash images
 pub written_is_torn : (old new bytes : List ℕ) (at : ℕ) → at ≤ length old → IsWritten old at bytes new → IsTorn at (length bytes) old new
 written_is_torn old new bytes at h written = rw written (record {
   before = take_written old bytes at h;

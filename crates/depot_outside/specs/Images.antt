@@ -1,4 +1,4 @@
--- What a stop may leave of a disk in memory, now and at each earlier moment.
+-- The crash images of a disk in memory, now and at each earlier moment.
 --
 -- At each moment there is the file of the last sync, and the writes since. A stop may cut each of these short.
 use Rattle.std.specs.Prelude.{◌≡◌, ◌⊎◌, ℕ, ◌≤◌, List, [], ◌∷◌, length, suc}
@@ -6,7 +6,7 @@ use Rattle.std.specs.Coded.{×_prop, le_prop, Coded-set, coded_list, coded_ℕ}
 use Rattle.std.proofs.Common.{inl, inr, arith}
 use Rattle.depot_base.specs.Disk.{IsTorn}
 
--- a write of so many bytes at an offset, and the file before it
+-- a write of this many bytes at an offset, and the file before it
 pub record Written : Type 0 where
   pub at : ℕ
   pub count : ℕ
@@ -30,7 +30,7 @@ first_moment = record { now = record { synced = []; writes = [] }; past = [] }
 abbrev pub synced_as : List ℕ → Moment
 synced_as file = record { synced = file; writes = [] }
 
--- so many bytes more were written, at an offset of this file
+-- this many bytes more were written, at an offset of this file
 abbrev pub written_at : Moment → List ℕ → ℕ → ℕ → Moment
 written_at m file at count = record { synced = m.synced; writes = record { at = at; count = count; file = file } ∷ m.writes }
 
@@ -38,11 +38,11 @@ written_at m file at count = record { synced = m.synced; writes = record { at = 
 abbrev pub after_sync : Moments → List ℕ → Moments
 after_sync m file = record { now = synced_as file; past = m.now ∷ m.past }
 
--- one moment more, at which so many bytes were written at an offset of this file
+-- one moment more, at which this many bytes were written at an offset of this file
 abbrev pub after_write : Moments → List ℕ → ℕ → ℕ → Moments
 after_write m file at count = record { now = written_at m.now file at count; past = m.now ∷ m.past }
 
--- what a stop may leave after a sync of this file and these writes
+-- the crash images after a sync of this file and these writes
 abbrev pub images_of : List ℕ → List Written → List ℕ → Type 0
 images_of synced [] image = image ≡ synced
 images_of synced (w ∷ writes) image = (base : List ℕ) × images_of synced writes base × IsTorn w.at w.count base image
@@ -50,7 +50,7 @@ images_of synced (w ∷ writes) image = (base : List ℕ) × images_of synced wr
 abbrev pub images_at : Moment → List ℕ → Type 0
 images_at m image = images_of m.synced m.writes image
 
--- what a stop might have left now or at an earlier moment, these newest first, from that one on; the oldest has the number 0
+-- the crash images of now and of earlier moments, these newest first, from that one on; the oldest has the number 0
 abbrev pub left_from : Moment → List Moment → ℕ → List ℕ → Type 0
 left_from now [] t image = images_at now image
 left_from now (m ∷ past) t image = images_at now image ⊎ ((t ≤ length past) × left_from m past t image)

@@ -1,4 +1,4 @@
--- In which call a disk in memory stops, and what the stop leaves of its file.
+-- In which call a disk in memory stops, and the crash image of that stop.
 use Rattle.std.specs.Prelude.{◌≡◌, ℕ, zero, suc, ◌+◌, ◌-◌, List, [], ◌∷◌, ◌++◌, length, take, drop, Option, None, Some, nat_le, if◌then◌else◌, map}
 use Rattle.depot_outside.specs.Images.{Moment, Written}
 use Rattle.depot_outside.specs.declared.stops.Image.{Image}
@@ -13,7 +13,7 @@ image_of_number zero = image.Synced
 image_of_number (suc zero) = image.Written
 image_of_number (suc (suc n)) = image.Blanked
 
--- The stop that is to come, before the next call and after it. The one of the call 1 comes in it.
+-- The stop that is set, before the next call and after it. A stop in call 1 comes in it.
 abbrev pub counted_down : Option Stop → Option Stop
 counted_down None = None
 counted_down (Some stop) = if nat_le stop.call 1 then None else Some (record { call = stop.call - 1; image = stop.image })
@@ -40,7 +40,7 @@ pub record Range : Type 0 where
   pub at : ℕ
   pub count : ℕ
 
--- FF in place of so many bytes from an offset on
+-- FF in place of this many bytes from an offset on
 abbrev pub blank : ℕ → ℕ → List ℕ → List ℕ
 blank at count [] = []
 blank zero zero (b ∷ bytes) = b ∷ bytes
@@ -60,8 +60,8 @@ ranges = map (λ (w : Written). record { at = w.at; count = w.count })
 abbrev pub overwritten : List ℕ → ℕ → List ℕ → List ℕ
 overwritten file at bytes = take at file ++ bytes ++ drop (at + length bytes) file
 
--- What a stop leaves of a file with these bytes: those of the last sync; all of them; or all, with FF in place of each that was written
--- since.
+-- The crash images of a file with these bytes: those of the last sync; all of them; or all, with FF in place of each
+-- that was written since.
 abbrev pub left_by : Image → Moment → List ℕ → List ℕ
 left_by image.Synced moment bytes = moment.synced
 left_by image.Written moment bytes = bytes

@@ -1,4 +1,4 @@
--- What calls make of a disk in memory, some of which fail, and in one of which it may stop.
+-- How calls change a disk in memory, some of which fail, and in one of which it may stop.
 use Rattle.std.proofs.Common.{subst}
 use Rattle.std.specs.Prelude.{◌≡◌, ◌↔◌, ℕ, ◌+◌, ◌-◌, ◌^◌, min, List, [], ◌∷◌, ◌++◌, length, Bool, true, Option, None, Some, Contains, if◌then◌else◌}
 use Rattle.depot_base.specs.Calls.{Call, Made, asks_length, reads_at, writes_at, syncs}
@@ -8,8 +8,8 @@ use Rattle.depot_outside.specs.declared.mem_disk.MemDisk.{MemDisk}
 use Rattle.depot_outside.specs.declared.stops.Image.{Image}
 use Rattle.depot_outside.specs.declared.stops.Stop.{Stop}
 
--- All that calls on a disk in memory depend on: the bytes of its file, what there was at the last sync and the writes since, the stop that is
--- to come, the numbers of the calls that fail, and how many were made.
+-- All that calls on a disk in memory depend on: the bytes of its file, what there was at the last sync and the writes
+-- since, the stop that is set, the numbers of the calls that fail, and how many were made.
 pub record State : Type 0 where
   pub file : List ℕ
   pub unsynced : Moment

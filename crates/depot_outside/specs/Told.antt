@@ -1,4 +1,4 @@
--- What a shelf, a disk and a sink tell before and after a run.
+-- What contracts see of a shelf, a disk and a sink before and after a run.
 use Rattle.std.specs.Prelude.{◌≡◌, ◌<◌, ◌⊎◌, ℕ, List, [], ◌∷◌, ◌++◌, take, Bool, IsTrue, Option, Some, None}
 use Rattle.depot_base.specs.Calls.{Made}
 use Rattle.depot_base.specs.Disk.{Elapses}
@@ -8,7 +8,7 @@ use Rattle.depot_outside.specs.declared.sink.Sink as sink_of
 
 -- ---- the shelf
 
--- its files, as it tells them, the names on which it failed, and its count of faults
+-- its files where they are visible, the names on which it failed, and its count of faults
 pub record Shelves : Type 0 where
   pub tells : Bool
   pub file : List ℕ → Option (List ℕ)
@@ -52,7 +52,7 @@ pub record HasFile (shelf : Shelves) (name : List ℕ) (P : List ℕ → Type 0)
   pub there : shelf.file name ≡ Some bytes
   pub holds : P bytes
 
--- where the shelf tells its files
+-- where the shelf's files are visible
 abbrev pub WhereTold : Shelves → Type 0 → Type 0
 WhereTold shelf P = IsTrue shelf.tells → P
 
@@ -62,16 +62,16 @@ LacksFile shelf name = (shelf.faults_before < shelf.faults_after) ⊎ WhereTold 
 
 -- ---- the disk
 
--- its file, as it reads where the disk tells its bytes, what a stop may leave of it, and its count of faults
+-- its file, as it reads where the disk's bytes are visible, the crash images of it, and its count of faults
 pub record Disks : Type 1 where
   pub tells : Bool
   pub file : List ℕ
   pub file_after : List ℕ
   pub may_leave : List ℕ → Type 0
   pub may_leave_after : List ℕ → Type 0
-  -- what a stop might have left at some moment of the run, or leaves after it
+  -- the crash images of all moments of the run, and those after it
   pub left_in_run : List ℕ → Type 0
-  -- the first and the last moment of the run, and what a stop might have left at some moment from one on
+  -- the first and the last moment of the run, and the crash images of all moments since one
   pub moment_before : ℕ
   pub moment_after : ℕ
   pub left_since : ℕ → List ℕ → Type 0
@@ -96,13 +96,13 @@ disks g old new = record {
   faults_after = g.faults new;
 }
 
--- time passes on a disk, and what a stop may have left at each moment is remembered
+-- time passes on a disk, and the crash images of each moment are remembered
 abbrev pub TimePasses : {D : Type 0} → disk_of.Ghosts D → D → D → Type 0
 TimePasses g old new = Elapses (g.moment old) (g.moment new) (g.left_since old) (g.left_since new) (g.may_leave new)
 
 -- ---- the sink
 
--- what was written, as it tells it, and its count of faults
+-- what was written where that is visible, and its count of faults
 pub record Sinks : Type 0 where
   pub tells : Bool
   pub before : List ℕ
@@ -113,10 +113,10 @@ pub record Sinks : Type 0 where
 abbrev pub sinks : {S : Type 0} → sink_of.Ghosts S → S → S → Sinks
 sinks g old new = record { tells = g.tells old; before = g.written old; after = g.written new; faults_before = g.faults old; faults_after = g.faults new }
 
--- this text was added, where the sink tells it
+-- this text was added, where the sink's bytes are visible
 abbrev pub Wrote : Sinks → List ℕ → Type 0
 Wrote sink text = IsTrue sink.tells → sink.after ≡ sink.before ++ text
 
--- a front of this text was added, where the sink tells it
+-- a prefix of this text was added, where the sink's bytes are visible
 abbrev pub WroteFront : Sinks → List ℕ → Type 0
 WroteFront sink text = IsTrue sink.tells → (n : ℕ) × (sink.after ≡ sink.before ++ take n text)

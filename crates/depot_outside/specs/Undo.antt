@@ -1,6 +1,6 @@
 -- The log of a file in memory: what its writes since the last sync replaced.
 --
--- The bytes that they replaced stand end to end, those of the newest write last.
+-- The bytes that they replaced are end to end, those of the newest write last.
 use Rattle.std.specs.Prelude.{◌≡◌, ◌≤◌, ℕ, ◌+◌, ◌-◌, min, Vec, vec_len, List, [], ◌∷◌, ◌++◌, length, take, drop, map}
 use Rattle.std.specs.Vec.{vec_capacity}
 use Rattle.std.specs.Coded.{×_prop, le_prop, Coded-set, coded_list, coded_ℕ}
@@ -28,7 +28,7 @@ abbrev pub undone : List Replaced → List ℕ → List ℕ → List ℕ
 undone [] bytes file = file
 undone (r ∷ log) bytes file = undone log (take r.start bytes) (file_before r bytes file)
 
--- the range that was written, and that of the bytes to put back, stand in the file
+-- the range that was written, and that of the bytes to put back, are in the file
 pub record Fits (r : Replaced) (bytes file : List ℕ) : Type 0 where
   pub start : r.start ≤ length bytes
   pub long : r.long ≤ length file
@@ -64,12 +64,12 @@ AreLogged-prop (w ∷ writes) (r ∷ log) bytes file = ×_prop (hlevel (Coded-se
 abbrev pub written : List Replaced → List Range
 written = map (λ (r : Replaced). record { at = r.at; count = r.count })
 
--- they stand in a file of so many bytes
+-- they are in a file of this many bytes
 abbrev pub AreInside : ℕ → List Range → Type 0
 AreInside long [] = Unit {0}
 AreInside long (range ∷ ranges) = (range.at + range.count ≤ long) × AreInside long ranges
 
--- what a stop leaves of a file with this log
+-- the crash images of a file with this log
 abbrev pub file_left : Image → List Replaced → List ℕ → List ℕ → List ℕ
 file_left image.Synced log bytes file = undone log bytes file
 file_left image.Written log bytes file = file

@@ -14,7 +14,7 @@ pub struct Calls {
 }
 
 impl Calls {
-    /// No calls yet. Those of these numbers will fail.
+    /// No calls yet. Those with these numbers will fail.
     pub fn new(fails: Items) -> Calls
         ensures fails { result.fails ≡ fails }
         ensures made { result.made ≡ 0 }
@@ -27,7 +27,7 @@ impl Calls {
         }
     }
 
-    /// Begins the next call, which fails whatever its number is.
+    /// Begins the next call and fails it, whatever its number is.
     pub fn fail(&mut self)
         ensures fails { self.new.fails ≡ self.old.fails }
         ensures made { self.new.made ≡ min (self.old.made + 1) (2 ^ 64 - 1) }
@@ -37,7 +37,7 @@ impl Calls {
         self.faults.raise();
     }
 
-    /// Begins the next call, which fails exactly where its number is among those that do.
+    /// Begins the next call. It fails exactly where its number is among those that do.
     pub fn begin(&mut self) -> Result<(), Failed>
         ensures fails { self.new.fails ≡ self.old.fails }
         ensures made { self.new.made ≡ min (self.old.made + 1) (2 ^ 64 - 1) }

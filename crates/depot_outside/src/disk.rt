@@ -7,7 +7,7 @@ ghost use Rattle.depot_base.specs.Faults.{HasCause};
 use crate::Failed;
 use depot_base::Memory;
 
-/// What a call that takes a disk by value answers where it refuses: the error, and the disk.
+/// The error of a call that takes a disk by value: why it refused, and the disk.
 #[derive(Debug, Drop)]
 pub struct Back<E, D> {
     /// Why it refused.
@@ -16,36 +16,36 @@ pub struct Back<E, D> {
     pub disk: D,
 }
 
-/// The bytes of one file, and the images of it that a stop may leave.
+/// The bytes of one file, and its crash images.
 ///
-/// A stop may come at any moment, also within a call. Between two syncs each written range, and the part past the old end,
-/// may then hold any bytes; other bytes stay. After a sync that succeeded a stop leaves what a read gives. A disk that tells
-/// its bytes keeps to this; of one that doesn't, no image is known.
+/// A stop may come at any moment, also within a call. Between two syncs each written range, and the part past the old
+/// end, may then hold any bytes; other bytes stay. After a sync that succeeded, the only crash image is what a read
+/// returns. A disk whose bytes are visible keeps to this; for any other, no image is known.
 ///
-/// A call that answers `Failed` may have been stopped itself: the file then reads as one of its images.
+/// A call that returns `Failed` may have been stopped itself: the file then reads as one of its crash images.
 pub trait Disk {
-    /// Which handle it is: of a disk that is lent, the loan's name. No call changes it.
+    /// The disk's handle; a borrowed disk has the name of the borrow. No call changes it.
     ghost handle: { Self → ℕ };
 
-    /// Whether it tells its bytes. Where it doesn't, `seen` says nothing.
+    /// Whether contracts see its bytes. Where they don't, `seen` says nothing.
     ghost tells: { Self → Bool };
 
     /// The bytes of the file, as a read gives them.
     ghost seen: { Self → List ℕ };
 
-    /// The images that a stop at this moment may leave.
+    /// The crash images at this moment.
     ghost may_leave: { Self → List ℕ → Type 0 };
 
     /// This moment, as a number that never falls.
     ghost moment: { Self → ℕ };
 
-    /// The images that a stop at some moment from this one on might have left.
+    /// The crash images of all moments since this one.
     ghost left_since: { Self → ℕ → List ℕ → Type 0 };
 
     /// How often it has failed.
     ghost faults: { Self → ℕ };
 
-    /// No call on it fails from now on. A disk that can't promise this leaves it out.
+    /// No call on it fails from now on. A disk that can't promise this keeps the default, which never holds.
     ghost is_faultless: { Self → Type 0 } = { λ _. ⊥ };
 
     /// The second is what the first became by these calls, each with whether it failed; no other was made on the file.
@@ -57,7 +57,7 @@ pub trait Disk {
     /// How many more writes and syncs can be made without memory.
     ghost room_calls: { Self → ℕ };
 
-    /// How many bytes the file has. After Failed a stop may leave what it might before.
+    /// How many bytes the file has. On `Failed` the crash images are those that were possible before.
     fn length(&mut self) -> Result<u64, Failed>
         ensures length { IsTrue (tells self.old) → IfOk result (λ n. n ≡ length (seen self.old)) }
         ensures seen { OnOk result (seen self.new ≡ seen self.old) }
@@ -71,8 +71,8 @@ pub trait Disk {
         ensures room { room_bytes self.old ≤ room_bytes self.new }
         ensures calls { room_calls self.old ≤ room_calls self.new };
 
-    /// Fills a piece with the bytes of the file from an offset on. The whole range has to stand in the file. After Failed
-    /// the piece may hold anything, and a stop may leave what it might before.
+    /// Fills `into` with the bytes of the file from offset `at` on. The whole range must be in the file. On `Failed`
+    /// `into` may hold anything, and the crash images are those that were possible before.
     fn read(&mut self, at: u64, into: &mut [u8]) -> Result<(), Failed>
         requires { IsTrue (tells self.old) → at + length into.old ≤ length (seen self.old) }
         ensures read { OnOk result (IsTrue (tells self.old) → into.new ≡ slice_range (seen self.old) at (at + length into.old)) }
@@ -87,7 +87,8 @@ pub trait Disk {
         ensures room { room_bytes self.old ≤ room_bytes self.new }
         ensures calls { room_calls self.old ≤ room_calls self.new };
 
-    /// Finds the memory for so many writes and syncs, which write at most so many bytes in all. It is no call on the file.
+    /// Reserves memory for `calls` writes and syncs, which write at most `bytes` bytes in all. It doesn't access the
+    /// file.
     fn make_room(&mut self, bytes: u64, calls: u32) -> Result<(), Memory>
         ensures room { OnOk result (bytes ≤ room_bytes self.new) }
         ensures calls { OnOk result (calls ≤ room_calls self.new) }
@@ -102,8 +103,8 @@ pub trait Disk {
         ensures faults { faults self.new ≡ faults self.old }
         ensures faultless { is_faultless self.old → is_faultless self.new };
 
-    /// Puts bytes at an offset, which isn't past the file's end. There has to be room for them, and for one call. After
-    /// Failed a stop may leave what it may leave after a write that succeeded.
+    /// Writes bytes at offset `at`, which isn't past the file's end. Memory for them, and for one call, must have been
+    /// reserved. On `Failed` the crash images are those possible after a write that succeeded.
     fn write_at(&mut self, at: u64, bytes: &[u8]) -> Result<(), Failed>
         requires inside { IsTrue (tells self.old) → at ≤ length (seen self.old) }
         requires room { length bytes.now ≤ room_bytes self.old }
@@ -119,8 +120,8 @@ pub trait Disk {
         ensures room_left { room_bytes self.old ≤ room_bytes self.new + length bytes.now }
         ensures calls_left { room_calls self.old ≤ room_calls self.new + 1 };
 
-    /// Makes what was written stable: a stop then leaves what a read gives. There has to be room for one call. After Failed
-    /// a stop may leave what it might before.
+    /// Syncs (fsync): the only crash image is then what a read returns. Memory for one call must have been reserved. On
+    /// `Failed` the crash images are those that were possible before.
     fn sync(&mut self) -> Result<(), Failed>
         requires { 1 ≤ room_calls self.old }
         ensures stable { OnOk result (IsTrue (tells self.old) → Only (seen self.old) (may_leave self.new)) }
@@ -135,7 +136,7 @@ pub trait Disk {
         ensures room { room_bytes self.old ≤ room_bytes self.new }
         ensures calls_left { room_calls self.old ≤ room_calls self.new + 1 };
 
-    /// As it reads, the file is one of its images.
+    /// What a read returns is one of the crash images.
     ghost reads_as_image: { (d : Self) → IsTrue (tells d) → may_leave d (seen d) };
 
     /// This moment is one of those since an earlier one.
@@ -151,7 +152,7 @@ pub trait Disk {
     ghost after_more: { (old between new : Self) (calls more : List Made) → after old calls between → after between more new → after old (calls ++ more) new };
 }
 
-/// A disk that is lent is a disk.
+/// A borrowed disk is a disk.
 impl<D: Disk> Disk for &mut D {
     ghost handle = { λ d. d.ghost_name };
 

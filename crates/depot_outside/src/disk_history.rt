@@ -8,7 +8,7 @@ use std::marker::Model;
 
 /// The moments of a disk so far, one after each write and each sync. Contracts alone see them, so they take no bytes.
 ///
-/// No memory holds them: what keeps them are the contracts of `new`, `note_write` and `note_sync`, which are proved by
+/// No memory holds them: they are kept by the contracts of `new`, `note_write` and `note_sync`, which are proved by
 /// hand.
 #[derive(Drop)]
 pub struct History {
@@ -33,12 +33,12 @@ impl History {
         History {}
     }
 
-    /// One moment more: this file was synced, and so is the only image.
+    /// Adds a moment: this file was synced, and so is the only crash image.
     pub fn note_sync(&mut self, file: &[u8])
         ensures { self.new.moments ≡ after_sync self.old.moments file.now }
     {}
 
-    /// One moment more: so many bytes were written at an offset of this file.
+    /// Adds a moment: `count` bytes were written at offset `at` of this file.
     pub fn note_write(&mut self, file: &[u8], at: usize, count: usize)
         ensures { self.new.moments ≡ after_write self.old.moments file.now at count }
     {}

@@ -1,15 +1,16 @@
-//! What stands outside a run: a shelf of named files, a sink, and a disk.
+//! What is outside a run: a shelf of named files, a sink, and a disk.
 //!
-//! Each is a trait, with a fake in memory and the real adapter. A shelf is a map from names to bytes, a sink is the
-//! list of the bytes written to it, and a disk is the bytes of one file, each where it tells them. Of a disk contracts also
-//! see what a stop may leave of its file, now and at each moment since an earlier one.
+//! Each is a trait, with a fake in memory and a real adapter. A shelf is a map from names to bytes, a sink is the list
+//! of the bytes written to it, and a disk is the bytes of one file, each as far as contracts see them. Of a disk
+//! contracts also see the crash images, now and at each moment since an earlier one.
 //!
-//! - A fake tells its content. Its calls are numbered from 1, and those of the numbers given to `new` fail.
-//! - A real adapter tells nothing of content: what the system does with the bytes is no fact of a proof.
-//! - Each object has a count of its faults, which contracts alone see. It never falls, and a call answers `Failed` only
-//!   where it rose in that call. So a caller that hands a fault on can say whose it is.
+//! - A fake's content is visible to contracts. Its calls are numbered from 1, and those with the numbers given to `new`
+//!   fail.
+//! - A real adapter's content isn't visible: what the system does with the bytes is no fact of a proof.
+//! - Each object has a count of its faults, which contracts alone see. It never falls, and a call returns `Failed` only
+//!   where it rose in that call. So a caller that passes a fault on can say whose it is.
 //!
-//! No call is made again after a fault, and nothing here keeps a copy of what stands outside.
+//! No call is retried after a fault, and nothing here keeps a copy of what is outside.
 #![tactic(auto)]
 
 mod calls;

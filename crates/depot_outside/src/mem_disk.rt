@@ -14,7 +14,7 @@ use crate::stops::{DiskCalls, Image, Stop, Turn};
 use crate::{Disk, Failed};
 use depot_base::{Bytes, Items, Memory};
 
-/// A disk in memory. It can be told to stop in a call, and then its file becomes an image that a stop may leave.
+/// A disk in memory. It can be made to stop in a call, and its file then becomes a crash image.
 ///
 /// Its calls are those of `length`, `read`, `write_at` and `sync`.
 #[derive(Debug, Drop)]
@@ -24,8 +24,8 @@ pub struct MemDisk {
 }
 
 impl MemDisk {
-    /// A disk with this file, with nothing unsynced. Of its calls, counted from 1, those of these numbers fail, and change
-    /// nothing. It takes no memory.
+    /// A disk with this file, with nothing unsynced. Of its calls, counted from 1, those with these numbers fail and
+    /// change nothing. It takes no memory.
     pub fn new(file: Bytes, fails: Items) -> MemDisk
         ensures tells { IsTrue (⟦<MemDisk as Disk>⟧.tells result) }
         ensures state { state_of result ≡ fresh file fails }
@@ -46,11 +46,11 @@ impl MemDisk {
         &self.file.bytes
     }
 
-    /// Tells it to stop in a call to come, the next one being 1, in place of a stop that it was told before.
+    /// Sets a stop in a later call, the next one being 1, in place of any stop that was set before.
     ///
-    /// That call answers `Failed`, and its file becomes an image: 0, what it was after the last sync; 1, what it is with all
-    /// writes since, also one that this call makes; 2, that with FF in place of each byte written since. Later calls go on
-    /// from there, and don't stop. Until then nothing changes.
+    /// That call returns `Failed`, and the file becomes a crash image: 0, the file after the last sync; 1, the file
+    /// with all writes since, also one that this call makes; 2, the same with FF in place of each byte written since.
+    /// Later calls work on that file, and don't stop. Until then nothing changes.
     pub fn stop_at(&mut self, call: u32, image: u8)
         requires call { 1 ≤ call }
         requires image { image ≤ 2 }
@@ -68,7 +68,7 @@ impl MemDisk {
         });
     }
 
-    /// Begins a call that writes nothing. Where the disk stops in it, the file becomes the image.
+    /// Begins a call that writes nothing. Where the disk stops in it, the file becomes the crash image.
     fn begin(&mut self) -> Result<(), Failed>
         ensures outcome { IsOutcome (state_of self.old) (is_err result) }
         ensures state { state_of self.new ≡ after_call (state_of self.old) (record { call = asks_length; failed = is_err result }) }
@@ -114,13 +114,13 @@ impl Disk for MemDisk {
 
     ghost room_calls = { λ d. spare_writes d.file.log };
 
-    /// As of any disk. Where it stops, the file becomes the image.
+    /// As for any disk. Where it stops, the file becomes the crash image.
     fn length(&mut self) -> Result<u64, Failed> {
         self.begin()?;
         Ok(self.file.bytes.len() as u64)
     }
 
-    /// As of any disk. Where it stops, the file becomes the image.
+    /// As for any disk. Where it stops, the file becomes the crash image.
     fn read(&mut self, at: u64, into: &mut [u8]) -> Result<(), Failed> {
         self.begin()?;
         let at = at as usize;
@@ -132,7 +132,7 @@ impl Disk for MemDisk {
         self.file.make_room(bytes as usize, calls as usize)
     }
 
-    /// As of any disk. Where it stops, the file becomes the image that a stop right after the write gives.
+    /// As for any disk. Where it stops, the file becomes the crash image of a stop right after the write.
     fn write_at(&mut self, at: u64, bytes: &[u8]) -> Result<(), Failed> {
         let at = at as usize;
         match self.calls.begin() {
@@ -148,7 +148,7 @@ impl Disk for MemDisk {
         }
     }
 
-    /// As of any disk. Where it stops, nothing is synced by it, and the file becomes the image.
+    /// As for any disk. Where it stops, it syncs nothing, and the file becomes the crash image.
     fn sync(&mut self) -> Result<(), Failed> {
         self.begin()?;
         self.file.sync();

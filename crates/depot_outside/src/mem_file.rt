@@ -1,4 +1,4 @@
-//! A file in memory, and what a stop may leave of it.
+//! A file in memory, and its crash images.
 ghost use Rattle.std.specs.Prelude.{◌≡◌, ◌+◌, ◌-◌, ◌≤◌, OnOk, length, reverse, vec_len, vec_capacity};
 ghost use Rattle.depot_base.specs.Disk.{IsWritten};
 ghost use Rattle.depot_outside.specs.Images.{LeadTo, LeadTo-prop, after_sync, after_write, synced_as, written_at};
@@ -21,7 +21,7 @@ pub struct MemFile {
     pub ghost logged: { AreLogged history.moments.now.writes (reverse log.writes.items) log.bytes.items bytes.items } by { AreLogged-prop history.moments.now.writes (reverse log.writes.items) log.bytes.items bytes.items },
 }
 
-/// Puts bytes at an offset.
+/// Writes bytes at an offset.
 fn overwrite(file: &mut Vec<u8>, at: usize, bytes: &[u8])
     requires inside { at ≤ vec_len file.old }
     requires room { vec_len file.old + length bytes.now ≤ vec_capacity file.old }
@@ -50,7 +50,7 @@ impl MemFile {
         }
     }
 
-    /// Finds the memory for so many more writes, of at most so many bytes in all.
+    /// Reserves memory for `writes` more writes, of at most `bytes` bytes in all.
     pub fn make_room(&mut self, bytes: usize, writes: usize) -> Result<(), Memory>
         ensures room { OnOk result (bytes ≤ spare_bytes self.new.bytes self.new.log) }
         ensures calls { OnOk result (writes ≤ spare_writes self.new.log) }
@@ -63,7 +63,7 @@ impl MemFile {
         self.log.make_room(bytes, writes)
     }
 
-    /// Puts bytes at an offset.
+    /// Writes bytes at an offset.
     pub fn write(&mut self, at: usize, bytes: &[u8])
         requires inside { at ≤ length self.old.bytes.items }
         requires room { length bytes.now ≤ spare_bytes self.old.bytes self.old.log }
@@ -78,7 +78,7 @@ impl MemFile {
         overwrite(&mut self.bytes, at, bytes);
     }
 
-    /// Makes what was written stable.
+    /// Syncs what was written.
     pub fn sync(&mut self)
         ensures bytes { self.new.bytes.items ≡ self.old.bytes.items }
         ensures moments { self.new.history.moments ≡ after_sync self.old.history.moments self.old.bytes.items }
@@ -89,7 +89,7 @@ impl MemFile {
         self.history.note_sync(&self.bytes);
     }
 
-    /// Becomes what a stop leaves now.
+    /// Becomes a crash image of this moment.
     pub fn stop(&mut self, image: Image)
         ensures bytes { self.new.bytes.items ≡ left_by image self.old.history.moments.now self.old.bytes.items }
         ensures moments { self.new.history.moments ≡ after_sync self.old.history.moments self.new.bytes.items }
@@ -100,7 +100,7 @@ impl MemFile {
         self.history.note_sync(&self.bytes);
     }
 
-    /// Becomes what a stop leaves right after a write.
+    /// Becomes a crash image of a stop right after a write.
     pub fn stop_after_write(&mut self, at: usize, bytes: &[u8], image: Image)
         requires inside { at ≤ length self.old.bytes.items }
         requires room { length bytes.now ≤ spare_bytes self.old.bytes self.old.log }

@@ -21,8 +21,8 @@ pub struct MemShelf {
 }
 
 impl MemShelf {
-    /// A shelf with no file. Of its loads and stores, counted together from 1, those of these numbers fail: tests say so,
-    /// a clause only that none fails where there is no number. It takes no memory.
+    /// A shelf with no file. Of its loads and stores, counted together from 1, those with these numbers fail. Tests
+    /// show that; a clause says only that none fails where there is no number. It takes no memory.
     pub fn new(alloc: Global, fails: Items) -> MemShelf
         ensures tells { IsTrue (⟦<MemShelf as Shelf>⟧.tells result) }
         ensures empty { (name : List ℕ) → ⟦<MemShelf as Shelf>⟧.file result name ≡ None }
@@ -42,8 +42,8 @@ impl MemShelf {
         }
     }
 
-    /// Puts bytes under a name, in place of those that were there. It isn't counted among the calls, so it never fails.
-    /// After Memory nothing has changed.
+    /// Stores bytes under a name, in place of any that were there. It isn't counted among the calls, so it never fails.
+    /// On `Memory` nothing has changed.
     #[tactic(auto, using(std::proofs::lemmas::Map::Text::text_keys))]
     pub fn put(&mut self, name: &str, bytes: &[u8]) -> Result<(), Memory>
         ensures stored { OnOk result (⟦<MemShelf as Shelf>⟧.file self.new name.now ≡ Some bytes.now) }

@@ -14,8 +14,8 @@ pub struct MemSink {
 }
 
 impl MemSink {
-    /// A sink with nothing written. Of its writes, counted from 1, those of these numbers fail, and add nothing: tests say
-    /// so, a clause only that none fails where there is no number. It takes no memory.
+    /// A sink with nothing written. Of its writes, counted from 1, those with these numbers fail and add nothing. Tests
+    /// show that; a clause says only that none fails where there is no number. It takes no memory.
     pub fn new(alloc: Global, fails: Items) -> MemSink
         ensures tells { IsTrue (⟦<MemSink as Sink>⟧.tells result) }
         ensures written { ⟦<MemSink as Sink>⟧.written result ≡ [] }

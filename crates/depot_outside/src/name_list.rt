@@ -7,7 +7,7 @@ use std::marker::Model;
 
 /// Names that a shelf was called with, in their order. Contracts alone see them, so they take no bytes.
 ///
-/// No memory holds them: what keeps them are the contracts of `new` and `note`, which are proved by hand.
+/// No memory holds them: they are kept by the contracts of `new` and `note`, which are proved by hand.
 #[derive(Drop)]
 pub struct NameList {
     pub ghost names: { List (List ℕ) },

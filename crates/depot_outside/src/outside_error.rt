@@ -1,4 +1,4 @@
-//! What a call on the outside answers where it isn't done.
+//! Why a call on an object outside the run failed.
 ghost use Rattle.std.specs.Prelude.{◌≡◌};
 ghost use Rattle.depot_outside.specs.declared.outside_error.OutError.TheVariants as out_error;
 
@@ -6,10 +6,10 @@ ghost use Rattle.depot_outside.specs.declared.outside_error.OutError.TheVariants
 #[derive(Clone, Copy, Debug, PartialEq, Eq)]
 pub struct Failed;
 
-/// Why a call on an object outside the run wasn't done.
+/// Why a call on an object outside the run failed.
 #[derive(Clone, Copy, Debug, PartialEq, Eq)]
 pub enum OutError {
-    /// No memory was found.
+    /// Memory ran out.
     Memory,
     /// The object failed. Its count of faults rose in the call.
     Failed,

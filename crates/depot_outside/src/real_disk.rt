@@ -14,9 +14,9 @@ use std::rt::Files;
 /// The name of the journal's file in the current folder.
 pub(crate) const JOURNAL: &str = "depot.journal";
 
-/// The file `depot.journal` of the current folder. It tells nothing of its bytes or of what a stop may leave, and takes no
-/// memory of the run. From its first call on it has a lock on the file, which no other disk has meanwhile, be it of this
-/// process or of another. The lock ends with the disk, or with its process, however that ends.
+/// The file `depot.journal` of the current folder. Contracts see neither its bytes nor its crash images, and it takes
+/// no memory of the run. From its first call on it holds a lock on the file, which no other disk can hold meanwhile, in
+/// this process or in another. The lock ends with the disk, or with its process, however that ends.
 #[derive(Drop)]
 pub struct RealDisk<R: Files<File = File> + Drop> {
     rt: R,
@@ -48,8 +48,8 @@ fn reach<'a, R: Files<File = File>>(
     }
 }
 
-/// Opens the file, and makes it where it is absent. Where another disk has it locked that is an error. The folder that
-/// names it is synced then, so that no stop loses a file that was made.
+/// Opens the file, and creates it where it is absent. It is an error where another disk has locked it. The folder is
+/// synced then, so that no stop loses a created file.
 fn open_journal<R: Files<File = File>>(rt: &R) -> io::Result<File> {
     let file = OpenOptions::new()
         .read(true)
@@ -61,7 +61,7 @@ fn open_journal<R: Files<File = File>>(rt: &R) -> io::Result<File> {
     Ok(file)
 }
 
-/// Has the system write out the names that it holds back of the current folder.
+/// Syncs the current folder, with the names that the system holds back.
 fn sync_folder<R: Files<File = File>>(rt: &R) -> io::Result<()> {
     OpenOptions::new().read(true).open(rt, ".")?.sync_all()
 }
@@ -91,13 +91,13 @@ fn write_piece<R: Files<File = File>>(
     write_whole_at(reach(rt, file)?, at, bytes)
 }
 
-/// Has the system write out what it holds back of the file.
+/// Syncs the file.
 fn flush<R: Files<File = File>>(rt: &R, file: &mut Option<File>) -> io::Result<()> {
     reach(rt, file)?.sync_data()
 }
 
 impl<R: Files<File = File> + Drop> RealDisk<R> {
-    /// Hands an outcome on. An error of the system is a fault.
+    /// Passes an outcome on. An error of the system is a fault.
     fn settle<T: Drop>(&mut self, outcome: io::Result<T>) -> Result<T, Failed>
         ensures cause { HasCause self.old.faults.number self.new.faults.number (IsErr result) }
     {

@@ -17,9 +17,10 @@ use std::rt::Files;
 /// The most bytes of a file, 1 GiB.
 const MOST_BYTES: usize = 1_073_741_824;
 
-/// The files of the system, by path. It tells nothing of them. To load a file of more than 1 GiB is a fault. So is to store
-/// in place of the journal of the current folder, by whatever path or link it is named, or of a file that another has
-/// locked, as a run has its journal. A file is stored in its place, so a store that fails may leave a front of the bytes.
+/// The files of the system, by path. Contracts don't see them. Loading a file of more than 1 GiB is a fault. So is
+/// storing over the journal of the current folder, by whatever path or link it is named, or over a file that another
+/// has locked, as a run has its journal. A file is overwritten in place, so a failed store may leave a prefix of the
+/// bytes.
 #[derive(Drop)]
 pub struct RealShelf<R> {
     rt: R,
@@ -46,7 +47,7 @@ impl<R: Files<File = File> + AllocGlobal + Drop> RealShelf<R> {
         }
     }
 
-    /// Hands on what a call on a name came to. A failure is counted, and its name is noted.
+    /// Passes on the outcome of a call on a name. A failure is counted, and its name is recorded.
     fn settle<T: Drop>(&mut self, name: &str, outcome: Result<T, OutError>) -> Result<T, OutError>
         ensures outcome { result ≡ outcome }
         ensures cause { HasCause self.old.faults.number self.new.faults.number (IsErrOf result OutError.Failed) }
@@ -71,7 +72,7 @@ fn read_file<R: Files + AllocGlobal>(rt: &R, name: &str) -> Result<Option<Bytes>
     }
 }
 
-/// Whether an open file is the journal of the current folder: both have one number on one device.
+/// Whether an open file is the journal of the current folder: both have the same inode on the same device.
 fn is_journal<R: Files>(rt: &R, file: &Metadata) -> io::Result<bool> {
     match fs::metadata(rt, JOURNAL) {
         Ok(journal) => Ok(journal.dev() == file.dev() && journal.ino() == file.ino()),
@@ -80,7 +81,7 @@ fn is_journal<R: Files>(rt: &R, file: &Metadata) -> io::Result<bool> {
     }
 }
 
-/// Cuts a file to nothing. Where another has it locked that is an error.
+/// Truncates a file to nothing. It is an error where another has it locked.
 fn clear(file: &File) -> io::Result<()> {
     if let Err(TryLockError::WouldBlock) = file.try_lock() {
         return Err(ErrorKind::WouldBlock.into());
@@ -88,8 +89,8 @@ fn clear(file: &File) -> io::Result<()> {
     file.set_len(0)
 }
 
-/// Opens a file to be written from its start, and makes it where it is absent. It is looked at once it is open, before
-/// anything in it changes: the journal is an error, and what is no device and no pipe is cut to nothing.
+/// Opens a file to be written from its start, and creates it where it is absent. The file is examined once it is open,
+/// before anything in it changes: the journal is an error, and anything but a device or a pipe is truncated.
 fn open_anew<R: Files<File = File>>(rt: &R, name: &str) -> io::Result<File> {
     let file = OpenOptions::new().write(true).create(true).open(rt, name)?;
     let found = file.metadata()?;

@@ -6,7 +6,7 @@ use crate::transfer::write_whole;
 use crate::{Failed, OutError, Sink};
 use std::io;
 
-/// Standard output. It tells nothing of what was written, and keeps nothing back: each write goes to the system at once.
+/// Standard output. Contracts don't see what was written. It buffers nothing: each write goes to the system at once.
 #[derive(Drop)]
 pub struct RealSink<R> {
     rt: R,

@@ -8,7 +8,7 @@ use depot_base::Bytes;
 
 /// A map from names to bytes.
 pub trait Shelf {
-    /// Whether it tells its files. Where it doesn't, `file` says nothing.
+    /// Whether contracts see its files. Where they don't, `file` says nothing.
     ghost tells: { Self → Bool };
 
     /// The bytes under each name.
@@ -26,10 +26,11 @@ pub trait Shelf {
     /// How often it has failed.
     ghost faults: { Self → ℕ };
 
-    /// No call on it fails from now on. A shelf that can't promise this leaves it out.
+    /// No call on it fails from now on. A shelf that can't promise this keeps the default, which never holds.
     ghost is_faultless: { Self → Type 0 } = { λ _. ⊥ };
 
-    /// The file of a name, or None where there is none, which is no fault. No file changes, whatever is answered.
+    /// Loads the file of a name; returns None, which is no fault, where there is none. No file changes, whatever is
+    /// answered.
     fn load(&mut self, name: &str) -> Result<Option<Bytes>, OutError>
         ensures found { IsTrue (tells self.old) → IfOk result (λ found. found ≡ file self.old name.now) }
         ensures same { file self.new ≡ file self.old }
@@ -40,8 +41,8 @@ pub trait Shelf {
         ensures cause { HasCause (faults self.old) (faults self.new) (IsErrOf result OutError.Failed) }
         ensures faultless { is_faultless self.old → is_faultless self.new × (faults self.new ≡ faults self.old) };
 
-    /// Puts bytes under a name, in place of those that were there. After Failed that name may hold anything, and after
-    /// Memory nothing has changed.
+    /// Stores bytes under a name, in place of any that were there. On `Failed` that name may hold anything, and on
+    /// `Memory` nothing has changed.
     fn store(&mut self, name: &str, bytes: &[u8]) -> Result<(), OutError>
         ensures stored { IsTrue (tells self.old) → OnOk result (file self.new name.now ≡ Some bytes.now) }
         ensures others { (other : List ℕ) → other ≢ name.now → file self.new other ≡ file self.old other }

@@ -7,7 +7,7 @@ use crate::OutError;
 
 /// The list of the bytes written to it.
 pub trait Sink {
-    /// Whether it tells what was written. Where it doesn't, `written` says nothing.
+    /// Whether contracts see what was written. Where they don't, `written` says nothing.
     ghost tells: { Self → Bool };
 
     /// What was written.
@@ -16,10 +16,10 @@ pub trait Sink {
     /// How often it has failed.
     ghost faults: { Self → ℕ };
 
-    /// No call on it fails from now on. A sink that can't promise this leaves it out.
+    /// No call on it fails from now on. A sink that can't promise this keeps the default, which never holds.
     ghost is_faultless: { Self → Type 0 } = { λ _. ⊥ };
 
-    /// Adds bytes at the end: after Failed a front of them is there, and after Memory none.
+    /// Appends bytes. On `Failed` a prefix of them is there, and on `Memory` none.
     fn write(&mut self, bytes: &[u8]) -> Result<(), OutError>
         ensures written { IsTrue (tells self.old) → WritesPiece (written self.old) (written self.new) bytes.now result }
         ensures tells { tells self.new ≡ tells self.old }

@@ -1,21 +1,21 @@
-//! How a list that only grows finds its memory.
+//! How a list that only grows reserves its memory.
 ghost use Rattle.std.specs.Prelude.{◌≡◌, ◌≤◌, ◌+◌, ◌/◌, max, min, OnOk, IsOk, vec_len, vec_capacity};
 
 use depot_base::Memory;
 
-/// So many items are kept to spare beside those of a list that is no shorter.
+/// The spare capacity, in items, of a list of at least this length, unless an eighth of its length is more.
 const SPARE: usize = 1048576;
 
-/// How many items a list of so many gets to spare, where it has to grow.
+/// The spare capacity, in items, of a list of `length` items that has to grow.
 pub fn spare_beside(length: usize) -> usize
     ensures { result ≡ max (length / 8) (min length 1048576) }
 {
     length.min(SPARE).max(length / 8)
 }
 
-/// Finds the memory for so many more items. A list that has to grow for them gets its length again beside, up to 1,048,576
-/// items, so that it moves seldom; and a long one an eighth of its length, where that is more, where `reserve` would double
-/// it. So each item that is added costs some eight moves in all.
+/// Reserves memory for `more` items. A list that has to grow for them also gets spare capacity for as many items as it
+/// has, up to 1,048,576, so that it moves seldom; a long one gets an eighth of its length, where that is more and
+/// `reserve` would double it. So each added item costs some eight moves in all.
 pub fn reserve_tightly<T>(list: &mut Vec<T>, more: usize) -> Result<(), Memory>
     ensures items { list.new.items ≡ list.old.items }
     ensures len { vec_len list.new ≡ vec_len list.old }

@@ -6,14 +6,14 @@ use crate::Failed;
 use crate::calls::Calls;
 use depot_base::Items;
 
-/// What a stop leaves of the file of a disk in memory.
+/// Which crash image of a disk in memory a stop gives.
 #[derive(Clone, Copy, Debug, PartialEq, Eq)]
 pub enum Image {
-    /// What it was after the last sync.
+    /// The file after the last sync.
     Synced,
-    /// What it is with all writes since.
+    /// The file with all writes since.
     Written,
-    /// That, with FF in place of each byte written since.
+    /// The file with FF in place of each byte written since.
     Blanked,
 }
 
@@ -31,7 +31,7 @@ impl Image {
     }
 }
 
-/// A stop that is to come: in which call, the next one being 1, and what it leaves.
+/// A stop that is set: in which call, the next one being 1, and which image it gives.
 #[derive(Clone, Copy, Debug, PartialEq, Eq)]
 pub struct Stop {
     pub call: u32,
@@ -45,11 +45,11 @@ pub enum Turn {
     Made,
     /// It fails, and changes nothing.
     Fails,
-    /// The disk stops in it, and leaves this image.
+    /// The disk stops in it with this image.
     Stops(Image),
 }
 
-/// The calls on a disk in memory, of which some fail, and the stop that is to come.
+/// The calls on a disk in memory, some of which fail, and the stop that is set.
 #[derive(Debug, Drop)]
 pub struct DiskCalls {
     pub calls: Calls,
@@ -57,7 +57,7 @@ pub struct DiskCalls {
 }
 
 impl DiskCalls {
-    /// No calls yet. Those of these numbers will fail, and the disk will not stop.
+    /// No calls yet. Those with these numbers will fail, and no stop is set.
     pub fn new(fails: Items) -> DiskCalls
         ensures fails { result.calls.fails ≡ fails }
         ensures made { result.calls.made ≡ 0 }
@@ -70,7 +70,7 @@ impl DiskCalls {
         }
     }
 
-    /// What the stop leaves that comes in the call that begins. Any other is a call nearer then.
+    /// The image of the stop, if it is set in the call that begins. Any other stop is then one call nearer.
     fn count_down(&mut self) -> Option<Image>
         ensures due { result ≡ image_due self.old.next }
         ensures next { self.new.next ≡ counted_down self.old.next }
@@ -90,7 +90,7 @@ impl DiskCalls {
         None
     }
 
-    /// Begins the next call. Where the disk stops in it, it does so whatever the call's number is.
+    /// Begins the next call. A stop that is set in it comes first, whatever the call's number is.
     pub fn begin(&mut self) -> Turn
         ensures turn { IsTurn (image_due self.old.next) result }
         ensures next { self.new.next ≡ counted_down self.old.next }

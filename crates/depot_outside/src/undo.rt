@@ -7,8 +7,8 @@ use crate::stops::Image;
 use depot_base::Memory;
 use std::alloc::Global;
 
-/// A write to a file: its offset, how many bytes it has, how long the file was before, and how many bytes of the log stand
-/// before those that it replaced.
+/// A write to a file: its offset, how many bytes it has, how long the file was before, and how many bytes of the log
+/// come before those that it replaced.
 #[derive(Clone, Copy, Debug, PartialEq, Eq)]
 pub struct Replaced {
     pub at: usize,
@@ -45,7 +45,7 @@ fn fill_blank(piece: &mut [u8])
     piece.fill(0xFF);
 }
 
-/// Puts FF in place of so many bytes from an offset on.
+/// Puts FF in place of `count` bytes from an offset on.
 fn put_blank(at: usize, count: usize, file: &mut Vec<u8>)
     requires reach { at + count ≤ vec_len file.old }
     ensures blank { file.new.items ≡ blank at count file.old.items }
@@ -67,7 +67,7 @@ impl UndoLog {
         }
     }
 
-    /// Finds the memory for so many more writes, which replace at most so many bytes.
+    /// Reserves memory for `writes` more writes, which replace at most `bytes` bytes.
     pub fn make_room(&mut self, bytes: usize, writes: usize) -> Result<(), Memory>
         ensures bytes { OnOk result (vec_len self.new.bytes + bytes ≤ vec_capacity self.new.bytes) }
         ensures writes { OnOk result (vec_len self.new.writes + writes ≤ vec_capacity self.new.writes) }
@@ -141,7 +141,7 @@ impl UndoLog {
         }
     }
 
-    /// Makes of the file what a stop leaves of it, and forgets the writes.
+    /// Makes the file a crash image of itself, and forgets the writes.
     #[tactic(auto, using(crate::proofs::Undone::all_inside))]
     pub fn leave(&mut self, image: Image, file: &mut Vec<u8>)
         requires { CanUndo (reverse self.old.writes.items) self.old.bytes.items file.old.items }

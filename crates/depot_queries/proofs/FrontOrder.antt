@@ -1,4 +1,4 @@
--- The places of the records that a bundle has in front, in order.
+-- The places of the records that a bundle begins with, in order.
 use Rattle.std.proofs.Common.{◌≡◌, ℕ, zero, suc, ◌+◌, ◌<◌, Bool, true, false, cond, not, eqb, ◌==◌, ◌||◌, List, [], ◌∷◌, ◌++◌, length, map, filter, take, get_or, nat_lt, refl, sym, ap, subst, ◌∙◌, arith, inl, inr}
 use Rattle.std.specs.Prelude.{slice_get}
 use Rattle.std.specs.List.{AllByRecursion, dedup, list_any}
@@ -65,13 +65,13 @@ other_next listed cs i c b low is e =
       by_test true = refl
       by_test false = refl
 
--- what a test told of a node
+-- what a test said of a node
 pub other_is : (listed seen : List ℕ) (node : ℕ) (tells b : Bool) → seen ≡ listed → tells ≡ list_any (λ n. n == node) seen → tells ≡ b → not (list_any (λ n. n == node) listed) ≡ not b
 other_is listed seen node tells b same told is = ap not (ap (list_any (λ n. n == node)) (sym same) ∙ sym told ∙ is)
 
 -- ---- the places of the records that pass a test
 
--- a place so many further on, whose record passes the test
+-- a place this many further on, whose record passes the test
 record StandsFrom (test : Record → Bool) (n : ℕ) (J : List Record) (place : ℕ) : Type 0 where
   pub further : ℕ
   pub is : place ≡ n + further

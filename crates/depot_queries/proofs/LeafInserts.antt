@@ -50,7 +50,7 @@ other_id u h other = false_from_ne_true (has_id (u ∷ []) h) (λ e.
     let w = has_id_to (u ∷ []) h e in
     elim w.1.0 [ inl same ↦ other (ap id_of_update same ∙ w.1.1) | inr never ↦ never ])
 
--- The place that stands beside an update, where the places begin at n, and that there is one.
+-- The place that belongs to an update, where the places begin at n, and that there is one.
 record StandsBeside (n : ℕ) (J : List Record) (i : ℕ) (h : List ℕ) : Type 0 where
   pub place : slice_get (records_where accepts n J) i ≡ Some (n + position_or_len (λ r. has_id (accepted_by r) h) J)
   pub below : position_or_len (λ r. has_id (accepted_by r) h) J < length J

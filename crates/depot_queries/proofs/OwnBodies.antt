@@ -13,7 +13,7 @@ use Rattle.depot_model.specs.Texts.{text_of_statement}
 use Rattle.depot_model.proofs.BodyLaws.{text_of_statement-Update}
 use Rattle.depot_model.proofs.RecordLaws.{length_in_own_put, body_in_own_put, long_own_put, own_voucher_text}
 
--- the text of a record is its tag and what stands behind
+-- the text of a record is its tag and what follows
 record HasTag (r : Record) : Type 0 where
   pub rest : List ℕ
   pub is : text_of_record r ≡ tag_of r ∷ rest
@@ -35,7 +35,7 @@ some_text r text t lt = let tag = has_tag r in omega (arith, ap length (t.is ∙
 first_is_tag : (r : Record) (text : List ℕ) → IsTextOf r text → get_or text 0 0 ≡ tag_of r
 first_is_tag r text t = let tag = has_tag r in ap (λ (bytes : List ℕ). get_or bytes 0 0) (t.is ∙ tag.is)
 
--- that of an own update's has its body behind the length
+-- that of an own update's has its body after the length
 pub put_body : (r : Record) (text body : List ℕ) → IsTextOf r text → get_or text 0 0 ≡ 2 → body ≡ take (from_be_bytes w32 (take 4 (drop 1 text))) (drop 5 text) → body ∷ [] ≡ map text_of_statement (own_by r)
 put_body (OwnPut u values) text body t tag is = ap (λ (b : List ℕ). b ∷ []) (is ∙ body_in_own_put text u values t.fits t.is ∙ sym (text_of_statement-Update u))
 put_body (Birth node h) text body t tag is = absurd (omega (arith, tag, first_is_tag (Birth node h) text t))
@@ -59,7 +59,7 @@ put_is_long (Foreign s) text t tag = absurd (omega (arith, tag, first_is_tag (Fo
 put_is_long (Conviction p) text t tag = absurd (omega (arith, tag, first_is_tag (Conviction p) text t))
 put_is_long (Held value) text t tag = absurd (omega (arith, tag, first_is_tag (Held value) text t))
 
--- that of an own voucher's has it behind the tag
+-- that of an own voucher's has it after the tag
 pub voucher_body : (r : Record) (text body : List ℕ) → IsTextOf r text → get_or text 0 0 ≡ 3 → body ≡ take (length text - 1) (drop 1 text) → body ∷ [] ≡ map text_of_statement (own_by r)
 voucher_body (OwnVoucher v) text body t tag is =
     let whole = t.is ∙ own_voucher_text v in

@@ -18,7 +18,7 @@ use Rattle.depot_queries.specs.ItemPlaces.{IsItemAt}
 
 -- ---- from an item to its record
 
--- The update that stands at an item, and the place, behind those in front, of the record that accepts it.
+-- The update that is at an item, and the place, after those of the prefix, of the record that accepts it.
 record HasItem (n : ℕ) (J : List Record) (item place : ℕ) : Type 0 where
   pub ahead : ℕ
   pub update : Update
@@ -100,7 +100,8 @@ none_or_one_at J place = by_record (slice_get J place) where
     | inr one ↦ inr (one.0, append-nil (accepted_by r) ∙ one.1)
   ]
 
--- What a search for a place among those of the items says: its item, which is no greater; or that the record there accepts nothing.
+-- The result of a search for a place among those of the items: its item, which is no greater; or that the record there
+-- accepts nothing.
 abbrev pub IsFound : List Record → ℕ → Result ℕ ℕ → Type 0
 IsFound J place (Ok item) = (item ≤ place) × IsItemAt J place (Some item)
 IsFound J place (Err gap) = IsItemAt J place None
@@ -123,7 +124,7 @@ found J place places answer are searches = by_answer answer (subst (λ (ps : Lis
         ]
       ]
 
--- ---- what stands at an item that was found
+-- ---- what is at an item that was found
 
 -- it is one of the updates
 pub item_within : (J : List Record) (us : List Update) (place item : ℕ) (o : Option ℕ) → accepted J ≡ us → IsItemAt J place o → o ≡ Some item → item < length us

@@ -36,7 +36,7 @@ use Rattle.depot_base.proofs.GeneralLaws.{parts_at}
 
 -- ---- the text of a place
 
--- the text that stands at a place is that of the record there
+-- the text that is at a place is that of the record there
 text_of_place : (here : Setting) (J : List Record) (place : ℕ) (r : Record) (text : List ℕ) → IsLawful here J → slice_get J place ≡ Some r → slice_get (map text_of_record J) place ≡ Some text → IsTextOf r text
 text_of_place here J place r text l at e =
     let same : option_map text_of_record (slice_get J place) ≡ Some text = sym (slice_get-map text_of_record J place) ∙ e in
@@ -45,7 +45,7 @@ text_of_place here J place r text l at e =
 
 -- ---- the body of a statement
 
--- behind its version, its kind and its writer stands its number
+-- after its version, its kind and its writer comes its number
 number_in_body : (s : Statement) → take 4 (drop 4 (text_of_statement s)) ≡ numeral w32 (seq_of s)
 unfolding statement update_fields voucher_fields number numeral
 number_in_body (statements.Update u) = refl
@@ -117,7 +117,7 @@ signed_by_parts sign s body signature seq text number signed =
 
 -- ---- another's statement
 
--- behind the tag of its record stands its text
+-- after the tag of its record comes its text
 foreign_record : (s : Signed) → text_of_record (Foreign s) ≡ 4 ∷ text_of_signed s
 unfolding record_text tagged number numeral
 foreign_record s = refl
@@ -125,12 +125,12 @@ foreign_record s = refl
 foreign_text : (r : Record) (s : Signed) (text : List ℕ) → r ≡ Foreign s → IsTextOf r text → text ≡ 4 ∷ text_of_signed s
 foreign_text r s text is t = t.is ∙ ap (λ (x : Record). text_of_record x) is ∙ foreign_record s
 
--- what stands behind the first byte, where some are given
+-- what follows the first byte, where some are given
 behind_tag : {E : Type 0} (result : Result (List ℕ) E) (text rest : List ℕ) (tag : ℕ) → text ≡ tag ∷ rest → IfOk result (λ made. (n : ℕ) (ns : List ℕ) → text ≡ n ∷ ns → made ≡ ns) → IfOk result (λ made. made ≡ rest)
 behind_tag (Ok made) text rest tag is each = each tag rest is
 behind_tag (Err e) text rest tag is each = tt
 
--- ---- what is told of a place
+-- ---- what is said of a place
 
 -- what a record holds of own statements has this body
 pub record IsOwnBody (r : Record) (body : List ℕ) : Type 0 where
@@ -155,7 +155,7 @@ own_leaf_text r body can is =
     let f = own_fits r body b can in
     (b.statement, record { fits = f.fits; is = b.is; leaf = f.leaf })
 
--- such a record is told by that statement, signed now
+-- such a record is sent as that statement, signed now
 signed_own : (sign : Signs) (r : Record) (s : Statement) → own_by r ≡ s ∷ [] → signed_by sign r ≡ signed_with sign s ∷ []
 signed_own sign (OwnPut u values) s e = ap (map (signed_with sign)) e
 signed_own sign (OwnVoucher v) s e = ap (map (signed_with sign)) e
@@ -164,7 +164,7 @@ signed_own sign (Foreign t) s e = absurd cc
 signed_own sign (Conviction p) s e = absurd cc
 signed_own sign (Held value) s e = absurd cc
 
--- and one that holds none, and is told by one, is another's
+-- and one that holds none, and is sent as one, is another's
 told_by_another : (sign : Signs) (r : Record) → [] ≡ map text_of_statement (own_by r) → length (signed_by sign r) ≡ 1 → (s : Signed) × (r ≡ Foreign s)
 told_by_another sign (OwnPut u values) none one = absurd cc
 told_by_another sign (OwnVoucher v) none one = absurd cc

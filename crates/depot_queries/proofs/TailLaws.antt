@@ -25,7 +25,7 @@ use Rattle.depot_queries.proofs.BesidePlaces.{IsSoFar, so_far_same}
 
 -- ---- back on a chain
 
--- On the way back on a chain: the item stands at the place or behind it, and those behind it were added.
+-- On the way back on a chain: the item is at the place or after it, and those after it were added.
 pub record IsPassed (us : List Update) (chain from : ℕ) (old found : List ℕ) (item : ℕ) : Type 0 where
   pub place : ℕ
   pub at : IsSpotAt (prev_places us) item chain place
@@ -45,7 +45,7 @@ passed_tip us chain from old tip causal t high = record {
   inside = λ all. all;
 }
 
--- with this item all at its place or behind it are added
+-- with this item all at its place or after it are added
 added_at : (us : List Update) (chain from : ℕ) (old found : List ℕ) (item : ℕ) (p : IsPassed us chain from old found item) (m other : ℕ) → IsSpotAt (prev_places us) m chain other → p.place ≤ other → IsIn m (found ++ item ∷ [])
 added_at us chain from old found item p m other at high = by_test (nat_lt p.place other) refl where
   by_test : (b : Bool) → nat_lt p.place other ≡ b → IsIn m (found ++ item ∷ [])
@@ -58,7 +58,7 @@ added_at us chain from old found item p m other at high = by_test (nat_lt p.plac
 inside_at : (us : List Update) (chain from : ℕ) (old found : List ℕ) (item : ℕ) (p : IsPassed us chain from old found item) → AllByRecursion (λ m. m < length us) old → AllByRecursion (λ m. m < length us) (found ++ item ∷ [])
 inside_at us chain from old found item p all = all_push (λ m. m < length us) found item (p.inside all) (at_within us item chain p.place p.at)
 
--- and goes on at the item before, where one stands at the place or behind it
+-- and continues at the item before, where one is at the place or after it
 pub passed_next : (us : List Update) (chain from : ℕ) (old found new : List ℕ) (item : ℕ) (p : IsPassed us chain from old found item) → from < p.place → new ≡ found ++ item ∷ [] → (b : ℕ) × ((slice_get (prev_places us) item ≡ Some (Some b)) × IsPassed us chain from old new b)
 passed_next us chain from old found new item p later is = by_place p.place refl where
   by_place : (place : ℕ) → p.place ≡ place → (b : ℕ) × ((slice_get (prev_places us) item ≡ Some (Some b)) × IsPassed us chain from old new b)
@@ -97,7 +97,7 @@ no_tail us chain from old tip causal t low = record {
 
 -- ---- one chain after the other
 
--- what the first chains have behind the row is among these, which are items
+-- what the first chains have after the row is among these, which are items
 pub record AreBehind (us : List Update) (row : List ℕ) (count : ℕ) (found : List ℕ) : Type 0 where
   pub all : (item chain place : ℕ) → IsSpotAt (prev_places us) item chain place → chain < count → slice_index row chain ≤ place → IsIn item found
   pub inside : AllByRecursion (λ item. item < length us) found
@@ -139,12 +139,12 @@ not_lacked us ids row items reader item u causal joined behind at apart = by_tes
 same_entry : (ns : List ℕ) (i a b : ℕ) → i < length ns → get_or ns i a ≡ get_or ns i b
 same_entry ns i a b low = let both : Some (get_or ns i a) ≡ Some (get_or ns i b) = sym (slice_get-get_or ns i a low) ∙ slice_get-get_or ns i b low in cc
 
--- Of items in order the first ones were looked at, and all that were stand before this place.
+-- Of items in order the first ones were looked at, and all that were come before this place.
 pub record AreLooked (us : List Update) (items : List ℕ) (count next : ℕ) : Type 0 where
   pub before : (k : ℕ) → k < count → get_or items k 0 < next
   pub low : next ≤ length us
 
--- one that stands at the place or behind it is still to come
+-- one that is at the place or after it is still to come
 still_comes : (us : List Update) (items : List ℕ) (count next m : ℕ) → AreLooked us items count next → next ≤ m → IsIn m items → (j : ℕ) × ((count ≤ j) × ((j < length items) × (get_or items j 0 ≡ m)))
 still_comes us items count next m looked high on = by_test (nat_lt c.0 count) refl where
   c : Contains items m
@@ -157,7 +157,7 @@ still_comes us items count next m looked high on = by_test (nat_lt c.0 count) re
   by_test true lower = absurd (omega (arith, looked.before c.0 (ltb-true c.0 count lower), is, high))
   by_test false later = (c.0, (ltb-false c.0 count later, (c.1, is)))
 
--- one that stands before the place is passed over
+-- one that comes before the place is passed over
 pub looked_same : (us : List Update) (items : List ℕ) (count next item : ℕ) → item ≡ get_or items count 0 → item < next → AreLooked us items count next → AreLooked us items (count + 1) next
 looked_same us items count next item is low looked = record {
   before = λ k lt. by_test k lt (nat_lt k count) refl;
@@ -185,7 +185,7 @@ over_gap test us ns (suc steps) i found long low none before =
     let more = so_far_same test us ns i u.0 n.0 found u.1 n.1 (none i u.0 (omega arith) (omega arith) u.1) before in
     subst (λ (k : ℕ). IsSoFar test us ns k found) (omega arith) (over_gap test us ns steps (i + 1) found long (omega (arith, low)) (λ k v above below. none k v (omega (arith, above)) (omega (arith, below))) more)
 
--- what was found before the next place is found before this item, where each that is to come stands there or behind
+-- what was found before the next place is found before this item, where each that is to come is there or after
 pub so_far_to : (us : List Update) (ns row items : List ℕ) (ids : List (List ℕ)) (reader count next item : ℕ) (found : List ℕ) → IsCausal [] us → IsJoinedRow us (places_of us ids) row → HoldsBehind us row items → AreLooked us items count next → length ns ≡ length us → next ≤ item → item ≤ length us
     → ((j : ℕ) → count ≤ j → j < length items → item ≤ get_or items j 0) → IsSoFar (is_candidate us ids reader) us ns next found → IsSoFar (is_candidate us ids reader) us ns item found
 so_far_to us ns row items ids reader count next item found causal joined behind looked long low inside later before =

@@ -1,4 +1,5 @@
--- Accepted updates and the places of their records: numbers that stand beside them, the one that a record accepts, and leaves.
+-- Accepted updates and the places of their records: numbers that belong to them, the one that a record accepts, and
+-- leaves.
 use Rattle.std.specs.Prelude.{◌≡◌, ℕ, List, [], ◌∷◌, Bool, Option, Some, None, unwrap_or, slice_get, if◌then◌else◌}
 use Rattle.depot_base.specs.declared.record.Record.{Record}
 use Rattle.depot_base.specs.declared.update.Update.{Update}
@@ -8,7 +9,7 @@ use Rattle.depot_model.specs.Journal.{accepted, accepted_at}
 use Rattle.depot_model.specs.Texts.{id_of_update}
 use Rattle.depot_queries.specs.declared.leaf_order.OrderedLeaf.{OrderedLeaf}
 
--- the numbers that stand beside the updates that pass a test
+-- the numbers that belong to the updates that pass a test
 abbrev pub beside : (Update → Bool) → List Update → List ℕ → List ℕ
 beside test [] ns = []
 beside test (u ∷ us) [] = []

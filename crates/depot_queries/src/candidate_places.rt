@@ -1,4 +1,4 @@
-//! The updates that a reader lacks, as far as its leaves tell.
+//! The updates that a reader seems to lack, by its leaves: the candidates for a bundle.
 ghost use Rattle.std.specs.Prelude.{◌≡◌, ◌<◌, length, IfOk};
 ghost use Rattle.std.specs.List.{AllByRecursion};
 ghost use Rattle.std.specs.List.Sorted.{IsNonDecreasing};
@@ -15,9 +15,9 @@ use depot_model::{Past, Scheme};
 use depot_readings::Readings;
 use std::alloc::Global;
 
-/// The places of the records whose updates a reader with these leaves lacks, rising: those of other writers that neither are
-/// one of the leaves nor precede one. The rows of the leaves are joined once. Where few items stand behind that row, these
-/// alone are looked at; else all are.
+/// The places of the records whose updates a reader with these leaves lacks, rising: those of other writers that
+/// neither are one of the leaves nor precede one. The rows of the leaves are joined once. Where few items are past that
+/// row, only these are looked at; else all are.
 pub fn candidates<S: Scheme>(
     alloc: Global,
     readings: &Readings<S>,
@@ -47,7 +47,7 @@ pub fn items_named(alloc: Global, graph: &Graph, ids: &[Hash32]) -> Result<Vec<u
     Ok(items)
 }
 
-/// The places, of those beside the items, of the items that a reader lacks where this row counts what it has.
+/// The record places of the items that a reader lacks, where this row counts what it has.
 fn lacked(
     alloc: Global,
     graph: &Graph,
@@ -67,7 +67,7 @@ fn lacked(
     lacked_among(alloc, graph, places, items.as_slice(), row, reader)
 }
 
-/// The same. All items are looked at.
+/// The same, by looking at all items.
 fn lacked_of_all(
     alloc: Global,
     graph: &Graph,
@@ -88,8 +88,8 @@ fn lacked_of_all(
     Ok(found)
 }
 
-/// The same. These items alone are looked at: they are in order, and all that the row doesn't count are among them. One that
-/// comes again is passed over.
+/// The same, by looking at these items alone: they are in order, and all that the row doesn't count are among them.
+/// Repeated ones are skipped.
 fn lacked_among(
     alloc: Global,
     graph: &Graph,
@@ -120,7 +120,8 @@ fn lacked_among(
     Ok(found)
 }
 
-/// Whether an item is of another writer than the reader, and this row, which counts what the reader has, doesn't count it.
+/// Whether an item is of another writer than the reader, and this row, which counts what the reader has, doesn't count
+/// it.
 fn is_lacked(graph: &Graph, row: &[u32], reader: NodeId, item: u32) -> bool
     requires item { item < length (⟦<Graph as Past>⟧.updates graph.now) }
     requires row { length row.now ≡ chain_count (prev_places (⟦<Graph as Past>⟧.updates graph.now)) }

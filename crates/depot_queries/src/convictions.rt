@@ -1,4 +1,4 @@
-//! Whom a node knows convicted.
+//! The nodes that a node has convicted.
 ghost use Rattle.std.specs.Prelude.{◌≡◌, IfOk};
 ghost use Rattle.depot_model.specs.Hello.{convicted_nodes};
 ghost use Rattle.depot_readings.specs.ReadingsView.{standing};

@@ -6,7 +6,7 @@ use depot_base::NamedValue;
 use depot_model::Scheme;
 use depot_readings::Readings;
 
-/// The held value of this hash and of so many bytes. None exactly where there is none. It takes no memory.
+/// The held value of this hash and this length. None exactly where there is none. It takes no memory.
 pub fn held_as<'a, S: Scheme>(readings: &'a Readings<S>, name: &NamedValue) -> Option<&'a [u8]>
     ensures { option_copied result ≡ held_as readings.now.records name.now }
 {

@@ -1,4 +1,4 @@
-//! The records that a bundle has in front: proofs, and own vouchers for what it sends.
+//! The records that a bundle begins with: proofs, and own vouchers for what it sends.
 ghost use Rattle.std.specs.Prelude.{◌≡◌, ◌==◌, IfOk};
 ghost use Rattle.std.specs.List.{list_any};
 ghost use Rattle.depot_model.specs.Bundle.{proof_places, voucher_places};
@@ -48,7 +48,7 @@ pub fn voucher_places<S: Scheme>(
     Ok(Items::from_vec(found))
 }
 
-/// The same in the order of the ids. A voucher that names two of them comes twice.
+/// The same in the order of the ids. A voucher that names two of them is repeated.
 fn places_found<S: Scheme>(
     alloc: Global,
     readings: &Readings<S>,

@@ -61,7 +61,7 @@ fn names_of(alloc: Global, leaves: &BTreeSet<OrderedLeaf>) -> Result<HelloLeaves
     Ok(HelloLeaves::from_vec(names))
 }
 
-/// The leaf of an item whose record stands at this place.
+/// The leaf of an item whose record is at this place.
 fn leaf_at(graph: &Graph, item: u32, place: u32) -> OrderedLeaf
     requires { item < length (⟦<Graph as Past>⟧.updates graph.now) }
     ensures { at (⟦<Graph as Past>⟧.updates graph.now) item (λ t. result ≡ record { writer = t.writer; id = id_of_update t; place = place }) }

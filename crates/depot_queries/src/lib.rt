@@ -1,13 +1,16 @@
 //! Queries over what a node has read off its journal.
 //!
-//! Readings are seen as the list of the records (`depot_readings`), and each answer is the definition's of that list: whom the node
-//! convicted (`convictions`), its leaves (`leaf_order`), the places of the updates that a reader with given leaves lacks
-//! (`candidate_places`) and of the proofs and own vouchers that a bundle has in front (`in_front`), the update that the record of a place
-//! accepts (`record_items`), and the held value of a name (`held_values`). What a record's text alone tells is answered of that: the signed
-//! statement that it holds (`signed_texts`).
+//! Readings are seen as the list of the records (`depot_readings`), and each answer is the definition's of that list:
 //!
-//! Each call leaves the readings as they are. Nothing is decided here and nothing is sent: which of what is told goes into a bundle is
-//! `depot_gossip`'s to say.
+//! - the convicted nodes (`convictions`), and the leaves (`leaf_order`);
+//! - the places of the updates that a reader with given leaves lacks (`candidate_places`), and of the proofs and own
+//!   vouchers that a bundle begins with (`in_front`);
+//! - the update that the record of a place accepts (`record_items`), and the held value of a name (`held_values`).
+//!
+//! The signed statement that a record holds is found from the record's text alone (`signed_texts`).
+//!
+//! Each call leaves the readings as they are. Nothing is decided here and nothing is sent: `depot_gossip` chooses what
+//! goes into a bundle.
 #![tactic(auto)]
 
 mod candidate_places;

@@ -28,8 +28,8 @@ pub fn id_at<S: Scheme>(readings: &Readings<S>, place: u32) -> Option<&Hash32>
     }
 }
 
-/// The item of the update that the record of a place accepts. None exactly where it accepts none. The places of the items rise, so
-/// it takes logarithmic time.
+/// The item of the update that the record of a place accepts. None exactly where it accepts none. The places of the
+/// items rise, so it is a binary search.
 fn item_at<S: Scheme>(readings: &Readings<S>, place: u32) -> Option<u32>
     ensures { IsItemAt readings.now.records place result }
 {

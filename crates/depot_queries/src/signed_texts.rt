@@ -21,7 +21,7 @@ pub fn signed_text<G: Signer>(alloc: Global, signer: &G, text: &[u8]) -> Result<
 {
     match own_body(text) {
         Some(body) => own_text(alloc, signer, body),
-        // Behind the tag stands the signed statement's text: nothing is decoded or encoded.
+        // After the tag comes the signed statement's text: nothing is decoded or encoded.
         None => without_tag(alloc, text),
     }
 }
@@ -53,7 +53,8 @@ fn body_in_own_put(text: &[u8]) -> &[u8]
     &text[5..5 + length as usize]
 }
 
-/// The text of a statement of the signer's own, signed now. `body` is the statement's: it is signed and written as it stands.
+/// The text of a statement of the signer's own, signed now. `body` is the statement's: it is signed and copied
+/// unchanged.
 fn own_text<G: Signer>(alloc: Global, signer: &G, body: &[u8]) -> Result<Bytes, Memory>
     requires { (s : Statement) × IsLeafText (G.key_of signer.now) s body.now }
     ensures { IfOk result (λ text. (s : Statement) → IsStatement s → body.now ≡ text_of_statement s → text ≡ text_of_signed (signed_with (G.signature_of signer.now) s)) }
@@ -62,7 +63,8 @@ fn own_text<G: Signer>(alloc: Global, signer: &G, body: &[u8]) -> Result<Bytes, 
     write_signed(alloc, body, signature.as_slice())
 }
 
-/// The number of the statement with this body. An update and a voucher have it at one offset: behind version, kind and node.
+/// The seq of the statement with this body. An update and a voucher have it at the same offset: after version, kind and
+/// node.
 fn seq_in(body: &[u8]) -> u32
     requires { 8 ≤ length body.now }
     ensures { result ≡ from_be_bytes w32 (take 4 (drop 4 body.now)) }
@@ -70,7 +72,8 @@ fn seq_in(body: &[u8]) -> u32
     u32::from_be_bytes([body[4], body[5], body[6], body[7]])
 }
 
-/// The text of the signed statement with this body and this signature: each behind its length. Its memory is found first.
+/// The text of the signed statement with this body and this signature, each after its length. Its memory is reserved
+/// first.
 #[tactic(auto, using(depot_base::proofs::Writing::texts), unfolding(depot_model::specs::Texts::signed, depot_base::specs::Format::number, depot_base::specs::Format::bytes_of))]
 fn write_signed(alloc: Global, body: &[u8], signature: &[u8]) -> Result<Bytes, Memory>
     requires body { length body.now ≤ MOST_BODY }

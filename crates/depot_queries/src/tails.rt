@@ -1,4 +1,4 @@
-//! Of each virtual writer the items that stand behind a row.
+//! The items of each virtual writer that are past a row.
 ghost use Rattle.std.specs.Prelude.{◌≡◌, ◌<◌, length, IfOk, OnOk};
 ghost use Rattle.std.specs.List.{AllByRecursion};
 ghost use Rattle.depot_virtual.specs.Spots.{chain_count};
@@ -10,11 +10,12 @@ use depot_graph::Graph;
 use depot_model::Past;
 use std::alloc::Global;
 
-/// Items are sought chain by chain, and sorted, where at most one of so many stands behind the row: else it is quicker to go over all.
+/// Items are searched chain by chain, and sorted, where at most one of this many is past the row: else a scan of all is
+/// quicker.
 const ONE_OF: u32 = 16;
 
-/// Whether few of the items stand behind a row, which has an entry for each chain: at most one of 16. It decides how the same is
-/// found, and nothing else. It looks at each chain once at most, and takes no memory.
+/// Whether few of the items are past a row, which has an entry for each chain: at most one of 16. It decides how
+/// candidates are found, and nothing else. It looks at each chain once at most, and takes no memory.
 pub(crate) fn are_few_behind(graph: &Graph, row: &[u32]) -> bool
     requires { length row.now ≡ chain_count (prev_places (⟦<Graph as Past>⟧.updates graph.now)) }
 {
@@ -33,7 +34,7 @@ pub(crate) fn are_few_behind(graph: &Graph, row: &[u32]) -> bool
     true
 }
 
-/// The items that a row doesn't count, chain by chain, each chain's from its last item back. No other item is looked at.
+/// The items that a row doesn't count, chain by chain, each chain from its last item back. No other item is looked at.
 pub(crate) fn behind(alloc: Global, graph: &Graph, row: &[u32]) -> Result<Vec<u32>, Memory>
     requires { length row.now ≡ chain_count (prev_places (⟦<Graph as Past>⟧.updates graph.now)) }
     ensures all { IfOk result (λ items. HoldsBehind (⟦<Graph as Past>⟧.updates graph.now) row.now items.items) }
@@ -57,7 +58,7 @@ fn push_tail(found: &mut Vec<u32>, graph: &Graph, chain: u32, from: u32) -> Resu
     }
     while graph.spot(item).place > from {
         found.push(item)?;
-        // Behind the first place of a chain each item's prev is the one before it.
+        // Past the first place of a chain each item's prev is the one before it.
         item = graph.prev(item).unwrap_or(item);
     }
     found.push(item)?;

@@ -1,4 +1,4 @@
--- The places of the records that accept the updates, and what stands there.
+-- The places of the records that accept the updates, and what is there.
 use Rattle.std.proofs.Common.{◌≡◌, ℕ, ◌+◌, ◌≤◌, Bool, true, false, ltb, cond, List, [], ◌∷◌, ◌++◌, length, refl, ap, ◌∙◌, arith}
 use Rattle.depot_base.specs.declared.record.Record.{Record}
 use Rattle.depot_base.specs.declared.update.Update.{Update}
@@ -9,7 +9,7 @@ use Rattle.depot_readings.proofs.LeafLaws.{one_update}
 
 -- ---- with more records
 
--- the places of two lists of records are those of the first, and behind them those of the second
+-- the places of two lists of records are those of the first, and after them those of the second
 pub records_where-append : (test : Record → Bool) (n : ℕ) (J new : List Record) → records_where test n (J ++ new) ≡ records_where test n J ++ records_where test (n + length J) new
 unfolding records_where
 records_where-append test n [] new = ap (λ (k : ℕ). records_where test k new) (omega arith)
@@ -19,11 +19,11 @@ records_where-append test n (r ∷ J) new = by_test (test r) (records_where-appe
   by_test true rest = ap (λ (ns : List ℕ). n ∷ ns) rest
   by_test false rest = rest
 
--- a journal with more records: behind its places those of what is accepted by them
+-- a journal with more records: after its places those of what is accepted by them
 pub accept_places-append : (J new : List Record) → accept_places (J ++ new) ≡ accept_places J ++ records_where accepts (length J) new
 accept_places-append J new = records_where-append accepts 0 J new ∙ ap (λ (k : ℕ). accept_places J ++ records_where accepts k new) (omega arith)
 
--- ---- what stands at the places
+-- ---- what is at the places
 
 -- there are as many places as accepted updates
 many_from : (n : ℕ) (J : List Record) → length (records_where accepts n J) ≡ length (accepted J)

@@ -1,4 +1,4 @@
--- Names and values that are gone through one after another.
+-- Names and values that are scanned one after another.
 use Rattle.std.proofs.Common.{◌≡◌, ℕ, ◌+◌, ◌<◌, List, [], ◌∷◌, ◌++◌, length, map, take, get_or, refl, sym, ap, subst, ◌∙◌, arith, inl, inr, append_assoc, length-append}
 use Rattle.sha2.specs.Sha256.{sha256}
 use Rattle.depot_base.specs.declared.update.NamedValue.{NamedValue}

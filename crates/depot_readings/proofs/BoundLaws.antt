@@ -32,7 +32,7 @@ few_foreign : (J : List Record) → length (foreign J) ≤ length J
 few_foreign [] = omega arith
 few_foreign (r ∷ J) = let one = one_foreign r in let more = few_foreign J in omega (arith, length-append (foreign_by r) (foreign J))
 
--- what a lawful journal holds in front of its last record
+-- what a lawful journal holds before its last record
 record AreWithin (J : List Record) (r : Record) : Type 0 where
   pub records : length J < 131072
   pub accepted : length (accepted J) < 131072
@@ -60,18 +60,18 @@ few_statements here J r kept l is = let w = within here J r l in omega (arith, w
 pub few_of_own : (here : Setting) (me : ℕ) (J : List Record) (r : Record) (t : Totals) → IsLawful here (J ++ r ∷ []) → AreTotals me J t → t.own < 131072
 few_of_own here me J r t l a = let w = within here J r l in omega (arith, w.own, a.own)
 
--- the records in front of others
+-- the records before others
 few_records : (here : Setting) (J more : List Record) → IsLawful here (J ++ more) → length J ≤ 131072
 few_records here J more l = lawful_is_short here J (lawful_front here J more l)
 
--- the same of their count, where there are some that hold this
+-- the same for their count, where there are some that hold this
 pub few_counted : (P : List Record → Type 0) (here : Setting) (more : List Record) (count : ℕ) → (J : List Record) × (P J × ((count ≡ length J) × IsLawful here (J ++ more))) → count ≤ 131072
 few_counted P here more count (J, (holds, (is, l))) = omega (arith, is, few_records here J more l)
 
--- and with more records behind these
+-- and with more records after these
 pub few_with : (P : List Record → Type 0) (here : Setting) (more : List Record) (count : ℕ) → (J : List Record) × (P J × ((count ≡ length J) × IsLawful here (J ++ more))) → count + length more ≤ 131072
 few_with P here more count (J, (holds, (is, l))) = omega (arith, is, lawful_is_short here (J ++ more) l, length-append J more)
 
--- own vouchers behind others
+-- own vouchers after others
 pub few_vouchers : (here : Setting) (J : List Record) (xs : List NewVoucher) → IsLawful here (J ++ records_of (vouchers_of xs)) → length xs ≤ 131072
 few_vouchers here J xs l = omega (arith, lawful_is_short here (J ++ records_of (vouchers_of xs)) l, length-append J (records_of (vouchers_of xs)), length-map (vouchers_of xs) (λ (v : Voucher). OwnVoucher v), length-map xs (λ (x : NewVoucher). x.voucher))

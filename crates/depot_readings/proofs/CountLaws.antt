@@ -1,4 +1,4 @@
--- How much a journal takes with a growth behind it.
+-- How much a journal takes with a growth after it.
 use Rattle.std.proofs.Common.{◌≡◌, ℕ, ◌+◌, ◌≤◌, List, [], ◌∷◌, ◌++◌, length, Option, refl, sym, ap, subst, ◌∙◌, arith, not, eqb, append_assoc, length-append}
 use Rattle.std.specs.Option.{unwrap_or}
 use Rattle.std.specs.List.{filter}
@@ -89,7 +89,7 @@ leaves_after_both here J p s l =
 leaves_after_vouchers : (me : ℕ) (J : List Record) (vs : List Voucher) → length (foreign_leaves me J) ≡ length (foreign_leaves me (J ++ records_of vs))
 leaves_after_vouchers me J vs = same_leaves me J (J ++ records_of vs) (sym (flat_map-append accepted_by J (records_of vs) ∙ ap (λ (us : List Update). accepted J ++ us) (none_accepted vs) ∙ append-nil (accepted J)))
 
--- the leaves that are told with a growth, and else those from before
+-- the leaves that are reported with a growth, and else those from before
 leaves_grown : (here : Setting) (J : List Record) (news : News) → IsLawful here (J ++ records_in news)
     → unwrap_or (leaves_with (accepted J) (length (foreign_leaves here.me J)) (records_in news)) (length (foreign_leaves here.me J)) ≡ length (foreign_leaves here.me (J ++ records_in news))
 leaves_grown here J news.Nothing l = ap (λ (rs : List Record). length (foreign_leaves here.me rs)) (sym (append-nil J))
@@ -116,7 +116,7 @@ few_counts given t (here, (J, (l, a))) = record {
   bytes = omega (arith, lawful_is_light here (J ++ given) l, bytes_more J given, a.bytes);
 }
 
--- those of a journal with a growth behind
+-- those of a journal with a growth after
 pub counts_grow : (here : Setting) (J given : List Record) (news : News) (t u : JournalCounts) (n b : ℕ) (leaves : Option ℕ) → records_in news ≡ given → IsLawful here (J ++ given) → AreCountsOf here.me J t → n ≡ length given → b ≡ bytes_of_records given
     → leaves ≡ leaves_with (accepted J) t.leaves given → u.records ≡ t.records + n → u.bytes ≡ t.bytes + b → u.leaves ≡ unwrap_or leaves t.leaves → AreCountsOf here.me (J ++ given) u
 counts_grow here J given news t u n b leaves same l a many large counted records bytes told = record {

@@ -1,4 +1,4 @@
--- What stands in front of bundles, by place, with more records.
+-- What bundles begin with, by place, with more records.
 use Rattle.std.proofs.Common.{◌≡◌, ℕ, ◌+◌, ◌<◌, Bool, true, false, eqb, eq-eqb, ◌&&◌, ◌||◌, List, [], ◌∷◌, ◌++◌, length, map, take, get_or, Option, Some, None, refl, sym, ap, subst, ◌∙◌, append_assoc, length-append, arith, inl, inr, ◌⊎◌}
 use Rattle.std.specs.Prelude.{slice_get, Result, Ok, Err, OnOk}
 use Rattle.std.specs.List.{flat_map, list_any}
@@ -30,7 +30,7 @@ use Rattle.depot_readings.proofs.VoucherRecords.{records_push}
 
 -- ---- convictions
 
--- the convictions by two lists of records are those by the first, and behind them those by the second
+-- the convictions by two lists of records are those by the first, and after them those by the second
 pub convictions_from-append : (n : ℕ) (J new : List Record) → convictions_from n (J ++ new) ≡ convictions_from n J ++ convictions_from (n + length J) new
 unfolding convictions_from
 convictions_from-append n [] new = ap (λ (k : ℕ). convictions_from k new) (omega arith)
@@ -47,7 +47,7 @@ none_convicting n (v ∷ vs) = none_convicting (n + 1) vs
 
 -- ---- ids with places
 
--- those of two lists of records are those of the first, and behind them those of the second
+-- those of two lists of records are those of the first, and after them those of the second
 voucher_places_from-append : (n : ℕ) (J new : List Record) → voucher_places_from n (J ++ new) ≡ voucher_places_from n J ++ voucher_places_from (n + length J) new
 unfolding voucher_places_from
 voucher_places_from-append n [] new = ap (λ (k : ℕ). voucher_places_from k new) (omega arith)
@@ -62,7 +62,7 @@ unfolding voucher_places_from
 places_push n J v =
     voucher_places_from-append n J (OwnVoucher v ∷ []) ∙ ap (λ (ps : List VoucherPlace). voucher_places_from n J ++ ps) (append-nil (with_place (n + length J) v.ids ++ []) ∙ append-nil (with_place (n + length J) v.ids))
 
--- the same of new vouchers that are gone through
+-- the same for new vouchers that are scanned
 pub next_places : (n : ℕ) (xs : List NewVoucher) (i : ℕ) (x : NewVoucher) (place : ℕ) (old new : List VoucherPlace) → i < length xs → x ≡ get_or xs i x → place ≡ n + i → old ≡ voucher_places_from n (records_of (vouchers_of (take i xs))) → new ≡ old ++ with_place place x.voucher.ids
     → new ≡ voucher_places_from n (records_of (vouchers_of (take (i + 1) xs)))
 next_places n xs i x place old new low is at before more =
@@ -79,7 +79,7 @@ and_over true false true = refl
 and_over true false false = refl
 and_over false b c = refl
 
--- an id stands with a place where it is one of the ids, and the place is theirs
+-- an id has a place where it is one of the ids, and the place is theirs
 placed : (n : ℕ) (ids : List (List ℕ)) (id : List ℕ) (place : ℕ) → is_among_places (with_place n ids) id place ≡ (is_among id ids && eqb n place)
 placed n [] id place = refl
 placed n (h ∷ hs) id place =
@@ -96,7 +96,7 @@ record_places n (Held value) id place = refl
 
 -- ---- the record of a place
 
--- where the record of a place passes a test, one stands there that does
+-- where the record of a place passes a test, one is there that does
 pub passing_at : (test : Record → Bool) (J : List Record) (place : ℕ) → list_any test (option_to_list (slice_get J place)) ≡ true → (r : Record) × ((slice_get J place ≡ Some r) × (test r ≡ true))
 passing_at test J place e = by_record (slice_get J place) refl e where
   by_record : (o : Option Record) → slice_get J place ≡ o → list_any test (option_to_list o) ≡ true → (r : Record) × ((slice_get J place ≡ Some r) × (test r ≡ true))
@@ -142,7 +142,7 @@ vouches_more J (r ∷ rs) id place =
 
 -- ---- what is kept
 
--- nothing stands in front of no records
+-- nothing is before no records
 pub none_in_front : (front : FrontPlaces) → front.convictions.items ≡ [] → ((id : List ℕ) (place : ℕ) → has_voucher_place front.vouchers id place ≡ false) → AreFrontPlaces [] front
 unfolding convictions_from
 none_in_front front none empty = record { convictions = none; vouchers = empty }
@@ -157,7 +157,7 @@ front_grows J news count new mid then is n convictions vouchers f = record {
       ∙ ap (λ (ps : List VoucherPlace). vouches_at J id place || is_among_places ps id place) (n.vouchers ∙ ap (λ (k : ℕ). voucher_places_from k (records_in news)) is) ∙ sym (vouches_more J (records_in news) id place);
 }
 
--- what is told of an id
+-- what is said of an id
 pub adds_places : {E : Type 0} (r : Result (Unit {0}) E) (J : List Record) (front : FrontPlaces) (id : List ℕ) (old new : List ℕ) → AreFrontPlaces J front → length J < 4294967296 → OnOk r ((place : ℕ) → IsIn place old → IsIn place new)
     → OnOk r ((place : ℕ) → place < 4294967296 → has_voucher_place front.vouchers id place ≡ true → IsIn place new) → OnOk r ((place : ℕ) → IsIn place new → IsIn place old ⊎ (has_voucher_place front.vouchers id place ≡ true)) → OnOk r (AddsPlaces J id old new)
 adds_places (Err e) J front id old new f short kept all only = tt

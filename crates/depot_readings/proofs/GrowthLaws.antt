@@ -40,7 +40,7 @@ one_read n r bytes is fits hashed size = record {
   written = tt;
 }
 
--- whose text is at hand; it is no statement of another
+-- whose text is given; it is no statement of another
 pub one_made : (n : News) (r : Record) (bytes : ℕ) (texts : Vec (List ℕ)) (text : List ℕ) → records_in n ≡ r ∷ [] → given_of (r ∷ []) ≡ [] → IsRecord r → AreHashed n → bytes ≡ 5 + length text → texts.items ≡ text ∷ [] → text ≡ text_of_record r → IsGrowth n bytes (Some texts)
 one_made n r bytes texts text is none fits hashed size are same = record {
   fit = subst (λ (rs : List Record). AllByRecursion IsRecord rs) (sym is) (fits, tt);
@@ -69,13 +69,13 @@ none_given [] = refl
 none_given (v ∷ []) = refl
 none_given (v ∷ w ∷ vs) = none_given (w ∷ vs)
 
--- nothing goes behind their texts
+-- nothing goes after their texts
 pub vouchers_written : (vs : List Voucher) (texts : List (List ℕ)) → texts ≡ map text_of_record (records_of vs) → with_rest texts (given_of (records_of vs)) ≡ map text_of_record (records_of vs)
 vouchers_written vs texts are = ap (with_rest texts) (none_given vs) ∙ rest_none texts ∙ are
 
 -- ---- what was given
 
--- nothing goes behind the texts where no statement of another stands last
+-- nothing goes after the texts where no statement of another comes last
 pub nothing_given : (n : News) → ((s : Signed) (id : List ℕ) (parents : Vec ℕ) → n ≡ news.Foreign s id parents → ⊥) → ((p : Proof) (s : Signed) (id : List ℕ) (parents : Vec ℕ) → n ≡ news.Convicting p s id parents → ⊥) → given_of (records_in n) ≡ []
 nothing_given news.Nothing h k = refl
 nothing_given (news.Birth node roster) h k = refl

@@ -1,4 +1,4 @@
--- The hashes of names that are gone through in their order are the hashes of these in rising order.
+-- Names scanned in their order give their hashes in rising order.
 use Rattle.std.proofs.Common.{◌≡◌, ℕ, ◌≤◌, Bool, true, false, cond, not, ◌&&◌, List, [], ◌∷◌, ◌++◌, length, map, take, Option, Some, None, refl, sym, ap, subst, ◌∙◌, append_assoc, inl, inr, ◌⊎◌}
 use Rattle.std.specs.Map.{keys_of, lookup}
 use Rattle.std.specs.List.{AllByRecursion}
@@ -51,7 +51,7 @@ above_first : (e : NamedValue × Bool) (es : Entries) → AllByRecursion (λ k. 
 above_first e [] low = tt
 above_first e (x ∷ xs) low = (not_lower e.0 x.0 low.0, above_first e xs low.1)
 
--- What is found behind a hash rises above it.
+-- What is found after a hash rises above it.
 record RisesAbove (hash : List ℕ) (found : List (List ℕ)) : Type 0 where
   above : AllByRecursion (λ x. is_below hash x ≡ true) found
   rises : RisesByTest is_below found
@@ -123,7 +123,7 @@ named_is_found before ((k, mark) ∷ es) n on = by_tests mark (is_same before k.
 
 -- ---- by the map
 
--- a name behind a lower one
+-- a name after a lower one
 key_at : (es : Entries) (n k : NamedValue) → AllByRecursion (λ q. compare_names k q ≡ Less) (keys_of es) → IsIn (n, true) es → compare_names k n ≡ Less
 key_at [] n k all never = absurd never
 key_at (e ∷ es) n k all (inl here) = ap (λ (x : NamedValue × Bool). compare_names k x.0) (sym here) ∙ all.0
@@ -157,7 +157,7 @@ looked_at ((k, mark) ∷ es) n e = by_tests mark (is_eq (compare_names n k)) ref
 below_one_way : (a b : List ℕ) → is_below a b ≡ true → is_below b a ≡ true → ⊥
 below_one_way a b one two = less_one_way (slice_cmp nat_cmp a b) (slice_cmp nat_cmp b a) (nat_list_cmp_total.antisymm a b) two one
 
--- the hashes that are gone through are those of all names with the same names, in rising order
+-- the hashes that are scanned are those of all names with the same names, in rising order
 pub hashes_are : (named : NamedValues) (ns : List NamedValue) → IsStrictlySortedBy compare_names (keys_of named.marks.entries) → ((hash : List ℕ) (size : ℕ) → has_named_value named hash size ≡ is_name ns hash size)
     → hashes_behind None named.marks.entries ≡ rising (map (λ n. n.hash) ns)
 unfolding has_named_value
@@ -182,9 +182,9 @@ hashes_are named ns sorted are = one_rising is_below _ _ below_one_way (all_rise
       let marked = looked_at es n.0 (are n.0.hash n.0.size ∙ any_from (λ (k : NamedValue). is_value_named k n.0.hash n.0.size) n.0 ns n.1.0 (own_name n.0)) in
       subst (λ (y : List ℕ). IsIn y (hashes_behind None es)) n.1.1 (there n.0.hash (named_is_found None es n.0 marked))
 
--- ---- one after the other
+-- ---- one after another
 
--- the next is found behind those before
+-- the next is found after those before
 pub hash_found : (found : List (List ℕ)) (e : NamedValue × Bool) (left rest : Entries) (all : List (List ℕ)) → left ≡ e ∷ rest → is_next found e ≡ true → found ++ hashes_behind (last_of found) left ≡ all
     → (found ++ e.0.hash ∷ []) ++ hashes_behind (last_of (found ++ e.0.hash ∷ [])) rest ≡ all
 unfolding hashes_behind
@@ -198,7 +198,7 @@ unfolding hashes_behind
 hash_left found e left rest all next is before =
     ap (λ (b : Bool). found ++ cond b (e.0.hash ∷ hashes_behind (Some e.0.hash) rest) (hashes_behind (last_of found) rest)) (sym is) ∙ ap (λ (es : Entries). found ++ hashes_behind (last_of found) es) (sym next) ∙ before
 
--- where all were gone through these are all, and fewer than asked for; where enough were found, these are the first
+-- where all were scanned these are all, and fewer than asked for; where enough were found, these are the first
 pub all_hashes : (found all : List (List ℕ)) (left : Entries) (most : ℕ) → left ≡ [] → length found ≤ most → found ++ hashes_behind (last_of found) left ≡ all → found ≡ take most all
 unfolding hashes_behind
 all_hashes found all left most none few before =

@@ -25,7 +25,7 @@ or_else-assoc : (o p q : Option (List ℕ)) → or_else (or_else o p) q ≡ or_e
 or_else-assoc None p q = refl
 or_else-assoc (Some v) p q = refl
 
--- the first value of a hash among these and those behind them
+-- the first value of a hash among these and those after them
 pub with_behind : (h : List ℕ) (vs ws : List (List ℕ)) → value_with h (vs ++ ws) ≡ or_else (value_with h vs) (value_with h ws)
 with_behind h [] ws = refl
 with_behind h (v ∷ vs) ws = step (bytes_eq (sha256 v) h) (with_behind h vs ws) where
@@ -76,7 +76,7 @@ one_added hash value old new (Ok New) hashed ok a h = by_hash (bytes_eq (sha256 
       ap (values.held_in new) (sym same) ∙ a.new refl ∙ sym (ap (λ (o : Option (List ℕ)). or_else o (Some value)) none)
   by_hash false e = a.others_stay h (λ same. both_ways (bytes_eq (sha256 value) h) e ((bytes_eq-Decides (sha256 value) h).1 (sym (same ∙ hashed)))) ∙ or_else-nothing _
 
--- with one more behind those that were added
+-- with one more after those that were added
 pub adds_next : {E : Type 0} (hash value : List ℕ) (vs : List (List ℕ)) (old mid new : Values) (result : Result Taken E) → hash ≡ sha256 value → IsOk result → Adds mid new hash value result → AddsAll old mid vs → AddsAll old new (vs ++ value ∷ [])
 adds_next hash value vs old mid new result hashed ok a before h =
     one_added hash value mid new result hashed ok a h ∙ ap (λ (o : Option (List ℕ)). or_else o (value_with h (value ∷ []))) (before h) ∙ or_else-assoc (values.held_in old h) (value_with h vs) (value_with h (value ∷ []))

@@ -39,7 +39,7 @@ same_kept verifies J v w old new t stays state same k = record { state = state; 
 pub still_keeps : {S : Type 0} (verifies : Verifies) (v w : View S) (old new : Values) (t : Totals) → setting verifies w ≡ setting verifies v → ((J : List Record) → IsStateOf J v → IsStateOf J w) → ((h : List ℕ) → values.held_in new h ≡ values.held_in old h) → StillKeeps v old t w new t
 still_keeps verifies v w old new t stays state same = λ J k. same_kept verifies J v w old new t stays (state J k.state) same k
 
--- a state that is as before is that of the same journals
+-- a state that is unchanged is that of the same journals
 pub same_state : {S : Type 0} (v w : View S) → w ≡ v → (J : List Record) → IsStateOf J v → IsStateOf J w
 same_state {S} v w same J is = subst (λ (x : View S). IsStateOf J x) (sym same) is
 

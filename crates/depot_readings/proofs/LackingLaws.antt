@@ -52,7 +52,7 @@ pub settled_next : (ns : List NamedValue) (i : ℕ) (n : NamedValue) (hash : Lis
 settled_next ns i n hash size x new mid old low is one before =
     one ∙ ap (cond (is_value_named n hash size) x) before ∙ cond_or (is_value_named n hash size) (is_name (take i ns) hash size) x old ∙ ap (λ (b : Bool). cond b x old) (sym (name_next ns i n hash size low is))
 
--- ---- values behind others
+-- ---- values after others
 
 -- a value of this hash and this length
 abbrev fits : List ℕ → ℕ → List ℕ → Bool

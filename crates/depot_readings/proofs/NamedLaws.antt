@@ -96,11 +96,11 @@ and_none : (b : Bool) → (b && false) ≡ false
 and_none true = refl
 and_none false = refl
 
--- the map's clause on a name that is taken out
+-- the map's clause on a name that is removed
 pub takes_out : (old new : ValueMarks) (name : NamedValue) → ((q : NamedValue) → get compare_names new q ≡ cond (is_eq (compare_names name q)) None (get compare_names old q)) → TakesMark old new name
 takes_out old new name updates = record { marks = λ q. updates q ∙ ap (λ (b : Bool). cond b None (get compare_names old q)) (same_name name q) }
 
--- a name that was taken out is named no more
+-- a name that was removed is named no more
 pub taken_out : (old new : ValueMarks) (name : NamedValue) → TakesMark old new name → (hash : List ℕ) (size : ℕ)
     → is_marked (get compare_names new (record { hash = hash; size = size })) ≡ (is_marked (get compare_names old (record { hash = hash; size = size })) && not (is_value_named name hash size))
 taken_out old new name t hash size = ap is_marked (t.marks (record { hash = hash; size = size })) ∙ by_test (is_value_named name hash size) where

@@ -32,7 +32,7 @@ no_places : (places : List ℕ) → places ≡ [] → places ≡ accept_places [
 unfolding records_where
 no_places places none = none
 
--- a state of no records, no values, counts of none, no names, no places, no ids and nothing in front
+-- a state of no records, no values, counts of none, no names, no places, no ids and nothing at the front
 pub readings_none : {S : Type 0} (v : View S) (kept : Values) (t : Totals) (named lacking : NamedValues) (places : List ℕ) (ids : List (List ℕ)) (front : FrontPlaces) → IsStateOf [] v → ((hash : List ℕ) → held_in kept hash ≡ None) → AreTotals v.me [] t
     → ((hash : List ℕ) (size : ℕ) → has_named_value named hash size ≡ false) → ((hash : List ℕ) (size : ℕ) → has_named_value lacking hash size ≡ false) → places ≡ [] → ids ≡ [] → AreFrontPlaces [] front → AreReadings [] v kept t named lacking places ids front
 readings_none v kept t named lacking places ids front state values totals no_names none_lacking no_place no_id none_in_front = record {

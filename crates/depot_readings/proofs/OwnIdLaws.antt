@@ -35,7 +35,7 @@ adds_one v old then t h = t h ∙ ap (λ (b : Bool). is_among h old || b) (or_no
 pub adds_behind : (old mid then : List (List ℕ)) (new : List Record) → mid ≡ old → AddsMine mid new then → AddsMine old new then
 adds_behind old mid then new same adds h = adds h ∙ ap (λ (ids : List (List ℕ)). is_among h ids || is_mine_vouched new h) same
 
--- records one after the other
+-- records one after another
 pub adds_more : (front new : List Record) (old mid then : List (List ℕ)) → AddsMine old front mid → AddsMine mid new then → AddsMine old (front ++ new) then
 adds_more front new old mid then one two h =
     two h ∙ ap (λ (b : Bool). b || is_mine_vouched new h) (one h) ∙ or_assoc (is_among h old) (is_mine_vouched front h) (is_mine_vouched new h) ∙ ap (λ (b : Bool). is_among h old || b) (sym (mine-append front new h))

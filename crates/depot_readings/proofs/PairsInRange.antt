@@ -1,4 +1,4 @@
--- The numbers that are named with one hash stand one behind the other in the order of names.
+-- The numbers that are named with one hash are adjacent in the order of names.
 use Rattle.std.proofs.Common.{◌≡◌, ℕ, ◌<◌, ◌≤◌, Bool, true, false, cond, not, eqb, eq-eqb, List, [], ◌∷◌, ◌++◌, nat_lt, refl, sym, ap, subst, ◌∙◌, append_assoc, arith, inl, inr}
 use Rattle.std.specs.BTreeMap.Range.{entries_between, range_contains}
 use Rattle.std.specs.List.Sorted.{IsStrictlySortedBy}
@@ -59,7 +59,7 @@ same_hash hash = by_order (slice_cmp nat_cmp hash hash) (is_eq-slice_cmp hash ha
   by_order Equal e = refl
   by_order Greater e = absurd cc
 
--- the least stands before the greatest
+-- the least comes before the greatest
 pub runs_forward : (hash : List ℕ) (a b : NamedValue) → a ≡ least_of hash → b ≡ greatest_of hash → is_gt (compare_names a b) ≡ false
 runs_forward hash a b least greatest =
     ap (λ (n : NamedValue). is_gt (compare_names n b)) least ∙ ap (λ (n : NamedValue). is_gt (compare_names (least_of hash) n)) greatest ∙ ap (λ (o : Ordering). is_gt (ordering_then o (nat_cmp 0 4294967295))) (same_hash hash)
@@ -118,7 +118,7 @@ between_named named hash size sorted on =
     let is : n.0 ≡ record { hash = hash; size = size } = ap (λ (h : List ℕ). record { hash = h; size = n.0.size }) (sym same) ∙ ap (λ (k : ℕ). record { hash = hash; size = k }) n.1.1 in
     subst (λ (k : NamedValue). has_named_value named k.hash k.size ≡ true) is (looked_up es n.0 sorted inside.0)
 
--- ---- one after the other
+-- ---- one after another
 
 pub size_found : (found : List ℕ) (e : NamedValue × Bool) (left rest : Entries) (all : List ℕ) → left ≡ e ∷ rest → e.1 ≡ true → found ++ sizes_in left ≡ all → (found ++ e.0.size ∷ []) ++ sizes_in rest ≡ all
 unfolding sizes_in
@@ -130,7 +130,7 @@ unfolding sizes_in
 size_left found e left rest all next unmarked before =
     ap (λ (b : Bool). found ++ cond b (e.0.size ∷ sizes_in rest) (sizes_in rest)) (sym unmarked) ∙ ap (λ (es : Entries). found ++ sizes_in es) (sym next) ∙ before
 
--- where all were gone through, all are found
+-- where all were scanned, all are found
 pub all_sizes : (found old : List ℕ) (left all : Entries) → left ≡ [] → found ++ sizes_in left ≡ old ++ sizes_in all → found ≡ old ++ sizes_in all
 unfolding sizes_in
 all_sizes found old left all none before = sym (append-nil found) ∙ ap (λ (es : Entries). found ++ sizes_in es) (sym none) ∙ before

@@ -1,4 +1,4 @@
--- What readings are seen as, and what stands inside.
+-- What readings are seen as, and what is inside.
 use Rattle.std.proofs.Common.{◌≡◌, List, [], ◌++◌, sym, ap, subst, ◌∙◌}
 use Rattle.depot_base.specs.declared.record.Record.{Record}
 use Rattle.depot_model.specs.Checks.{Setting}

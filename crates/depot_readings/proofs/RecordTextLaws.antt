@@ -63,7 +63,7 @@ pub birth_long : (node : ℕ) (h : List ℕ) → IsRecord (Birth node h) → len
 unfolding record_text tagged birth bytes_of
 birth_long node h fits = short_birth node h fits.1.1.0
 
--- behind its tag it is that of what it holds
+-- after its tag it is that of what it holds
 pub foreign_long : (s : Signed) → length (text_of_record (Foreign s)) ≡ 1 + length (text_of_signed s)
 unfolding record_text tagged number numeral
 foreign_long s = omega arith

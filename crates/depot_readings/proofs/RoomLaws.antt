@@ -40,7 +40,7 @@ counted_then here J s l new = by_kind s.statement refl where
   by_kind (statements.Update u) is = rw (taken_count here J s u l is new, is) refl
   by_kind (statements.Voucher v) is = rw is refl
 
--- and with a conviction in front
+-- and with a conviction at the front
 counted_behind : (me : ℕ) (J : List Record) (p : Proof) (new : List Record) → leaves_counted me J (Conviction p ∷ new) ≡ leaves_counted me J new
 counted_behind me J p new = rw (leaves_behind me J p new) refl
 

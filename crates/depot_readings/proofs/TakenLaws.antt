@@ -27,6 +27,6 @@ no_vouchers listed n xs is all = subst (λ (m : News). AllByRecursion (IsTaken l
   by_list [] all = refl
   by_list (y ∷ ys) all = absurd all.0
 
--- a conviction in front of a statement, which the state took first
+-- a conviction before a statement, which the state took first
 pub both_taken : {S : Type 0} (J : List Record) (p : Proof) (s : Signed) (v : View S) → IsStateOf ((J ++ Foreign s ∷ []) ++ Conviction p ∷ []) v → IsStateOf (J ++ Conviction p ∷ Foreign s ∷ []) v
 both_taken J p s v is = subst (λ (K : List Record). IsStateOf K v) (append_assoc J (Conviction p ∷ []) (Foreign s ∷ [])) (turned_state J s p v is)

@@ -106,7 +106,7 @@ taken_totals here J s t l a = record {
   last = a.last ∙ ap (last_own_behind zeros) (sym (silent own_by J (Foreign s) refl));
 }
 
--- a conviction in front changes nothing
+-- a conviction at the front changes nothing
 pub taken_behind : (me : ℕ) (J : List Record) (p : Proof) (s : Statement) (t : Totals) → AreTaken me J s t → AreTaken me (J ++ Conviction p ∷ []) s t
 taken_behind me J p s t a =
     let updates : accepted J ≡ accepted (J ++ Conviction p ∷ []) = sym (silent accepted_by J (Conviction p) refl) in

@@ -1,4 +1,4 @@
--- The records of own vouchers tell of vouchers, and of nothing else.
+-- The records of own vouchers have vouchers alone.
 use Rattle.std.proofs.Common.{◌≡◌, ℕ, ◌+◌, List, [], ◌∷◌, ◌++◌, None, length, refl, ap, ◌∙◌}
 use Rattle.std.specs.List.{flat_map}
 use Rattle.std.proofs.lemmas.List.{map-append}

@@ -1,4 +1,4 @@
--- Own vouchers that are kept one after the other.
+-- Own vouchers that are kept one after another.
 use Rattle.std.proofs.Common.{◌≡◌, ℕ, ◌+◌, ◌<◌, ◌≤◌, List, [], ◌∷◌, ◌++◌, length, take, get_or, refl, sym, ap, subst, ◌∙◌, append_assoc, arith, inl}
 use Rattle.std.specs.List.{AllByRecursion}
 use Rattle.std.proofs.lemmas.List.{append-nil, map-append}
@@ -37,7 +37,7 @@ room_more xs i x old new low is front within more =
 
 -- ---- what is kept
 
--- of two lists of records one after the other
+-- of two lists of records one after another
 keeps_more : {S : Type 0} (verifies : Verifies) (v w z : View S) (kept mid last : Values) (t u s : Totals) (front new : List Record) → setting verifies w ≡ setting verifies v
     → KeepsRecords verifies v kept t front w mid u → KeepsRecords verifies w mid u new z last s → KeepsRecords verifies v kept t (front ++ new) z last s
 keeps_more verifies v w z kept mid last t u s front new stays one two = λ J k l.

@@ -1,4 +1,4 @@
--- Own vouchers that are encoded one after the other.
+-- Own vouchers that are encoded one after another.
 use Rattle.std.proofs.Common.{◌≡◌, ℕ, ◌+◌, ◌*◌, ◌≤◌, List, [], ◌∷◌, ◌++◌, length, map, Some, refl, sym, ap, subst, ◌∙◌, append_assoc, arith, length-append, inl, inr}
 use Rattle.std.specs.Global.{Vec}
 use Rattle.std.specs.List.{AllByRecursion}
@@ -17,7 +17,7 @@ use Rattle.depot_readings.specs.declared.news.News.TheVariants as news
 use Rattle.depot_readings.proofs.GrowthLaws.{vouchers_written}
 use Rattle.depot_readings.proofs.VoucherRecords.{records_push}
 
--- All vouchers but those that are left are encoded: their ids, texts and bytes are at hand.
+-- All vouchers but those that are left are encoded: their ids, texts and bytes are known.
 pub record AreEncoded (all left : List Voucher) (items : List NewVoucher) (texts : List (List ℕ)) (bytes : ℕ) : Type 0 where
   pub split : vouchers_of items ++ left ≡ all
   pub ids : AllByRecursion HasOwnId items
@@ -75,7 +75,7 @@ all_encoded all left items texts bytes fit few none e =
       written = vouchers_written (vouchers_of items) texts.items e.are;
     }
 
--- the same of the lists that equal these
+-- the same for the lists that equal these
 pub encoded_as : (all left : List Voucher) (items items_now : List NewVoucher) (texts texts_now : List (List ℕ)) (bytes : ℕ) → AreEncoded all left items texts bytes → items_now ≡ items → texts_now ≡ texts → AreEncoded all left items_now texts_now bytes
 encoded_as all left items items_now texts texts_now bytes e same same_texts =
     subst (λ (xs : List NewVoucher). AreEncoded all left xs texts_now bytes) (sym same) (subst (λ (ts : List (List ℕ)). AreEncoded all left items ts bytes) (sym same_texts) e)

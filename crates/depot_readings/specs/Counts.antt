@@ -17,14 +17,14 @@ pub record AreCountsOf (me : ℕ) (J : List Record) (t : JournalCounts) : Type 0
   pub bytes : t.bytes ≡ journal_bytes J
   pub leaves : t.leaves ≡ length (foreign_leaves me J)
 
--- Of whichever lawful journal these are the counts, to which the records are new and with which there are so many leaves then: this is the
--- limit that it would pass with them.
+-- For every lawful journal with these counts, to which the records are new and with which there are this many leaves
+-- then: this is the limit that it would pass with them.
 abbrev pub LimitsNew : JournalCounts → List Record → Option ℕ → Option Full → Type 0
 LimitsNew t new leaves_then limit = (here : Setting) (J : List Record) → IsLawful here J → AreNew here J new → AreCountsOf here.me J t
     → leaves_then ≡ leaves_with (accepted J) t.leaves new → limit ≡ full_by here.me J new
 
--- Of whichever journal these were the counts, which is lawful with the records behind and has so many leaves then: now these are its counts
--- with them.
+-- For every journal with the old counts that is lawful with the records after it and has this many leaves then: the new
+-- counts are those with the records.
 abbrev pub CountsMore : JournalCounts → List Record → Option ℕ → JournalCounts → Type 0
 CountsMore t new leaves_then then = (here : Setting) (J : List Record) → IsLawful here (J ++ new) → AreCountsOf here.me J t
     → leaves_then ≡ leaves_with (accepted J) t.leaves new → AreCountsOf here.me (J ++ new) then

@@ -1,4 +1,4 @@
--- What stands in front of bundles, by place: convictions, and own vouchers by the ids that they name.
+-- What bundles begin with, by place: convictions, and own vouchers by the ids that they name.
 use Rattle.std.specs.Prelude.{◌≡◌, ◌≤◌, ℕ, ◌+◌, List, [], ◌∷◌, ◌++◌, Bool, true, length, map, slice_get, vec_len, ◌⊎◌}
 use Rattle.std.specs.List.{flat_map, list_any}
 use Rattle.std.specs.Option.{option_to_list}
@@ -41,7 +41,7 @@ unfoldable pub voucher_places_from : ℕ → List Record → List VoucherPlace
 voucher_places_from n [] = []
 voucher_places_from n (r ∷ rs) = flat_map (λ v. with_place n v.ids) (own_voucher_by r) ++ voucher_places_from (n + 1) rs
 
--- These numbers are those that were, and the places of the own vouchers that name this id.
+-- These numbers are the old ones, followed by the places of the own vouchers that name this id.
 pub record AddsPlaces (J : List Record) (id : List ℕ) (old new : List ℕ) : Type 0 where
   pub kept : (place : ℕ) → IsIn place old → IsIn place new
   pub all : (place : ℕ) → vouches_at J id place ≡ true → IsIn place new
@@ -54,7 +54,7 @@ pub record AreFrontPlaces (J : List Record) (front : FrontPlaces) : Type 0 where
   pub convictions : front.convictions.items ≡ convictions_from 0 J
   pub vouchers : (id : List ℕ) (place : ℕ) → has_voucher_place front.vouchers id place ≡ vouches_at J id place
 
--- what a growth brings of it behind so many records
+-- what a growth brings of it after this many records
 pub record AreNewPlaces (count : ℕ) (news : News) (new : NewPlaces) : Type 0 where
   pub conviction : option_to_list new.conviction ≡ convictions_from count (records_in news)
   pub vouchers : new.vouchers.items ≡ voucher_places_from count (records_in news)

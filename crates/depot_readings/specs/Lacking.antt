@@ -15,7 +15,7 @@ use Rattle.depot_readings.specs.declared.named.NamedValues.{NamedValues}
 
 -- ---- what is kept
 
--- a value of this hash and of so many bytes is among the values
+-- a value of this hash and of this many bytes is among the values
 abbrev pub is_held : Values → List ℕ → ℕ → Bool
 is_held values hash size = option_map_or (λ v. length v == size) (held_in values hash) false
 

@@ -18,7 +18,7 @@ use Rattle.depot_readings.specs.declared.named.NamedValues.{NamedValues}
 
 -- ---- names
 
--- this is the value of this hash and of so many bytes
+-- this is the value of this hash and of this many bytes
 abbrev pub is_value_named : NamedValue → List ℕ → ℕ → Bool
 is_value_named n hash size = bytes_eq n.hash hash && (n.size == size)
 
@@ -71,7 +71,7 @@ pub record TakesMark (old new : ValueMarks) (name : NamedValue) : Type 0 where
 
 -- ---- what is seen
 
--- a value of this hash and of so many bytes is named
+-- a value of this hash and of this many bytes is named
 unfoldable pub has_named_value : NamedValues → List ℕ → ℕ → Bool
 has_named_value named hash size = is_marked (get compare_names named.marks (record { hash = hash; size = size }))
 

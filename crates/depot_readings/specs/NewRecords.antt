@@ -55,7 +55,7 @@ AreHashed other = Unit {0}
 abbrev pub bytes_of_records : List Record → ℕ
 bytes_of_records new = sum_by (λ r. 5 + length (text_of_record r)) new
 
--- these are the texts of these records, but of a statement of another, which stands last, the tag alone
+-- these are the texts of these records, but of a statement of another, which comes last, the tag alone
 abbrev pub AreWritten : List Record → Vec (List ℕ) → Type 0
 AreWritten new texts = with_rest texts.items (given_of new) ≡ map text_of_record new
 

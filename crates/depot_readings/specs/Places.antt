@@ -12,7 +12,7 @@ accepts r = nat_lt 0 (length (accepted_by r))
 abbrev pub accept_places : List Record → List ℕ
 accept_places J = records_where accepts 0 J
 
--- What is seen of the places that are kept: the places, and how many more have their memory.
+-- What is seen of the places that are kept: the places, and how many more have reserved memory.
 pub record PlacesWithRoom : Type 0 where
   pub places : List ℕ
   pub room : ℕ

@@ -11,7 +11,7 @@ pub record Known : Type 0 where
   pub listed : List RosterEntry
   pub records : List Record
 
--- where the node stands
+-- the setting of the node
 abbrev pub standing : Verifies → Known → Setting
 standing verifies v = record { verifies = verifies; me = v.me; listed = v.listed }
 

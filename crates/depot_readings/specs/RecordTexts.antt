@@ -6,7 +6,7 @@ use Rattle.depot_model.specs.Texts.{text_of_signed}
 
 -- ---- a statement of another at the end
 
--- the text of a statement of another that stands last, as it was given; nothing where there is none
+-- the text of a statement of another that comes last, as it was given; nothing where there is none
 abbrev pub given_of : List Record → List ℕ
 given_of [] = []
 given_of (Foreign s ∷ []) = text_of_signed s

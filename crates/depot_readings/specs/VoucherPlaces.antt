@@ -20,7 +20,7 @@ is_among_places given id place = list_any (λ v. is_voucher_place v id place) gi
 abbrev pub has_voucher_place : VoucherPlaces → List ℕ → ℕ → Bool
 has_voucher_place places id place = has_named_value places.names id place
 
--- what stands in it for an id and a place
+-- what is in it for an id and a place
 abbrev pub place_name : VoucherPlace → NamedValue
 place_name v = record { hash = v.id; size = v.place }
 

@@ -16,16 +16,17 @@ use depot_base::{Full, FullOf};
 pub struct JournalCounts {
     /// Its records.
     pub records: u32,
-    /// Its bytes, with the gate in front.
+    /// Its bytes, with the last gate.
     pub bytes: u32,
     /// The leaves of other writers.
     pub leaves: u32,
 }
 
 impl JournalCounts {
-    /// The first limit, of records, bytes and leaves of other writers, that a journal of these counts would pass with a growth, with the
-    /// number now; none where there is room for it. With the growth there are so many leaves of other writers, where it takes an update of
-    /// another: of a lawful journal to which the growth is new, as `leaves_with` counts them. It takes no memory.
+    /// The first limit, of records, bytes and leaves of other writers, that a journal with these counts would pass with
+    /// a growth, and the number now; None where there is room. `leaves_then` is the number of leaves of other writers
+    /// with the growth, where it takes an update of another. It holds for a lawful journal to which the growth is new,
+    /// with `leaves_then` as `leaves_with` counts it. It takes no memory.
     pub fn limit(&self, growth: &Growth, leaves_then: Option<u32>) -> Option<Full>
         ensures counted { (me : ℕ) (J : List Record) → AreCountsOf me J self.now → leaves_then ≡ leaves_counted me J growth.now → result ≡ full_by me J growth.now }
         ensures lawful { LimitsNew self.now growth.now leaves_then result }
@@ -37,7 +38,8 @@ impl JournalCounts {
         self.limit_passed(records as u64, growth.bytes, leaves_then)
     }
 
-    /// The first limit that so many records more, of so many bytes, pass, where there are so many leaves of other writers then.
+    /// The first limit that `records` more records, of `bytes` bytes, pass, where there are then `leaves` leaves of
+    /// other writers.
     fn limit_passed(&self, records: u64, bytes: u64, leaves: Option<u32>) -> Option<Full>
         requires few { records ≤ 2 ^ 40 }
         requires small { bytes ≤ 2 ^ 40 }
@@ -58,8 +60,8 @@ impl JournalCounts {
         }
     }
 
-    /// Makes the counts of a journal those of it with a growth behind, with which it stays lawful. With the growth there are so many leaves
-    /// of other writers, where it takes an update of another. It takes no memory.
+    /// Adds a growth to the counts of a journal, which stays lawful with it. `leaves_then` is the number of leaves of
+    /// other writers with the growth, where it takes an update of another. It takes no memory.
     pub fn grow(&mut self, growth: &Growth, leaves_then: Option<u32>)
         requires { (here : Setting) × ((J : List Record) × (IsLawful here (J ++ growth.now) × AreCountsOf here.me J self.old)) }
         ensures { CountsMore self.old growth.now leaves_then self.new }

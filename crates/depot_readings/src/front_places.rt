@@ -1,4 +1,4 @@
-//! Where the records stand that a bundle has in front: convictions, and own vouchers by the ids that they name.
+//! The places of the records that a bundle begins with: convictions, and own vouchers by the ids that they name.
 ghost use Rattle.std.specs.Prelude.{◌≡◌, ◌≤◌, ◌+◌, ◌++◌, ◌||◌, ℕ, List, [], length, OnOk, IfOk};
 ghost use Rattle.std.specs.Option.{option_to_list};
 ghost use Rattle.depot_base.specs.declared.limits.TheConstants.{MOST_RECORDS};
@@ -23,14 +23,15 @@ pub struct ConvictedAt {
     pub place: u32,
 }
 
-/// The convictions of a journal, in its order, and the ids that its own vouchers name, each with the places of these vouchers.
+/// The convictions of a journal, in its order, and the ids that its own vouchers name, each with the places of these
+/// vouchers.
 #[derive(Drop)]
 pub struct FrontPlaces {
     pub(crate) convictions: Vec<ConvictedAt>,
     pub(crate) vouchers: VoucherPlaces,
 }
 
-/// What a growth brings of it.
+/// What a growth adds to it.
 #[derive(Drop)]
 pub(crate) struct NewPlaces {
     pub(crate) conviction: Option<ConvictedAt>,
@@ -48,7 +49,7 @@ impl FrontPlaces {
         }
     }
 
-    /// Finds the memory for what a growth brings: after it `add` of it needs none. After Memory all is as before.
+    /// Reserves memory for what a growth adds: the `add` of it needs none. On `Memory` all is unchanged.
     pub(crate) fn reserve(&mut self, new: &NewPlaces) -> Result<(), Memory>
         ensures room { OnOk result (HasRoomFor self.new new.now) }
         ensures same { (J : List Record) → AreFrontPlaces J self.old → AreFrontPlaces J self.new }
@@ -60,7 +61,7 @@ impl FrontPlaces {
         Ok(())
     }
 
-    /// Adds what a growth brings that memory was found for. It takes none.
+    /// Adds what a growth brings, for which memory was reserved. It takes none.
     pub(crate) fn add(&mut self, new: &NewPlaces)
         requires { HasRoomFor self.old new.now }
         ensures convictions { self.new.convictions.items ≡ self.old.convictions.items ++ option_to_list new.now.conviction }
@@ -73,7 +74,7 @@ impl FrontPlaces {
     }
 }
 
-/// What a growth behind so many records brings.
+/// What a growth after `count` records adds.
 pub(crate) fn new_places(alloc: Global, news: &News, count: u32) -> Result<NewPlaces, Memory>
     requires { count + length (records_in news.now) ≤ MOST_RECORDS }
     ensures { IfOk result (AreNewPlaces count news.now) }
@@ -85,7 +86,7 @@ pub(crate) fn new_places(alloc: Global, news: &News, count: u32) -> Result<NewPl
     })
 }
 
-/// The conviction that it brings, of which there is one at most: its first record.
+/// The conviction that a growth brings. There is one at most: its first record.
 #[tactic(auto, using(crate::proofs::FrontPlaceLaws::none_convicting), unfolding(crate::specs::FrontPlaces::convictions_from))]
 fn conviction_in(news: &News, count: u32) -> Option<ConvictedAt>
     ensures { option_to_list result ≡ convictions_from count (records_in news.now) }
@@ -107,7 +108,7 @@ fn convicted_at(proof: &Proof, place: u32) -> ConvictedAt
     }
 }
 
-/// The ids that its own vouchers name, each with its place.
+/// The ids that a growth's own vouchers name, each with its place.
 #[tactic(auto, unfolding(crate::specs::FrontPlaces::voucher_places_from))]
 fn voucher_places_in(alloc: Global, news: &News, count: u32) -> Result<Vec<VoucherPlace>, Memory>
     requires { count + length (records_in news.now) ≤ MOST_RECORDS }
@@ -119,7 +120,7 @@ fn voucher_places_in(alloc: Global, news: &News, count: u32) -> Result<Vec<Vouch
     }
 }
 
-/// Those of own vouchers behind so many records.
+/// The same for own vouchers after `count` records.
 fn places_of_vouchers(
     alloc: Global,
     vouchers: &[NewVoucher],

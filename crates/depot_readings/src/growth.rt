@@ -21,9 +21,10 @@ use depot_update::{encode_conviction, encode_own_voucher, id_in_own_voucher};
 use std::alloc::Global;
 use std::marker::Model;
 
-/// What a journal grows by in one call: up to two records, or own vouchers. Each comes decoded, with the hash that keeping it needs, so that
-/// nothing is hashed again when it is kept, and where the parents of an update were found, so that they aren't searched again. It is seen as
-/// the list of the records. It knows how many bytes they take; of their texts it has those that were encoded to make it, if any were.
+/// What a journal grows by in one call: up to two records, or own vouchers. Each is decoded, with the hash that keeping
+/// it needs, so that it isn't hashed again; an update comes with the places of its parents, so that they aren't
+/// searched again. A growth is seen as the list of the records. It knows how many bytes they take, and has those of
+/// their texts that were encoded to make it.
 #[derive(Drop)]
 pub struct Growth {
     pub(crate) news: News,
@@ -60,8 +61,8 @@ impl Growth {
         Growth::unencoded(News::Birth { node, roster }, BIRTH)
     }
 
-    /// An own update and its values, just encoded: this is the text of their record. The items of its parents are given as they were
-    /// found, and looked at where it is added to the graph.
+    /// An own update and its values, just encoded: `text` is the text of their record. `parents` hints at the items of
+    /// its parents, for the graph.
     pub fn put(
         alloc: Global,
         update: Update,
@@ -88,7 +89,8 @@ impl Growth {
         })
     }
 
-    /// An own update and its values, of a record that was read, of this text. Its length alone is looked at. It takes no memory.
+    /// An own update and its values, read from a record of this text. Only the text's length is used. It takes no
+    /// memory.
     pub fn read_put(
         update: Update,
         values: ValueList,
@@ -109,7 +111,7 @@ impl Growth {
         Growth::unencoded(news, size_of(text.len()))
     }
 
-    /// An own voucher, of a record that was read, of this text. Its length alone is looked at.
+    /// An own voucher, read from a record of this text. Only the text's length is used.
     pub fn read_voucher(
         alloc: Global,
         voucher: Voucher,
@@ -125,8 +127,8 @@ impl Growth {
         Ok(Growth::unencoded(news, size_of(text.len())))
     }
 
-    /// A statement of another, of this text. Its length alone is looked at. The items of an update's parents are given as they were
-    /// found, and looked at where leaves are counted and where it is added to the graph. It takes no memory.
+    /// A statement of another, of this text. Only the text's length is used. `parents` hints at the items of an
+    /// update's parents, for counting leaves and for the graph. It takes no memory.
     pub fn foreign(signed: Signed, id: Hash32, parents: Vec<u32>, text: &[u8]) -> Growth
         requires signed { IsSigned signed }
         requires id { id ≡ id_of_statement signed.statement }
@@ -141,8 +143,8 @@ impl Growth {
         Growth::unencoded(news, tagged_size(text))
     }
 
-    /// The conviction of a writer, and after it a statement of this text. The proof is encoded. The items of an update's parents are
-    /// given as `foreign` takes them.
+    /// The conviction of a writer, and after it a statement of this text. The proof is encoded. `parents` is as in
+    /// `foreign`.
     pub fn convicting(
         alloc: Global,
         proof: Proof,
@@ -187,7 +189,7 @@ impl Growth {
         })
     }
 
-    /// A conviction by a proof that was given, of this text. Its length alone is looked at. It takes no memory.
+    /// A conviction by a proof that was given, of this text. Only the text's length is used. It takes no memory.
     pub fn given_conviction(proof: Proof, text: &[u8]) -> Growth
         requires proof { IsProof proof }
         requires text { text.now ≡ text_of_proof proof }
@@ -228,7 +230,7 @@ impl Growth {
         })
     }
 
-    /// Records of so many bytes, whose texts aren't encoded yet.
+    /// Records of `bytes` bytes, whose texts aren't encoded yet.
     fn unencoded(news: News, bytes: u64) -> Growth
         requires { IsGrowth news bytes None }
         ensures { result ≡ records_in news }
@@ -258,9 +260,9 @@ impl Growth {
         self.bytes
     }
 
-    /// The texts of the records, as a journal appends them: one for each, but of a statement of another, which stands last, the tag
-    /// alone. Behind that goes the text of the statement as it was given (`given`). Texts that were encoded to make the growth are
-    /// given away, the others are encoded now. The records stay, also after Memory.
+    /// The texts of the records, as a journal appends them: one for each. Of another's statement, which comes last, it
+    /// is the tag alone, and the text as it was given (`given`) is appended to that. Texts that were encoded to make
+    /// the growth are given away, the others are encoded now. The records stay, also on `Memory`.
     pub fn take_texts(&mut self, alloc: Global) -> Result<Vec<Bytes>, Memory>
         ensures same { self.new ≡ self.old }
         ensures texts { IfOk result (λ texts. with_rest texts.items (given_of self.old) ≡ map text_of_record self.old) }
@@ -271,8 +273,8 @@ impl Growth {
         }
     }
 
-    /// What goes behind the last of the texts: of what was given to the node, all, where the growth ends with a statement of another,
-    /// which has this text; else nothing. It takes no memory.
+    /// What is appended to the last of the texts: all of `text`, which the node was given, where the growth ends with a
+    /// statement of another of this text; else nothing. It takes no memory.
     pub fn given<'a>(&self, text: &'a [u8]) -> &'a [u8]
         requires { IsGiven self.now text.now }
         ensures { result.now ≡ given_of self.now }
@@ -299,7 +301,7 @@ fn size_of(length: usize) -> u64
     RECORD_OVERHEAD as u64 + length as u64
 }
 
-/// The bytes that a record of this text behind a tag takes.
+/// The bytes that a record of this text after a tag takes.
 fn tagged_size(text: &[u8]) -> u64
     requires { 1 + length text.now ≤ MOST_RECORD }
     ensures size { result ≡ 6 + length text.now }

@@ -28,8 +28,8 @@ use depot_model::Scheme;
 use depot_values::Values;
 use depot_vouch::VouchedIds;
 
-/// What is read off the records of a journal: what the checks look at, the values by their hash, and counts. It says of no
-/// journal that it is its own: each call says what it makes of what is kept of any.
+/// What is read off the records of a journal: what the checks look at, the values by their hash, and counts. It isn't
+/// tied to one journal: each call says what it does to whatever is kept of any.
 #[derive(Drop)]
 pub struct Kept<S: Scheme> {
     pub(crate) state: State<S>,
@@ -38,8 +38,8 @@ pub struct Kept<S: Scheme> {
 }
 
 impl<S: Scheme> Kept<S> {
-    /// Keeps the records of a growth, and the ids that its own vouchers name: all, or after Memory none. With them there are so
-    /// many leaves of other writers, where they bring an update of another.
+    /// Keeps the records of a growth, and the ids that its own vouchers name: all, or on `Memory` none. `leaves` is the
+    /// number of leaves of other writers with them, where they bring an update of another.
     pub(crate) fn keep(
         &mut self,
         news: News,
@@ -84,7 +84,7 @@ impl<S: Scheme> Kept<S> {
         }
     }
 
-    /// Keeps an own update and its values. Their hashes are those that its writes name, so none is hashed once more.
+    /// Keeps an own update and its values. Their hashes are those that its writes name, so none is hashed again.
     fn keep_put(
         &mut self,
         update: Update,
@@ -110,7 +110,7 @@ impl<S: Scheme> Kept<S> {
         Ok(())
     }
 
-    /// Keeps own vouchers: all, or after Memory none.
+    /// Keeps own vouchers: all, or on `Memory` none.
     fn keep_vouchers(
         &mut self,
         vouchers: Sequence<NewVoucher>,
@@ -131,7 +131,7 @@ impl<S: Scheme> Kept<S> {
         Ok(())
     }
 
-    /// Keeps own vouchers that memory was found for. It takes none.
+    /// Keeps own vouchers for which memory was reserved. It takes none.
     fn add_vouchers(&mut self, vouchers: Vec<NewVoucher>, mine: &mut VouchedIds)
         requires ids { AllByRecursion HasOwnId vouchers.items }
         requires may { MayKeep S.verifies self.old.state self.old.values self.old.totals (records_of (vouchers_of vouchers.items)) }
@@ -146,7 +146,7 @@ impl<S: Scheme> Kept<S> {
         }
     }
 
-    /// Keeps an own voucher that memory was found for. It takes none.
+    /// Keeps an own voucher for which memory was reserved. It takes none.
     fn add_voucher(&mut self, item: NewVoucher, mine: &mut VouchedIds)
         requires id { HasOwnId item }
         requires may { MayKeep S.verifies self.old.state self.old.values self.old.totals (OwnVoucher item.voucher ∷ []) }
@@ -229,7 +229,7 @@ impl<S: Scheme> Kept<S> {
         Ok(())
     }
 
-    /// The counts once a statement of another is taken, with which there are so many leaves where it is an update.
+    /// The counts with one more statement of another. `leaves` is the number of leaves then, where it is an update.
     fn totals_with(&self, statement: &Statement, leaves: Option<u32>) -> Totals
         requires { leaves ≡ leaves_then self.now.state.accepted self.now.totals.leaves statement.now }
         ensures { (J : List Record) → IsKeptOf J self.now.state self.now.values self.now.totals → AreTaken self.now.state.me J statement.now result }
@@ -245,7 +245,7 @@ impl<S: Scheme> Kept<S> {
     }
 }
 
-/// Finds the memory for the ids that these vouchers name. The ids in the set stay.
+/// Reserves memory for the ids that these vouchers name. The ids in the set stay.
 fn reserve_ids(mine: &mut VouchedIds, vouchers: &[NewVoucher]) -> Result<(), Memory>
     ensures room { OnOk result (HaveRoom vouchers.now mine.new.room) }
     ensures ids { mine.new.ids ≡ mine.old.ids }
@@ -256,7 +256,7 @@ fn reserve_ids(mine: &mut VouchedIds, vouchers: &[NewVoucher]) -> Result<(), Mem
     Ok(())
 }
 
-/// Finds the memory for values of these names. The values stay.
+/// Reserves memory for values of these names. The values stay.
 fn reserve_values(kept: &mut Values, names: &[NamedValue]) -> Result<(), Memory>
     ensures room { OnOk result (HasRoomForAll names.now kept.new) }
     ensures same { (hash : List ℕ) → held_in kept.new hash ≡ held_in kept.old hash }

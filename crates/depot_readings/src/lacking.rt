@@ -24,7 +24,7 @@ fn is_held(values: &Values, name: &NamedValue) -> bool
     }
 }
 
-/// Whether a name with this mark brings a hash behind these.
+/// Whether a name with this mark has a hash beyond these.
 fn is_next(found: &[Hash32], name: &NamedValue, mark: bool) -> bool
     ensures { result ≡ is_next found.now (name.now, mark) }
 {
@@ -35,7 +35,8 @@ fn is_next(found: &[Hash32], name: &NamedValue, mark: bool) -> bool
 }
 
 impl NamedValues {
-    /// Of a name that memory was found for: puts it in where its value isn't held, and takes it out where it is. It takes none.
+    /// For a name with reserved memory: inserts it where its value isn't held, and removes it where it is. It takes no
+    /// memory.
     fn settle_one(&mut self, values: &Values, name: NamedValue)
         requires { is_held values.now name.hash name.size ≡ false → has_room self.old name ≡ true }
         ensures named { (hash : List ℕ) (size : ℕ) → has_named_value self.new hash size ≡ (if is_value_named name hash size then not (is_held values.now hash size) else has_named_value self.old hash size) }
@@ -48,8 +49,8 @@ impl NamedValues {
         }
     }
 
-    /// Of names that memory was found for: puts in those whose values aren't held, and takes out those whose values are. It takes
-    /// none.
+    /// For names with reserved memory: inserts those whose values aren't held, and removes those whose values are. It
+    /// takes no memory.
     pub(crate) fn settle(&mut self, values: &Values, given: &[NamedValue])
         requires { HasRooms self.old given.now }
         ensures { (hash : List ℕ) (size : ℕ) → has_named_value self.new hash size ≡ (if is_name given.now hash size then not (is_held values.now hash size) else has_named_value self.old hash size) }
@@ -59,7 +60,7 @@ impl NamedValues {
         }
     }
 
-    /// Takes out the name of a value that came, if there is one and it is held now. It takes no memory.
+    /// Removes the name of a value that came, if there is one and the value is held now. It takes no memory.
     pub(crate) fn let_go(&mut self, values: &Values, name: Option<NamedValue>)
         ensures { (hash : List ℕ) (size : ℕ) → has_named_value self.new hash size ≡ (has_named_value self.old hash size && not (is_name (option_to_list name) hash size && is_held values.now hash size)) }
     {
@@ -89,7 +90,7 @@ impl NamedValues {
     }
 }
 
-/// Finds the memory for names in two sets: after it these need none for them. What the sets name stays, also after Memory.
+/// Reserves memory for names in two sets. What the sets name stays, also on `Memory`.
 pub(crate) fn reserve_both(
     named: &mut NamedValues,
     lacking: &mut NamedValues,

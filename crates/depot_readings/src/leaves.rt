@@ -10,9 +10,9 @@ use depot_base::{Statement, Update};
 use depot_graph::Graph;
 use depot_model::Past;
 
-/// How many leaves of other writers there are with a growth behind the updates of a graph, where it takes an update of another: so many
-/// as there were before, and one more unless the update follows a leaf. None where it takes none. The parents of the update are looked
-/// for at the items that the growth has. It takes no memory.
+/// How many leaves of other writers there are with a growth added to the updates of a graph, where it takes an update
+/// of another: as many as before, and one more unless the update follows a leaf. None where it takes none. The growth's
+/// items are hints for the update's parents. It takes no memory.
 #[tactic(auto, using(crate::proofs::VoucherRecords::no_leaves))]
 pub fn leaves_with(graph: &Graph, leaves: u32, growth: &Growth) -> Option<u32>
     requires { leaves ≤ MOST_RECORDS }
@@ -33,7 +33,7 @@ pub fn leaves_with(graph: &Graph, leaves: u32, growth: &Growth) -> Option<u32>
     }
 }
 
-/// The same of a statement.
+/// The same for a statement.
 fn leaves_then(graph: &Graph, leaves: u32, statement: &Statement, parents: &[u32]) -> Option<u32>
     requires { leaves ≤ MOST_RECORDS }
     ensures { result ≡ leaves_then (⟦<Graph as Past>⟧.updates graph.now) leaves statement.now }

@@ -1,16 +1,21 @@
-//! What is read off the records of a node's journal, wherever its texts stand.
+//! What is read off the records of a node's journal, wherever its texts are.
 //!
-//! `Readings` are seen as the node's number, its roster, and the list of the records that were read. They keep what the checks look at
-//! (`depot_accept::State`), the values by their hash, the names of values and which of these aren't held, the places of the records that
-//! accepted updates and of those that bundles have in front, counts of the node's own statements and of the leaves of other writers, the
-//! greatest clock, and how many records there are and how many bytes they take in a journal. The records themselves, and their texts, they
-//! don't keep: that there are some, contracts alone say.
+//! `Readings` are seen as the node's number, its roster, and the list of the records that were read. They keep:
 //!
-//! They grow by one call alone, `read`, whatever a journal grows by: a `Growth` is up to two records, or own vouchers, decoded, with their
-//! hashes and with the items at which the parents of an update were found. All memory is found before the first write; after Memory all is
-//! as before. `limit` tells the limit that a growth would pass. What a journal appends is told by the growth (`take_texts`, `given`).
+//! - what the checks look at (`depot_accept::State`);
+//! - the values by their hash, the names of values, and which of these aren't held;
+//! - the places of the records that accepted updates, and of those that bundles begin with;
+//! - counts of the node's own statements and of the leaves of other writers, the greatest clock, and how many records
+//!   there are and how many bytes they take in a journal.
 //!
-//! The records always make a lawful journal: `read` has that as its condition, and this crate decides nothing.
+//! The records themselves and their texts aren't kept: contracts alone see the list.
+//!
+//! Readings grow by one call alone, `read`. A `Growth` is up to two records, or own vouchers, decoded, with their
+//! hashes and with the places of an update's parents. All memory is reserved before the first write; on `Memory` all is
+//! unchanged. `limit` returns the limit that a growth would pass. `take_texts` and `given` of a growth are what a
+//! journal appends.
+//!
+//! The records always make a lawful journal: `read` requires that, and this crate decides nothing.
 #![tactic(auto)]
 
 mod counts;

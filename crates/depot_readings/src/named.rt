@@ -17,7 +17,7 @@ use std::collections::BTreeMap;
 
 pub(crate) type ValueMarks = BTreeMap<NamedValue, bool>;
 
-/// Puts a mark in place of none, or of another. Only a name that has none takes memory.
+/// Sets the mark of a name, whether it has one or not. Only a name that has none takes memory.
 #[tactic(auto, using(crate::proofs::NamedLaws::puts_mark))]
 fn put_mark(marks: &mut ValueMarks, name: NamedValue, mark: bool) -> Result<(), Memory>
     ensures ok { OnOk result (PutsMark marks.old marks.new name mark) }
@@ -30,7 +30,7 @@ fn put_mark(marks: &mut ValueMarks, name: NamedValue, mark: bool) -> Result<(), 
     }
 }
 
-/// Takes a mark away, if there is one. It takes no memory.
+/// Removes a mark, if there is one. It takes no memory.
 #[tactic(auto, using(crate::proofs::NamedLaws::takes_out))]
 fn take_mark(marks: &mut ValueMarks, name: &NamedValue)
     ensures { TakesMark marks.old marks.new name.now }
@@ -38,11 +38,11 @@ fn take_mark(marks: &mut ValueMarks, name: &NamedValue)
     let _ = marks.remove(name);
 }
 
-/// A set of names of values, by hash and length. Strangers pick these hashes, so they stand in an ordered map: asking, adding and
-/// taking out take logarithmic time, whatever they are.
+/// A set of names of values, by hash and length. Strangers pick these hashes, so the map is ordered: look-ups, inserts
+/// and removals take logarithmic time for any hashes.
 #[derive(Drop)]
 pub struct NamedValues {
-    // A name whose mark is false is one that room was found for.
+    // A name whose mark is false is one for which memory was reserved.
     pub(crate) marks: ValueMarks,
     pub(crate) alloc: Global,
 }
@@ -62,7 +62,7 @@ impl NamedValues {
         }
     }
 
-    /// Whether a value of this hash and of so many bytes is named. It takes no memory.
+    /// Whether a value of this hash and this length is named. It takes no memory.
     #[tactic(auto, using(crate::proofs::NamedLaws::named_laws), unfolding(crate::specs::Named::has_named_value, crate::specs::Named::has_room))]
     pub fn names(&self, hash: &Hash32, size: u32) -> bool
         ensures named { result ≡ has_named_value self.now hash.now size }
@@ -75,7 +75,7 @@ impl NamedValues {
         }
     }
 
-    /// Finds the memory for a name. After Memory all is as before.
+    /// Reserves memory for a name. On `Memory` all is unchanged.
     #[tactic(auto, using(crate::proofs::NamedLaws::named_laws), unfolding(crate::specs::Named::has_named_value, crate::specs::Named::has_room))]
     pub(crate) fn reserve_one(&mut self, name: NamedValue) -> Result<(), Memory>
         ensures room { OnOk result (has_room self.new name ≡ true) }
@@ -89,7 +89,7 @@ impl NamedValues {
         put_mark(&mut self.marks, NamedValue { hash, size }, false)
     }
 
-    /// Finds the memory for names: after it `add` of them needs none. After Memory all is as before.
+    /// Reserves memory for names: the `add` of them needs none. On `Memory` all is unchanged.
     pub fn reserve(&mut self, given: &[NamedValue]) -> Result<(), Memory>
         ensures room { OnOk result (HasRooms self.new given.now) }
         ensures same { (hash : List ℕ) (size : ℕ) → has_named_value self.new hash size ≡ has_named_value self.old hash size }
@@ -101,7 +101,7 @@ impl NamedValues {
         Ok(())
     }
 
-    /// Adds a name that memory was found for. It takes none.
+    /// Adds a name for which memory was reserved. It takes none.
     #[tactic(auto, using(crate::proofs::NamedLaws::named_laws), unfolding(crate::specs::Named::has_named_value, crate::specs::Named::has_room))]
     pub(crate) fn add_one(&mut self, name: NamedValue)
         requires { has_room self.old name ≡ true }
@@ -111,7 +111,7 @@ impl NamedValues {
         let _ = put_mark(&mut self.marks, name, true);
     }
 
-    /// Takes a name out, and the memory that was found for it. It takes none.
+    /// Removes a name, and the memory that was reserved for it. It takes none.
     #[tactic(auto, using(crate::proofs::NamedLaws::named_laws), unfolding(crate::specs::Named::has_named_value, crate::specs::Named::has_room))]
     pub(crate) fn take_out(&mut self, name: NamedValue)
         ensures named { (hash : List ℕ) (size : ℕ) → has_named_value self.new hash size ≡ (has_named_value self.old hash size && not (is_value_named name hash size)) }
@@ -120,8 +120,8 @@ impl NamedValues {
         take_mark(&mut self.marks, &name);
     }
 
-    /// Adds names that memory was found for. Where the values that these updates name were named, and the names are those of more updates
-    /// behind them, the values of all are named. It takes no memory.
+    /// Adds names for which memory was reserved. Where the set was that of these updates' values, and the names are
+    /// those of further updates, the set becomes that of the values of all. It takes no memory.
     pub fn add(&mut self, given: &[NamedValue])
         requires { HasRooms self.old given.now }
         ensures named { (hash : List ℕ) (size : ℕ) → has_named_value self.new hash size ≡ (has_named_value self.old hash size || is_name given.now hash size) }
@@ -165,7 +165,7 @@ impl NamedValues {
         Ok(())
     }
 
-    /// The values that the updates name which a growth accepts, of which it brings one at most.
+    /// The values named by the updates that a growth accepts, of which there is one at most.
     pub fn named_by(&self, growth: &Growth) -> Result<Vec<NamedValue>, Memory>
         ensures { IfOk result (λ list. list.items ≡ values_named_in (accepted growth.now)) }
     {

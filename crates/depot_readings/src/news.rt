@@ -115,7 +115,7 @@ pub(crate) fn alone(alloc: Global, text: Bytes) -> Result<Vec<Bytes>, Memory>
     Ok(texts)
 }
 
-/// A text, and behind it the tag of the record of another's statement.
+/// A text, and after it the tag of the record of another's statement.
 pub(crate) fn with_tag(alloc: Global, text: Bytes) -> Result<Vec<Bytes>, Memory>
     ensures { IfOk result (λ texts. (s : Signed) → with_rest texts.items (text_of_signed s) ≡ text ∷ text_of_record (Foreign s) ∷ []) }
 {

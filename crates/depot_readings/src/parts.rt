@@ -1,4 +1,4 @@
-//! What readings keep, whatever records it is read off.
+//! What readings keep, of any records.
 ghost use Rattle.std.specs.Prelude.{◌≡◌, [], OnOk, OnErr};
 ghost use Rattle.depot_accept.specs.StateView.{IsStateOf, setting};
 ghost use Rattle.depot_readings.specs.NewRecords.{records_in, AreHashed};
@@ -19,9 +19,10 @@ use depot_values::Values;
 use depot_vouch::VouchedIds;
 use std::alloc::Global;
 
-/// All that is read off the records of a journal: what is kept, the values that accepted updates name, those of them that aren't held, the
-/// places of the records that accepted the updates, the ids that own vouchers name, and the places of what bundles have in front. It says
-/// of no journal that it is its own: each call says what it makes of what is read off any.
+/// All that is read off the records of a journal: what is kept, the values that accepted updates name, those of them
+/// that aren't held, the places of the records that accepted the updates, the ids that own vouchers name, and the
+/// places of the records that bundles begin with. It isn't tied to one journal: each call says what it does to whatever
+/// is read off any.
 #[derive(Drop)]
 pub(crate) struct ReadingsParts<S: Scheme> {
     pub(crate) kept: Kept<S>,
@@ -54,8 +55,8 @@ impl<S: Scheme> ReadingsParts<S> {
         }
     }
 
-    /// Reads the records of a growth behind so many others: all, or after Memory none. With them there are so many leaves of other
-    /// writers, where they bring an update of another.
+    /// Reads the records of a growth after `count` others: all, or on `Memory` none. `leaves` is the number of leaves
+    /// of other writers with them, where they bring an update of another.
     pub(crate) fn read(&mut self, news: News, count: u32, leaves: Option<u32>) -> Result<(), Memory>
         requires hashed { AreHashed news }
         requires leaves { leaves ≡ leaves_with self.old.kept.state.accepted self.old.kept.totals.leaves (records_in news) }

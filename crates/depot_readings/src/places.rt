@@ -12,8 +12,8 @@ use depot_base::{Memory, Statement};
 use std::alloc::Global;
 use std::marker::Model;
 
-/// The places, from 0, of the records that accepted the updates, in the order of the updates. They are seen as the list of the
-/// places, and the number of places more that have their memory.
+/// The places, from 0, of the records that accepted the updates, in the order of the updates. They are seen as the list
+/// of the places, and the number of places for which memory is reserved.
 #[derive(Drop)]
 pub struct AcceptPlaces {
     places: Vec<u32>,
@@ -46,7 +46,7 @@ impl AcceptPlaces {
         self.places.as_slice()
     }
 
-    /// Finds the memory for a place, if it is one: after it `add` of it needs none. The places are as before.
+    /// Reserves memory for a place, if there is one: the `add` of it needs none. The places are unchanged.
     pub(crate) fn reserve(&mut self, place: Option<u32>) -> Result<(), Memory>
         ensures room { OnOk result (length (option_to_list place) ≤ self.new.room) }
         ensures same { self.new.places ≡ self.old.places }
@@ -58,7 +58,7 @@ impl AcceptPlaces {
         Ok(())
     }
 
-    /// Adds a place that memory was found for. It takes none.
+    /// Adds a place for which memory was reserved. It takes none.
     pub(crate) fn add(&mut self, place: Option<u32>)
         requires { length (option_to_list place) ≤ self.old.room }
         ensures { self.new.places ≡ self.old.places ++ option_to_list place }
@@ -69,8 +69,8 @@ impl AcceptPlaces {
     }
 }
 
-/// The place of the record by which a growth behind so many records accepts an update. It brings one at most, by its last
-/// record.
+/// The place of the record by which a growth after `count` records accepts an update. It accepts one at most, by its
+/// last record.
 #[tactic(auto, using(crate::proofs::VoucherRecords::none_accepting), unfolding(depot_model::specs::Bundle::records_where))]
 pub(crate) fn accept_place(news: &News, count: u32) -> Option<u32>
     requires { count ≤ MOST_RECORDS }

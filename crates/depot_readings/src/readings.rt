@@ -29,13 +29,13 @@ use depot_sign::Roster;
 use std::alloc::Global;
 use std::marker::Model;
 
-/// All that is read off the records of a lawful journal of a node, wherever its texts stand: what the checks look at, the values by their
-/// hash, the names of values and which of these aren't held, the places of the records that accepted updates and of those that bundles
-/// have in front, the ids that own vouchers name, and counts. It grows by `read` alone.
+/// All that is read off the records of a lawful journal of a node, wherever its texts are: what the checks look at, the
+/// values by their hash, the names of values and which of these aren't held, the places of the records that accepted
+/// updates and of those that bundles begin with, the ids that own vouchers name, and counts. It grows by `read` alone.
 #[derive(Drop)]
 pub struct Readings<S: Scheme> {
     parts: ReadingsParts<S>,
-    // How many records were read, and the bytes that they take in a journal, with the gate in front.
+    // How many records were read, and the bytes that they take in a journal, with the last gate.
     count: u32,
     bytes: u64,
     records: Recorded,
@@ -66,7 +66,7 @@ impl<S: Scheme> Readings<S> {
         }
     }
 
-    /// Reads the records of a growth behind those that were read: all, or after Memory none.
+    /// Reads the records of a growth after those that were read: all, or on `Memory` none.
     pub fn read(&mut self, new: Growth) -> Result<(), Memory>
         requires lawful { IsLawful (standing S.verifies self.old) (self.old.records ++ new) }
         ensures ok { OnOk result (self.new ≡ with_more_records self.old (self.old.records ++ new)) }
@@ -83,7 +83,7 @@ impl<S: Scheme> Readings<S> {
         Ok(())
     }
 
-    /// Keeps the row that was joined of the parents of an update that was checked, for when this update is read. It takes no memory.
+    /// Keeps the joined row of a checked update's parents until this update is read. It takes no memory.
     pub fn keep_row(&mut self, parents: Parents)
         requires { IsJoinedRow (accepted self.old.records) parents.items.items parents.row.items }
         ensures { self.new ≡ self.old }
@@ -143,14 +143,15 @@ impl<S: Scheme> Readings<S> {
         self.parts.kept.values.get(hash)
     }
 
-    /// Whether an accepted update names a value of this hash and of so many bytes. It takes no memory.
+    /// Whether an accepted update names a value of this hash and this length. It takes no memory.
     pub fn is_wanted(&self, hash: &Hash32, size: u32) -> bool
         ensures { result ≡ is_wanted (accepted self.now.records) hash.now size }
     {
         self.parts.named.names(hash, size)
     }
 
-    /// The hashes of the values that accepted updates name and that aren't held in their length, the first 1,024 in rising order.
+    /// The hashes of the values that accepted updates name and that aren't held in that length, the first 1,024 in
+    /// rising order.
     pub fn wanted(&self) -> Result<Ids, Memory>
         ensures { IfOk result (λ hashes. hashes ≡ wanted_of self.now.records) }
     {
@@ -203,8 +204,8 @@ impl<S: Scheme> Readings<S> {
         )
     }
 
-    /// The limit that the journal would pass with a growth, whose statements are new to it: the first of records, bytes and leaves of
-    /// other writers, with the number now. None where there is room for it. It takes no memory.
+    /// The limit that the journal would pass with a growth whose statements are new to it: the first of records, bytes
+    /// and leaves of other writers, with the number now. None where there is room. It takes no memory.
     pub fn limit(&self, new: &Growth) -> Option<Full>
         requires { AreNew (standing S.verifies self.now) self.now.records new.now }
         ensures { result ≡ full_by self.now.me self.now.records new.now }

@@ -6,9 +6,10 @@ ghost use Rattle.depot_base.specs.declared.record.Record.{Record};
 use crate::growth::Growth;
 use std::marker::Model;
 
-/// The records that were read. Contracts alone see them, so they take no bytes: what is asked of them, the readings tell.
+/// The records that were read. Contracts alone see them, so they take no bytes: the readings answer what is asked of
+/// them.
 ///
-/// No memory holds them: what keeps them are the contracts of `new` and `with`, which are proved by hand.
+/// No memory holds them: they are kept by the contracts of `new` and `with`, which are proved by hand.
 #[derive(Drop)]
 pub struct Recorded {
     pub ghost items: { List Record },
@@ -26,7 +27,7 @@ impl Recorded {
         Recorded {}
     }
 
-    /// These, and behind them those of a growth.
+    /// These records, followed by those of a growth.
     pub fn with(&self, new: &Growth) -> Recorded
         ensures { result.items ≡ self.now.items ++ new.now }
     {

@@ -20,8 +20,9 @@ use depot_base::{Hash32, Memory, Proof, Signed};
 use depot_model::Scheme;
 
 impl Growth {
-    /// Keeps what a take adds in a state: nothing, a statement of another, a conviction, or a conviction and after it a statement of the
-    /// convicted. After Memory the state is as before. Its conditions are those of `State::add_foreign` and `State::convict`.
+    /// Keeps what a take adds in a state: nothing, a statement of another, a conviction, or a conviction followed by a
+    /// statement of the convicted. On `Memory` the state is unchanged. Its conditions are those of `State::add_foreign`
+    /// and `State::convict`.
     pub fn keep_in<S: Scheme>(self, state: &mut State<S>) -> Result<(), Memory>
         requires taken { AllByRecursion (IsTaken state.old.listed) self }
         requires fits { IsCausal [] (state.old.accepted ++ accepted self) }
@@ -38,7 +39,7 @@ impl Growth {
     }
 }
 
-/// The same of the records, which are decoded and have their hashes.
+/// The same for the records, which are decoded and have their hashes.
 fn keep_news<S: Scheme>(state: &mut State<S>, news: News) -> Result<(), Memory>
     requires texts { AllByRecursion IsRecord (records_in news) }
     requires hashed { AreHashed news }
@@ -75,7 +76,8 @@ fn keep_news<S: Scheme>(state: &mut State<S>, news: News) -> Result<(), Memory>
     }
 }
 
-/// Keeps another's statement and the conviction of a node of the roster, which stands in front of it. After Memory the state is as before.
+/// Keeps another's statement and the conviction of a node of the roster, which precedes it in the journal. On `Memory`
+/// the state is unchanged.
 pub(crate) fn keep_both<S: Scheme>(
     state: &mut State<S>,
     proof: &Proof,

@@ -15,7 +15,7 @@ pub(crate) struct VoucherPlace {
 }
 
 impl VoucherPlace {
-    /// As it stands in the ordered set.
+    /// Its key in the ordered set.
     fn name(&self) -> NamedValue
         ensures { result ≡ place_name self.now }
     {
@@ -26,10 +26,11 @@ impl VoucherPlace {
     }
 }
 
-/// The ids that own vouchers name, each with the places of these vouchers. Whoever signs a voucher picks its ids, so they are in order.
+/// The ids that own vouchers name, each with the places of these vouchers. The signer of a voucher picks its ids, so
+/// the set is ordered and not hashed.
 #[derive(Drop)]
 pub struct VoucherPlaces {
-    // The set of values' names, with an id in place of the hash, and a place in that of the length.
+    // The set of values' names, with an id for the hash, and a place for the length.
     pub(crate) names: NamedValues,
 }
 
@@ -43,7 +44,7 @@ impl VoucherPlaces {
         }
     }
 
-    /// Finds the memory for these: after it `add` of them needs none. After Memory all is as before.
+    /// Reserves memory for these: the `add` of them needs none. On `Memory` all is unchanged.
     pub(crate) fn reserve(&mut self, given: &[VoucherPlace]) -> Result<(), Memory>
         ensures room { OnOk result (HasPlaceRooms self.new given.now) }
         ensures same { (id : List ℕ) (place : ℕ) → has_voucher_place self.new id place ≡ has_voucher_place self.old id place }
@@ -54,7 +55,7 @@ impl VoucherPlaces {
         Ok(())
     }
 
-    /// Adds these, which memory was found for. It takes none.
+    /// Adds these, for which memory was reserved. It takes none.
     pub(crate) fn add(&mut self, given: &[VoucherPlace])
         requires { HasPlaceRooms self.old given.now }
         ensures { (id : List ℕ) (place : ℕ) → has_voucher_place self.new id place ≡ (has_voucher_place self.old id place || is_among_places given.now id place) }

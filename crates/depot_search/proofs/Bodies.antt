@@ -1,4 +1,4 @@
--- Each body once: put behind others one after the other, which is the definition.
+-- Each body once, collected one after another, as the definition does.
 use Rattle.std.proofs.Common.{◌≡◌, ◌+◌, ◌||◌, Bool, true, false, cond, List, [], ◌∷◌, ◌++◌, refl, sym, ap, ◌∙◌, append_assoc, append-nil}
 use Rattle.std.specs.List.{flat_map, list_any}
 use Rattle.depot_base.specs.declared.update.Update.{Update}
@@ -46,7 +46,7 @@ bodies_put known (u ∷ us) = by_test (is_body_in u known) (bodies_put known us)
       ∙ append_assoc known (u ∷ []) (new_bodies (known ++ u ∷ []) us)
       ∙ ap (λ (l : List Update). known ++ u ∷ l) (same_known (known ++ u ∷ []) (u ∷ known) us (λ x. any_pushed (λ (t : Update). same_body t x) known u))
 
--- of two lists behind one another
+-- of two lists one after another
 pub bodies_behind : (known us vs : List Update) → with_bodies known (us ++ vs) ≡ with_bodies (with_bodies known us) vs
 bodies_behind known [] vs = refl
 bodies_behind known (u ∷ us) vs = bodies_behind (cond (is_body_in u known) known (known ++ u ∷ [])) us vs

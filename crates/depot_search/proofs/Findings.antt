@@ -62,7 +62,7 @@ length_map : {X Y : Type 0} (f : X → Y) (xs : List X) → length (map f xs) �
 length_map f [] = refl
 length_map f (x ∷ xs) = ap (λ (n : ℕ). suc n) (length_map f xs)
 
--- ---- what journals tell of a world
+-- ---- what journals say of a world
 
 writes_are : (cs : List Correct) (js : List TracedJournal) → AreOf cs js → flat_map (λ (j : TracedJournal). accepted j.entries) js ≡ flat_map (λ (c : Correct). accepted c.journal) cs
 writes_are [] [] of = refl

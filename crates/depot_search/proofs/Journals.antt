@@ -47,7 +47,7 @@ few here J l = lawful_from_end here (λ (x : List Record). length x ≤ 131072) 
 
 -- ---- nodes
 
--- a read as a trace tells it
+-- a read as a trace has it
 pub record IsReadAs (r : Read) (t : ReadTrace) : Type 0 where
   pub length : r.at ≡ t.length
   pub key : r.key ≡ t.key

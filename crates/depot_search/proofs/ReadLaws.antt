@@ -131,11 +131,11 @@ rises_from : (us : List Update) → RisesStrictly us → rises_strictly us ≡ t
 rises_from [] rise = refl
 rises_from (u ∷ us) rise = and_from (list_all (λ v. is_lt (listed u v)) us) (rises_strictly us) (all_tests_from (λ v. is_lt (listed u v)) us rise.0) (rises_from us rise.1)
 
--- what is answered of an update as a trace tells it
+-- what is answered of an update as a trace has it
 told_both : (s : Shown) (a : Answered) → answered s ≡ answered_of a → (id_of_update s.update ≡ a.id) × (s.seen ≡ sighting_of a.shown)
 told_both s a e = (ap (λ (x : _). x.id) e, ap (λ (x : _). x.shown) e)
 
--- a read of a node of the world, as a trace tells it
+-- a read of a node of the world, as a trace has it
 pub record IsReadOf (W : World) (c : Correct) (place : ℕ) (r : Read) (t : ReadTrace) : Type 0 where
   pub on : IsIn c W.nodes
   pub at : slice_get c.reads place ≡ Some r
@@ -248,7 +248,7 @@ module _ (W : World) (world : IsWorld W) (js : List TracedJournal) (puts : (key 
   one_id : (v u : Update) → IsIn v (accepted K) → IsIn u (accepted K) → id_of_update v ≡ id_of_update u → v ≡ u
   one_id v u v_on u_on e = one_of_id [] (accepted K) v u (lawful_is_causal (setting_of W c) K (taken_lawful W world c r.at is.on)) v_on u_on e
 
-  -- what is shown and what the trace tells stand side by side
+  -- what is shown and what the trace has are side by side
   record IsTold (a : Answered) (u : Update) : Type 0 where
     pub shown : Shown
     pub on : IsIn shown r.answer

@@ -1,4 +1,5 @@
--- What a read of a lawful journal shows is right, whatever hashes do: only which writes it lists, and who put them, is in question.
+-- What a read of a lawful journal shows is right even where hashes collide: only which writes it lists, and who put
+-- them, is in question.
 use Rattle.std.proofs.Common.{◌≡◌, ℕ, ◌==◌, Bool, true, false, cond, not, List, length, Option, Some, None, refl, sym, ap, ◌∙◌}
 use Rattle.std.specs.Option.{option_map_or}
 use Rattle.std.specs.Str.{bytes_eq}

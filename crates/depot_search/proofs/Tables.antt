@@ -47,7 +47,7 @@ or_false : (b : Bool) → b ≡ (b || false)
 or_false true = refl
 or_false false = refl
 
--- a row behind one more stop
+-- a row after one more stop
 over_is : {X : Type 0} (f g : X → Bool) (xs : List X) (through : Bool) → cond through (either_of (map f xs) (map g xs)) (map f xs) ≡ map (λ b. f b || (through && g b)) xs
 over_is f g xs true = zip_map (λ a b. a || b) f g xs
 over_is f g xs false = map_same f (λ b. f b || false) xs (λ b on. or_false (f b))
@@ -61,7 +61,7 @@ over_row f k xs x rest a e =
     ∙ ap (λ (t : Bool). cond t (either_of (map (λ b. f a b) xs) (map (λ b. f x b) xs)) (map (λ b. f a b) xs)) through
     ∙ over_is (λ b. f a b) (λ b. f x b) xs (f a x)
 
--- a table behind one more stop is that of the paths that may stop there, too
+-- a table after one more stop is that of the paths that may stop there, too
 over_table : {X : Type 0} (edge : X → X → Bool) (k : ℕ) (xs : List X) (x : X) → drop k xs ≡ x ∷ drop (suc k) xs → over_all (table_of (closed edge (drop (suc k) xs)) xs) k ≡ table_of (closed edge (drop k xs)) xs
 unfolding closed
 over_table edge k xs x e =
@@ -70,7 +70,7 @@ over_table edge k xs x e =
     ∙ map_same (λ a. over (map (λ b. f a b) xs) (get_or (table_of f xs) k []) k) (λ a. map (λ b. f a b || (f a x && f x b)) xs) xs (λ a on. over_row f k xs x (drop (suc k) xs) a e)
     ∙ ap (λ (stops : List _). table_of (closed edge stops) xs) (sym e)
 
--- behind all of them it is the closure
+-- after all of them it is the closure
 pub over_closes : {X : Type 0} (edge : X → X → Bool) (k : ℕ) (xs : List X) → k ≤ length xs → over_each (table_of (closed edge (drop k xs)) xs) k ≡ table_of (closed edge xs) xs
 over_closes edge zero xs within = refl
 over_closes edge (suc k) xs within =
@@ -111,6 +111,6 @@ own_from f xs k (y ∷ ys) e = by_test (f y y) (at_place (λ b. f y b) false k x
   by_test true is rest = rw is (get_place k xs y ys e)
   by_test false is rest = rw is rest
 
--- the first place on the diagonal is that of the first that stands in the relation to itself
+-- the first place on the diagonal is that of the first that is in the relation to itself
 pub own_is : {X : Type 0} (f : X → X → Bool) (xs : List X) → option_and_then (λ at. slice_get xs at) (first_own 0 (table_of f xs)) ≡ find (λ x. f x x) xs
 own_is f xs = own_from f xs 0 xs refl

@@ -13,7 +13,7 @@ pub any_map : {X Y : Type 0} (test : Y → Bool) (f : X → Y) (xs : List X) →
 any_map test f [] = refl
 any_map test f (x ∷ xs) = ap (λ (b : Bool). test (f x) || b) (any_map test f xs)
 
--- one of two lists behind one another passes where one of either does
+-- one of two lists one after another passes where one of either does
 pub any_behind : {X : Type 0} (test : X → Bool) (xs ys : List X) → (list_any test xs || list_any test ys) ≡ list_any test (xs ++ ys)
 any_behind test [] ys = refl
 any_behind test (x ∷ xs) ys = by_test (test x) (any_behind test xs ys) where
@@ -42,7 +42,7 @@ map_push : {X Y : Type 0} (f : X → Y) (xs : List X) (x : X) → map f (xs ++ x
 map_push f [] x = refl
 map_push f (y ∷ ys) x = ap (λ (zs : List _). f y ∷ zs) (map_push f ys x)
 
--- the same of what is seen of the members that are made
+-- the same for what is seen of the members that are made
 pub seen_more : {X Y Z : Type 0} (see : Y → Z) (f : X → Z) (k : ℕ) (xs : List X) (x : X) (ys more : List Y) (y : Y) → k < length xs → x ≡ get_or xs k x → map see ys ≡ map f (take k xs) → more ≡ ys ++ y ∷ [] → see y ≡ f x → map see more ≡ map f (take (k + 1) xs)
 seen_more see f k xs x ys more y low at so_far pushed is =
     map_more f k xs x (map see ys) (map see more) (see y) low at so_far (ap (map see) pushed ∙ map_push see ys y) is

@@ -1,4 +1,4 @@
--- What is tried of a read: rows of the writes of a world, and the table of which is observed before which.
+-- How a read is tested: rows of the writes of a world, and the table of which is observed before which.
 use Rattle.std.specs.Prelude.{ℕ, ◌+◌, List, [], ◌∷◌, map, take, Bool, not, ◌&&◌, ◌||◌, ◌==◌, Option, Some, None, option_map, if◌then◌else◌}
 use Rattle.std.specs.List.{list_any, list_all, zip}
 use Rattle.std.specs.Str.{bytes_eq}
@@ -57,7 +57,7 @@ listed_row us answer held = both_of held (map (is_answered answer) us)
 abbrev pub is_alike : Bool → Bool → Bool
 is_alike a b = if a then b else not b
 
--- two rows tell the same
+-- two rows are equal
 abbrev pub are_alike : List Bool → List Bool → Bool
 are_alike a b = list_all (λ p. is_alike p.0 p.1) (zip a b)
 

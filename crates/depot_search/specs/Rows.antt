@@ -1,5 +1,5 @@
--- Sets of the members of a list as rows, which tell of each member, in their order, whether it is in the set; and tables, which have a
--- row for each member.
+-- Sets of the members of a list as rows, which have for each member, in order, whether it is in the set; and tables,
+-- which have a row for each member.
 use Rattle.std.specs.Prelude.{ℕ, zero, suc, ◌+◌, List, [], ◌∷◌, map, slice_index_or, Bool, false, not, ◌&&◌, ◌||◌, Option, Some, None, if◌then◌else◌}
 use Rattle.std.specs.List.{list_any, zip}
 

@@ -1,4 +1,4 @@
--- The records that texts tell, and the writes that they accept.
+-- The records that texts encode, and the writes that they accept.
 use Rattle.std.specs.Prelude.{◌≡◌, ℕ, List, [], ◌∷◌, ◌++◌, Bool, if◌then◌else◌}
 use Rattle.std.specs.List.{list_any}
 use Rattle.depot_base.specs.declared.record.Record.{Record}
@@ -14,12 +14,12 @@ pub record IsRecordText (text : List ℕ) : Type 0 where
   pub fits : IsRecord told
   pub is : text ≡ text_of_record told
 
--- updates put behind others, each unless one before it has its body
+-- updates put after others, each unless one before it has its body
 abbrev pub with_bodies : List Update → List Update → List Update
 with_bodies known [] = known
 with_bodies known (u ∷ us) = with_bodies (if is_body_in u known then known else known ++ u ∷ []) us
 
--- what the records of journals accept put behind others so
+-- what the records of journals accept put after others so
 abbrev pub with_journals : List Update → List TracedJournal → List Update
 with_journals known [] = known
 with_journals known (j ∷ js) = with_journals (with_bodies known (accepted j.entries)) js

@@ -8,7 +8,7 @@ use depot_update::id_of;
 use std::alloc::Global;
 use std::marker::Model;
 
-/// An update that has a text, as each has that a record accepted.
+/// An update that has a text, as every accepted one has.
 #[derive(Debug, Drop)]
 pub struct Accepted(Update);
 

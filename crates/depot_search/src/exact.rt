@@ -69,7 +69,7 @@ fn observed(
     both(alloc, &seen, &of_key)
 }
 
-/// Of some writes those that are observed before none of them.
+/// Those of some writes that are observed before none of them.
 fn last(alloc: Global, table: &[MemberRow], among: &[bool]) -> Result<MemberRow, AllocError>
     ensures { IfOk result (λ row. row.items ≡ last_row (map (λ r. r.items) table.now) among.now) }
 {
@@ -166,7 +166,7 @@ fn unput(
     Ok(row)
 }
 
-/// Whether one of these answers is so.
+/// Whether one of these answers is of such a write.
 fn is_lacking(
     journals: &[TracedJournal<'_>],
     key: &[u8],
@@ -187,7 +187,7 @@ fn is_alike(a: bool, b: bool) -> bool
     if a { b } else { !b }
 }
 
-/// Whether two rows tell the same.
+/// Whether two rows are equal.
 fn are_alike(a: &[bool], b: &[bool]) -> bool
     ensures { result ≡ are_alike a.now b.now }
 {

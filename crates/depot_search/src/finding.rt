@@ -37,9 +37,9 @@ fn first_found(
     }
 }
 
-/// The first operation that is observed before itself, else the first read that isn't exact, in the world of traces, which stand in
-/// rising order of their nodes. None where there is neither. `Memory` may come in place of each answer: the table has a byte for each
-/// pair of writes, and is made anew for each write.
+/// The first operation that is observed before itself, else the first read that isn't exact, in the world of traces,
+/// which are in rising order of their nodes. None where there is neither. `Memory` may come in place of each answer:
+/// the table has a byte for each pair of writes, and is made anew for each write.
 pub fn search(alloc: Global, traces: &[&Trace]) -> Result<Option<Finding>, Memory>
     requires few { AllByRecursion (λ t. length t.now.reads ≤ MOST_READS) traces.now }
     requires world { (W : World) × IsWorldOf (map (λ t. trace_of t.now) traces.now) W }

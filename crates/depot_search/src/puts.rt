@@ -20,7 +20,7 @@ fn is_put(what: &Wrote) -> bool
     }
 }
 
-/// Of the values that go with the writes that are no deletions, in their order, the one of the write of a key.
+/// The value of the write of a key. The values go with the writes that are no deletions, in their order.
 fn value_for<'a>(key: &[u8], writes: &[Write], values: &'a [Value]) -> Option<&'a Value>
     ensures { option_copied result ≡ value_for key.now writes.now values.now }
 {
@@ -38,7 +38,7 @@ fn value_for<'a>(key: &[u8], writes: &[Write], values: &'a [Value]) -> Option<&'
     None
 }
 
-/// The values that are left behind a write.
+/// The values after that of a write, if it has one.
 fn behind<'a>(what: &Wrote, values: &'a [Value]) -> &'a [Value]
     ensures { result.now ≡ if is_put what.now then drop 1 values.now else values.now }
 {

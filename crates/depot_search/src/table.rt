@@ -48,7 +48,7 @@ fn children(alloc: Global, id: &Hash32, writes: &[Accepted]) -> Result<MemberRow
         .collect(alloc)
 }
 
-/// Of each write, the writes of which it is a parent.
+/// For each write, the writes whose parent it is.
 pub fn parent_table(alloc: Global, writes: &[Accepted]) -> Result<Vec<MemberRow>, Memory>
     ensures { IfOk result (λ table. map (λ r. r.items) table.items ≡ map (λ t. map (λ u. is_parent t u) writes.now) writes.now) }
 {
@@ -60,7 +60,7 @@ pub fn parent_table(alloc: Global, writes: &[Accepted]) -> Result<Vec<MemberRow>
     Ok(table)
 }
 
-/// A row, and where the write of this place is in it, what is in that write's row.
+/// A row; where the write of this place is in it, joined with that write's row, `by`.
 fn over_one(alloc: Global, row: &[bool], by: &[bool], at: usize) -> Result<MemberRow, AllocError>
     ensures { IfOk result (λ made. made.items ≡ over row.now by.now at) }
 {
@@ -71,7 +71,7 @@ fn over_one(alloc: Global, row: &[bool], by: &[bool], at: usize) -> Result<Membe
     }
 }
 
-/// Each row so, in a new table.
+/// Each row joined so, in a new table.
 fn over_write(alloc: Global, table: &[MemberRow], at: usize) -> Result<Vec<MemberRow>, Memory>
     requires { at < length table.now }
     ensures { IfOk result (λ made. map (λ r. r.items) made.items ≡ over_all (map (λ r. r.items) table.now) at) }
@@ -84,7 +84,7 @@ fn over_write(alloc: Global, table: &[MemberRow], at: usize) -> Result<Vec<Membe
     Ok(made)
 }
 
-/// Takes in one write after the other as a stop, from the last to the first.
+/// Adds one write after another as an intermediate stop, from the last to the first.
 pub fn close(alloc: Global, mut table: Vec<MemberRow>) -> Result<Vec<MemberRow>, Memory>
     ensures { IfOk result (λ made. map (λ r. r.items) made.items ≡ over_each (map (λ r. r.items) table.items) (length table.items)) }
 {

@@ -21,7 +21,7 @@ fn is_known(writes: &[Accepted], update: &Update) -> bool
         .any(|write| is_one_body(write.update(), update))
 }
 
-/// Puts what a record accepted behind others, unless one of them has its body.
+/// Appends what a record accepted, unless one of the others has its body.
 fn put_accepted(writes: &mut Vec<Accepted>, entry: &JournalEntry) -> Result<(), Memory>
     ensures { OnOk result (writes.new.items ≡ with_bodies writes.old.items (accepted_by entry.now)) }
 {
@@ -35,7 +35,7 @@ fn put_accepted(writes: &mut Vec<Accepted>, entry: &JournalEntry) -> Result<(), 
     Ok(())
 }
 
-/// The same of records, one after the other.
+/// The same for records, one after another.
 fn put_all(writes: &mut Vec<Accepted>, entries: &[JournalEntry]) -> Result<(), Memory>
     ensures { OnOk result (writes.new.items ≡ with_bodies writes.old.items (accepted entries.now)) }
 {
@@ -45,7 +45,7 @@ fn put_all(writes: &mut Vec<Accepted>, entries: &[JournalEntry]) -> Result<(), M
     Ok(())
 }
 
-/// What the records of journals accepted, each body once, where it stands first.
+/// What the records of journals accepted, each body once, where it comes first.
 pub fn writes_of(alloc: Global, journals: &[TracedJournal<'_>]) -> Result<Vec<Accepted>, Memory>
     ensures { IfOk result (λ made. made.items ≡ with_journals [] journals.now) }
 {

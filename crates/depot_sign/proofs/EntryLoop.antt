@@ -1,4 +1,4 @@
--- Reading the entries of a roster one after the other, as a loop does.
+-- Reading the entries of a roster one after another, as a loop does.
 use Rattle.std.proofs.Common.{◌≡◌, ℕ, suc, ◌-◌, ◌+◌, ◌<◌, List, [], ◌∷◌, ◌++◌, Option, Some, None, Result, Ok, Err, refl, sym, ◌∙◌, arith}
 use Rattle.depot_base.specs.Cursor.{Cursor}
 use Rattle.depot_base.specs.Reading.{Reads}
@@ -19,7 +19,7 @@ Read = Result (List RosterEntry × Cursor) RosterStop
 abbrev stopping : RosterStop → Result (List RosterEntry) RosterStop
 stopping s = Err s
 
--- an entry may stand there, or why it may not
+-- an entry may be there, or why it may not
 abbrev pub IsPlaced : List RosterEntry → RosterEntry → ℕ → Option RosterStop → Type 0
 IsPlaced front e at o = (next : Read) → entry_placed (last_of front) e at next ≡ unless_stopped o next
 

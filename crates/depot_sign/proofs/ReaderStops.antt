@@ -1,4 +1,4 @@
--- Where the reader of a roster stops for a count over 256, or for a node that stands twice.
+-- Where the reader of a roster stops for a count over 256, or for a node that occurs twice.
 use Rattle.std.proofs.Common.{◌≡◌, ℕ, zero, suc, ◌+◌, ◌<◌, ◌≤◌, ◌⊎◌, Bool, true, false, cond, eqb, ltb, List, [], ◌∷◌, ◌++◌, length, Option, Some, None, Result, Ok, Err, refl, sym, ap, subst, ◌∙◌, append_assoc, arith, inl, inr}
 use Rattle.std.specs.Int.{w16}
 use Rattle.std.specs.List.{flat_map}
@@ -47,7 +47,7 @@ byte_text : (n v : ℕ) → n < 256 → (constant n).fits v → (constant n).tex
 unfolding number numeral
 byte_text n v small fits = ap (λ (byte : ℕ). byte ∷ []) (omega (arith, fits.0, fits.1))
 
--- The version and the kind stand in front, and the reader stops behind them.
+-- The version and the kind come first, and the reader stops after them.
 pub record Headed (text : List ℕ) (s : RosterStop) : Type 0 where
   pub c : Cursor
   pub parts : text ≡ 1 ∷ 4 ∷ c.rest
@@ -72,7 +72,7 @@ headed text s bytes other e =
       | inr p ↦ absurd (end_is _ _ _ s other p.2)
     ]
 
--- and where it stops behind them, it stops
+-- and where it stops after them, it stops
 pub stops_behind : (bytes : List ℕ) (s : RosterStop) → after_part (count_or_stop (cursor 2 bytes)) (λ count. entries_or_stop count.0 [] count.1) ≡ Err s → whole_or_stop (cursor 0 (1 ∷ 4 ∷ bytes)) ≡ Err s
 unfolding roster_or_stop number numeral
 stops_behind bytes s e =
@@ -93,7 +93,7 @@ checked_ok true none n at x y e = absurd cc
 checked_ok false true n at x y e = absurd cc
 checked_ok false false n at x y e = (refl, cc)
 
--- A count over 256 stands in front.
+-- A count over 256 comes first.
 pub record Great (bytes : List ℕ) (s : RosterStop) : Type 0 where
   pub count : ℕ
   pub rest : List ℕ
@@ -110,7 +110,7 @@ great_is c s bytes other e =
     let g = checked_is (ltb 256 a.0.0) (eqb a.0.0 0) a.0.0 c.at a.0 s other a.2 in
     record { count = a.0.0; rest = a.0.1.rest; parts = t.parts; fits = omega (arith, t.fits.1); great = ltb-true 256 a.0.0 g.0; is = g.1 }
 
--- A good count stands in front.
+-- A good count comes first.
 pub record Counted (c : Cursor) (count : ℕ) (d : Cursor) : Type 0 where
   pub parts : c.rest ≡ numeral w16 count ++ d.rest
   pub limit : count ≤ 256
@@ -155,7 +155,7 @@ placed_rises (Some before) e at next rises =
     let below : before.node < e.node = ltb-true before.node e.node rises in
     rw (ne_eqb before.node e.node (λ same. omega arith), lt-ltb before.node e.node below) refl
 
--- Good entries stand in front, and behind them one that names the node of the last of them.
+-- Good entries come first, and after them one that names the node of the last of them.
 pub record Repeats (n : ℕ) (front : List RosterEntry) (bytes : List ℕ) (s : RosterStop) : Type 0 where
   pub more : List RosterEntry
   pub before : RosterEntry

@@ -1,4 +1,4 @@
--- The reader stops for a cause exactly where it stands in the text, and no two causes stand in one text.
+-- The reader stops for a cause exactly where it is in the text, and no two causes are in one text.
 use Rattle.std.proofs.Common.{◌≡◌, ℕ, ◌+◌, ◌<◌, ◌≤◌, List, [], ◌∷◌, ◌++◌, length, Option, Some, Result, Ok, Err, refl, sym, ap, subst, ◌∙◌, arith, inl, inr}
 use Rattle.std.specs.Int.{w16}
 use Rattle.std.specs.List.{flat_map}

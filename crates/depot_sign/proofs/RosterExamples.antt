@@ -14,7 +14,7 @@ use Rattle.depot_sign.proofs.RosterCauses.{read_in_one_way}
 
 -- ---- too many nodes
 
--- 257 are, before any of them stands there
+-- 257 are, before any of them is there
 too_many : HasGreatCount (1 ∷ 4 ∷ 1 ∷ 1 ∷ []) 257
 unfolding numeral
 too_many = record { rest = []; parts = refl; fits = omega arith; great = omega arith }
@@ -23,7 +23,7 @@ too_many = record { rest = []; parts = refl; fits = omega arith; great = omega a
 not_too_many : (text : List ℕ) → HasGreatCount text 256 → ⊥
 not_too_many text c = omega (arith, c.great)
 
--- ---- a node that stands twice
+-- ---- a node that occurs twice
 
 member_fits : roster_entry.fits (member 2)
 unfolding roster_entry number bytes_of

@@ -21,7 +21,7 @@ use Rattle.sha2.specs.Sha256.{sha256}
 read_whole : (text : List ℕ) (r : List RosterEntry) → whole_or_stop (cursor 0 text) ≡ Ok r → whole roster (cursor 0 text) ≡ Ok r
 read_whole text r e = subst (λ (x : Result (List RosterEntry) RosterStop). Agrees x (whole roster (cursor 0 text))) e (agree (cursor 0 text))
 
--- a first fault stands within the longest text
+-- a first fault is within the longest text
 pub fault_early : (text : List ℕ) (at : ℕ) → FirstFault roster text at → at ≤ 8964
 fault_early text at fault = whole_early roster 8964 roster_lawful text at fault
 
@@ -91,7 +91,7 @@ stop_is_early text (stop.At at) bytes h = let early = fault_early text at (wrong
 stop_is_early text (stop.TooMany count) bytes h = tt
 stop_is_early text (stop.Twice node) bytes h = tt
 
--- and the parser tells it
+-- and the parser reports it
 pub parses_stop : (text : List ℕ) (s : RosterStop) → IsBytes text → GivesOrStops (stopping s) (whole_or_stop (cursor 0 text)) → ParsesRoster text (refused (error_of s))
 parses_stop text stop.Memory bytes h = parses_memory text
 parses_stop text (stop.At at) bytes h = parses_error text (error.IllFormed at) (wrong_at text at bytes h)

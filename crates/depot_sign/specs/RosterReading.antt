@@ -18,14 +18,14 @@ abbrev pub stop_of : Fault → RosterStop
 stop_of fault.Memory = stop.Memory
 stop_of (fault.At at) = stop.At at
 
--- what the caller is told of a stop
+-- what the caller gets of a stop
 abbrev pub error_of : RosterStop → RosterError
 error_of stop.Memory = error.Memory
 error_of (stop.At at) = error.IllFormed at
 error_of (stop.TooMany count) = error.TooMany count
 error_of (stop.Twice node) = error.TwiceNode node
 
--- the offset of a stop is early enough to be told as a u32
+-- the offset of a stop is early enough to be reported as a u32
 abbrev pub IsEarlyStop : RosterStop → Type 0
 IsEarlyStop stop.Memory = Unit {0}
 IsEarlyStop (stop.At at) = at < 2 ^ 32
@@ -42,14 +42,14 @@ abbrev pub after_part : {A B : Type 0} → Result A RosterStop → (A → Result
 after_part (Ok x) f = f x
 after_part (Err s) f = Err s
 
--- a count from 1 to 256; a greater one is told
+-- a count from 1 to 256; a greater one is reported
 abbrev pub checked_count : ℕ → (ℕ × Cursor) → Result (ℕ × Cursor) RosterStop
 checked_count at x = if nat_lt MOST_NODES x.0 then Err (stop.TooMany x.0) else if x.0 == 0 then Err (stop.At at) else Ok x
 
 unfoldable pub count_or_stop : Cursor → Result (ℕ × Cursor) RosterStop
 count_or_stop c = after_field ((number w16 0 65535).read c) λ x. checked_count c.at x
 
--- an entry rises above the one before it; one that names its node is told
+-- an entry rises above the one before it; one that names its node is reported
 abbrev pub entry_placed : {B : Type 0} → Option RosterEntry → RosterEntry → ℕ → Result B RosterStop → Result B RosterStop
 entry_placed None e at next = next
 entry_placed (Some before) e at next = if before.node == e.node then Err (stop.Twice e.node) else if nat_lt before.node e.node then next else Err (stop.At at)
@@ -59,7 +59,7 @@ abbrev pub unless_stopped : {B : Type 0} → Option RosterStop → Result B Rost
 unless_stopped None next = next
 unless_stopped (Some s) next = Err s
 
--- n more entries behind front
+-- n more entries after front
 abbrev pub entries_or_stop : ℕ → List RosterEntry → Cursor → Result (List RosterEntry × Cursor) RosterStop
 entries_or_stop zero front c = Ok (front, c)
 entries_or_stop (suc n) front c = after_field (roster_entry.read c) λ x. entry_placed (last_of front) x.0 c.at (entries_or_stop n (front ++ x.0 ∷ []) x.1)
@@ -84,7 +84,7 @@ ReadsOrStops (Err (stop.At at)) after read = read ≡ Err (stop.At at)
 ReadsOrStops (Err (stop.TooMany count)) after read = read ≡ Err (stop.TooMany count)
 ReadsOrStops (Err (stop.Twice node)) after read = read ≡ Err (stop.Twice node)
 
--- the same of all the bytes
+-- the same for all the bytes
 abbrev pub GivesOrStops : {V : Type 0} → Result V RosterStop → Result V RosterStop → Type 0
 GivesOrStops (Ok v) read = read ≡ Ok v
 GivesOrStops (Err stop.Memory) read = Unit {0}

@@ -8,7 +8,7 @@ use depot_model::{Scheme, Signer, hash_of};
 use sha2::{Digest, Sha256};
 use std::alloc::Global;
 
-/// What a text that is signed begins with.
+/// The first byte of each text that is signed.
 const TAG: u8 = 6;
 
 /// A scheme whose signatures **anyone can forge**: a signature is a digest of the public key, the leaf and the body. Only
@@ -25,7 +25,7 @@ impl Scheme for PlainScheme {
     }
 }
 
-/// Who signs by the plain scheme. **Anyone can forge its signatures**: only replays and tests use it.
+/// A signer of the plain scheme. **Anyone can forge its signatures**: only replays and tests use it.
 #[derive(Debug, Drop)]
 pub struct PlainSigner {
     alloc: Global,
@@ -78,7 +78,7 @@ fn is_leaf(key: &PublicKey, seq: u32) -> bool
     key.height >= 32 || seq >> key.height == 0
 }
 
-/// The signature under the key by a leaf of a body.
+/// The signature of a body by a leaf under the key.
 #[tactic(auto, unfolding(depot_model::specs::Plain::plain_signature, depot_base::specs::Cursor::numeral))]
 fn digest_of(key: &PublicKey, seq: u32, body: &[u8]) -> [u8; 32]
     ensures { result ≡ plain_signature key.now.root seq body.now }

@@ -7,8 +7,8 @@ use crate::Roster;
 use depot_base::Signed;
 use depot_model::Scheme;
 
-/// Whether the signature of a statement's body verifies under the key that the roster has for its writer. It verifies
-/// once, and takes no memory.
+/// Whether the signature of a statement's body verifies under the roster's key for its writer. It verifies once, and
+/// takes no memory.
 #[tactic(auto, unfolding(depot_model::specs::Roster::is_signed))]
 pub fn verify_signed<S: Scheme>(roster: &Roster, scheme: &S, signed: &Signed) -> bool
     requires { IsTrue (has_node roster.now (writer_of signed.now.statement)) }

@@ -1,4 +1,4 @@
--- A head and a body that were read one after the other.
+-- A head and a body that were read one after another.
 use Rattle.std.proofs.Common.{◌≡◌, ◌<◌, ◌≤◌, ℕ, List, ◌++◌, append_assoc, length, Bool, true, Err, refl, sym, ap, subst, ◌∙◌, arith, length-append, inr}
 use Rattle.std.specs.Int.{w32, from_be_bytes}
 use Rattle.depot_source.specs.Pieces.{GivesMore}

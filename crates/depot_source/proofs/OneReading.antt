@@ -4,7 +4,7 @@ use Rattle.std.specs.Int.{w32, from_be_bytes}
 use Rattle.std.specs.List.{flat_map}
 use Rattle.depot_source.specs.Messages.{AreMessages, IsMessage, Message, text_of_message}
 
--- what stands in front of as many bytes is the same
+-- what is before as many bytes is the same
 front_is_one : (a b r s : List ℕ) → length a ≡ length b → a ++ r ≡ b ++ s → (a ≡ b) × (r ≡ s)
 front_is_one [] [] r s long is = (refl, is)
 front_is_one [] (y ∷ b) r s long is = absurd cc

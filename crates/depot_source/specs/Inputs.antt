@@ -2,7 +2,8 @@
 use Rattle.std.specs.Prelude.{ℕ, List, Bool}
 use Rattle.depot_source.specs.declared.source.Source as source_of
 
--- what it gave, what it gives yet where it tells that, whether its last call found its end, and its count of faults
+-- what it gave, what it is still to give where that is visible, whether its last call found its end, and its count of
+-- faults
 pub record Inputs : Type 0 where
   pub tells : Bool
   pub before : List ℕ

@@ -6,7 +6,7 @@ use Rattle.depot_source.specs.declared.hearing.HearError.{HearError}
 use Rattle.depot_source.specs.declared.hearing.HearError.TheVariants as unheard
 use Rattle.depot_source.specs.declared.hearing.TheConstants.{MOST_MESSAGE}
 
--- four bytes, and those behind them
+-- four bytes, and those after them
 pub record Message : Type 0 where
   pub head : List ℕ
   pub body : List ℕ
@@ -29,15 +29,15 @@ abbrev pub AreMessages : List Message → Type 0
 AreMessages [] = Unit {0}
 AreMessages (m ∷ messages) = IsMessage m × AreMessages messages
 
--- The bytes are less than a whole message: a part of its head, or its head and less than it says.
+-- The bytes are less than a whole message: a part of its head, or its head and fewer bytes than it gives.
 abbrev pub IsPartOfMessage : List ℕ → Type 0
 IsPartOfMessage text = (length text < 4) ⊎ ((head : List ℕ) × (part : List ℕ) × ((text ≡ head ++ part) × ((length head ≡ 4) × (length part < from_be_bytes w32 head))))
 
--- The bytes are no message: their head says a length that none has, or they end within one.
+-- The bytes are no message: their head gives a length that none has, or they end within one.
 abbrev pub IsNoMessage : Bool → List ℕ → Type 0
 IsNoMessage over text = ((length text ≡ 4) × (IsBodyLength (from_be_bytes w32 text) → ⊥)) ⊎ ((over ≡ true) × ((1 ≤ length text) × IsPartOfMessage text))
 
--- less than so many bytes were given
+-- less than this many bytes were given
 abbrev pub GivesFewer : List ℕ → List ℕ → ℕ → Type 0
 GivesFewer before after count = (part : List ℕ) × ((after ≡ before ++ part) × (length part < count))
 
@@ -48,7 +48,8 @@ pub record HasHeard (before after body : List ℕ) : Type 0 where
   pub same : message.body ≡ body
   pub given : after ≡ before ++ text_of_message message
 
--- What is heard next: a message; the end; what is no message. Where the source failed less than a message was given, and without memory anything.
+-- What is read next: a message; the end; or bytes that are no message. Where the source failed less than a message was
+-- given, and where memory ran out anything.
 abbrev pub HearsMessage : List ℕ → List ℕ → Bool → Result (Option (List ℕ)) HearError → Type 0
 HearsMessage before after over (Ok (Some body)) = HasHeard before after body
 HearsMessage before after over (Ok None) = (after ≡ before) × (over ≡ true)

@@ -11,7 +11,7 @@ abbrev pub has_no_bytes : List ℕ → Bool
 has_no_bytes [] = true
 has_no_bytes (b ∷ bytes) = false
 
--- A piece was given, no longer than what was asked for, and stands behind what was there. It has no bytes exactly at the end.
+-- A piece was given, no longer than what was asked for, and follows what was there. It has no bytes exactly at the end.
 pub record HasPiece (before after old new : List ℕ) (most : ℕ) (over : Bool) : Type 0 where
   pub piece : List ℕ
   pub given : after ≡ before ++ piece
@@ -19,7 +19,7 @@ pub record HasPiece (before after old new : List ℕ) (most : ℕ) (over : Bool)
   pub short : length piece ≤ most
   pub ends : over ≡ has_no_bytes piece
 
--- Of an error: nothing was given where the source failed; without memory what was given may be lost.
+-- On an error: nothing was given where the source failed; where memory ran out, what was given may be lost.
 abbrev pub ReadsPiece : List ℕ → List ℕ → List ℕ → List ℕ → ℕ → Bool → Result (Unit {0}) OutError → Type 0
 ReadsPiece before after old new most over (Ok _) = HasPiece before after old new most over
 ReadsPiece before after old new most over (Err error.Failed) = (after ≡ before) × (new ≡ old)

@@ -1,4 +1,4 @@
-//! Messages that a source gives.
+//! Reading messages from a source.
 ghost use Rattle.std.specs.Prelude.{◌≡◌, ◌<◌, ◌≤◌, ◌++◌, true, length, IsTrue, IfOk, IsErrOf};
 ghost use Rattle.std.specs.Int.{w32, from_be_bytes};
 ghost use Rattle.depot_base.specs.Faults.{HasCause};
@@ -10,22 +10,22 @@ use depot_base::Bytes;
 use depot_outside::OutError;
 use std::alloc::Global;
 
-/// The most bytes of a message behind its head; the least is 1. They are twice those of a bundle's updates and values, so that a bundle has room with
-/// the proofs and vouchers in front of these.
+/// The most bytes of a message after its head; the least is 1. That is twice the bytes of a bundle's updates and
+/// values, so that a bundle has room for the proofs and vouchers before these.
 pub const MOST_MESSAGE: u32 = 134_217_728;
 
-/// Why no message is heard.
+/// Why no message was read.
 #[derive(Clone, Copy, Debug, PartialEq, Eq)]
 pub enum HearError {
-    /// No memory was found.
+    /// Memory ran out.
     Memory,
     /// The source failed. Its count of faults rose in the call.
     Failed,
-    /// The bytes that come are no message.
+    /// The next bytes are no message.
     Bad,
 }
 
-/// So many bytes, or those that come before the end.
+/// Reads `count` bytes, or those that come before the end.
 fn read_exactly<I: Source>(alloc: Global, input: &mut I, count: usize) -> Result<Bytes, OutError>
     ensures read { IfOk result (λ bytes. I.given input.new ≡ I.given input.old ++ bytes) }
     ensures count { IfOk result (λ bytes. length bytes ≤ count) }
@@ -50,7 +50,7 @@ fn read_exactly<I: Source>(alloc: Global, input: &mut I, count: usize) -> Result
     Ok(bytes)
 }
 
-/// The number that four bytes say.
+/// The number that four bytes encode.
 fn said(head: &[u8]) -> u32
     requires { length head.now ≡ 4 }
     ensures { result ≡ from_be_bytes w32 head.now }
@@ -58,7 +58,7 @@ fn said(head: &[u8]) -> u32
     u32::from_be_bytes([head[0], head[1], head[2], head[3]])
 }
 
-/// A body of so many bytes.
+/// Reads a body of `count` bytes.
 fn hear_body<I: Source>(alloc: Global, input: &mut I, count: usize) -> Result<Bytes, HearError>
     ensures body { IfOk result (λ body. (I.given input.new ≡ I.given input.old ++ body) × (length body ≡ count)) }
     ensures bad { IsErrOf result HearError.Bad → (I.over input.new ≡ true) × GivesFewer (I.given input.old) (I.given input.new) count }
@@ -80,9 +80,10 @@ fn hear_body<I: Source>(alloc: Global, input: &mut I, count: usize) -> Result<By
     }
 }
 
-/// What comes next: the body of a message, or None at the end.
+/// Reads the next message: its body, or None at the end.
 ///
-/// `Bad` comes exactly where the next bytes say a length that no body has, or end within a message; no byte behind them is read.
+/// `Bad` comes exactly where the next bytes give a length that no body has, or end within a message; no byte after them
+/// is read.
 pub fn hear<I: Source>(alloc: Global, input: &mut I) -> Result<Option<Bytes>, HearError>
     ensures hears { HearsMessage (I.given input.old) (I.given input.new) (I.over input.new) result }
     ensures whole { IsTrue (I.tells input.old) → I.given input.new ++ I.rest input.new ≡ I.given input.old ++ I.rest input.old }

@@ -1,10 +1,11 @@
 //! Where a run reads: a source of bytes, and the messages that come over it.
 //!
-//! A `Source` gives bytes piece by piece. What it gave is told of each source, also of standard input: it is what its calls gave. What is to come is
-//! told by the fake in memory alone. A source has a count of its faults, which contracts alone see, as what else stands outside a run has one.
+//! A `Source` gives bytes piece by piece. Contracts see what any source gave, standard input too: it is what its calls
+//! returned. What is still to come they see of the fake in memory alone. A source has a count of its faults, which
+//! contracts alone see, like everything outside a run.
 //!
-//! A message is four bytes, which say how many follow, and those. `hear` gives the next one. A head that says a length that no message has, and an end
-//! within a message, are answered as such; no byte behind them is read.
+//! A message is four bytes, a length, and then that many bytes. `hear` reads the next one. It reports a length that no
+//! message has, and an end within a message, and reads no byte after these.
 #![tactic(auto)]
 
 mod hearing;

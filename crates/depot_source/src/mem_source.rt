@@ -19,8 +19,8 @@ pub struct MemSource {
 }
 
 impl MemSource {
-    /// A source of these bytes. Its calls give at most these sizes, one after the other, and at least a byte; those behind them give what is asked
-    /// for. Of its calls, counted from 1, those of these numbers fail, and give nothing.
+    /// A source of these bytes. Its calls give at most these sizes, in turn, and at least a byte; later calls give what
+    /// is asked for. Of its calls, counted from 1, those with these numbers fail and give nothing.
     pub fn new(bytes: Bytes, sizes: Items, fails: Items) -> MemSource
         ensures tells { IsTrue (⟦<MemSource as Source>⟧.tells result) }
         ensures given { ⟦<MemSource as Source>⟧.given result ≡ [] }

@@ -24,7 +24,7 @@ fn read_some<F: Read>(from: &mut F, into: &mut [u8]) -> Result<usize, Failed>
     Err(Failed)
 }
 
-/// Standard input. It tells what it gave, and nothing of what is to come.
+/// Standard input. Contracts see what it gave, and nothing of what is to come.
 #[derive(Drop)]
 pub struct RealSource<F> {
     from: F,

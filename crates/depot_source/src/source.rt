@@ -8,13 +8,13 @@ use depot_outside::OutError;
 
 /// Bytes that come, piece by piece.
 pub trait Source {
-    /// Whether it tells what is to come. Where it doesn't, `rest` says nothing.
+    /// Whether contracts see what is to come. Where they don't, `rest` says nothing.
     ghost tells: { Self → Bool };
 
-    /// What it gave so far. Each source tells that: it is what its calls gave.
+    /// What it gave so far. That is visible of each source: it is what its calls returned.
     ghost given: { Self → List ℕ };
 
-    /// What it gives yet.
+    /// What it is still to give.
     ghost rest: { Self → List ℕ };
 
     /// Whether its last call gave nothing: its end was found.
@@ -23,8 +23,8 @@ pub trait Source {
     /// How often it has failed.
     ghost faults: { Self → ℕ };
 
-    /// Adds the next piece at the end, of at most so many bytes. It adds nothing exactly at the end of what there is. A piece that came where no
-    /// memory was found for it is lost.
+    /// Appends the next piece, of at most `most` bytes. It appends nothing exactly at the end of the source. A piece is
+    /// lost where it came and memory for it ran out.
     fn read(&mut self, most: usize, into: &mut Bytes) -> Result<(), OutError>
         requires most { 1 ≤ most }
         ensures reads { ReadsPiece (given self.old) (given self.new) into.old into.new most (over self.new) result }

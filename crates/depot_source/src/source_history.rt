@@ -7,7 +7,7 @@ use std::marker::Model;
 
 /// The bytes that a source gave, in their order, and how often it failed. Contracts alone see both, so they take no bytes and have no end.
 ///
-/// No memory holds them: what keeps them are the contracts of the functions here, which are proved by hand.
+/// No memory holds them: they are kept by the contracts of the functions here, which are proved by hand.
 #[derive(Drop)]
 pub struct SourceHistory {
     pub ghost given: { List ℕ },

@@ -1,4 +1,4 @@
--- A trace that is seen and told again is the same, so the text of what is seen of it is its own.
+-- A trace that is seen and written again is the same, so the text of what is seen of it is its own.
 use Rattle.std.proofs.Common.{◌≡◌, List, [], ◌∷◌, map, refl, sym, ap, ◌∙◌}
 use Rattle.depot_model.specs.Traces as traces
 use Rattle.depot_traces.specs.SeenTraces.{sighting_of, answered_of, read_of, trace_of}

@@ -37,7 +37,7 @@ record_piece_lawful =
 
 -- ---- reads
 
--- behind a mark, a write has this id, and the mark is its own
+-- after a mark, a write has this id, and the mark is its own
 abbrev behind : Bool → Bool → List ℕ → Format Answered
 behind none gone id =
     choose none (made_of_fields (record { id = id; shown = NotHeld }))

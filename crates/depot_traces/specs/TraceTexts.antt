@@ -11,13 +11,13 @@ use Rattle.depot_traces.specs.declared.trace.Shown.{Shown}
 use Rattle.depot_traces.specs.declared.trace.Shown.TheVariants.{NotHeld, Held, Gone}
 use Rattle.depot_traces.specs.declared.trace.Trace.{Trace}
 
--- any item may stand behind any
+-- any item may follow any
 abbrev pub any_follows : {E : Type 0} → Option E → E → Bool
 any_follows before e = true
 
 -- ---- records
 
--- the text of a record, whatever it is, behind its length
+-- the text of a record, whatever it is, after its length
 unfoldable pub record_piece : Format (List ℕ)
 record_piece =
     field (number w32 0 4294967295) (λ text. length text) λ size.
@@ -38,7 +38,7 @@ shown_bytes NotHeld = []
 shown_bytes (Held value) = value
 shown_bytes Gone = []
 
--- what follows the mark of a write of this id: behind 1 the value's length and the value, and nothing behind 0 and 2
+-- what follows the mark of a write of this id: after 1 the value's length and the value, and nothing after 0 and 2
 unfoldable pub behind_mark : List ℕ → ℕ → Format Answered
 behind_mark id mark =
     choose (mark == 0) (made_of_fields (record { id = id; shown = NotHeld }))
@@ -54,7 +54,7 @@ answered_text =
     field (number w8 0 2) (λ a. shown_mark a.shown) λ mark.
     behind_mark id mark
 
--- a read: the number of records then, the key behind its length, and the writes that it listed behind their number
+-- a read: the number of records then, the key after its length, and the writes that it listed after their number
 unfoldable pub read_text : Format ReadTrace
 read_text =
     field (number w32 0 4294967295) (λ r. r.length) λ records.
@@ -66,7 +66,7 @@ read_text =
 
 -- ---- traces
 
--- version 1, kind 5, the node, and then its record texts and its reads, each behind their number
+-- version 1, kind 5, the node, and then its record texts and its reads, each after their number
 unfoldable pub trace_text : Format Trace
 trace_text =
     field (constant 1) (λ t. 1) λ version.

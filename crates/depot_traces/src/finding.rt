@@ -3,7 +3,7 @@
 use depot_base::NodeId;
 use depot_model::RecordFault;
 
-/// An operation by its node and its place, from 0.
+/// An operation, by its node and its place, from 0.
 #[derive(Clone, Copy, Debug, PartialEq, Eq)]
 pub enum Op {
     /// A write: the first node, in rising order, that has it, and the place of its record there.
@@ -12,18 +12,19 @@ pub enum Op {
     Read { node: NodeId, place: u32 },
 }
 
-/// What an audit of traces finds: that they keep the headline, or the first part of it that fails. Places are from 0.
+/// What an audit of traces finds: that they keep the headline, which is fork-join causality, or the first part of it
+/// that fails. Places are from 0.
 #[derive(Clone, Copy, Debug, PartialEq, Eq)]
 pub enum Finding {
     /// The journals and reads are a world in which the headline holds, and no conviction names a node.
     Yes,
-    /// A node's records aren't lawful: the first place, and the fault there.
+    /// A node's records aren't lawful: the first bad place, and the fault there.
     Unlawful {
         node: NodeId,
         place: u32,
         fault: RecordFault,
     },
-    /// A read isn't what the node's journal then showed: the first such.
+    /// A read isn't what the node's journal showed at the time: the first such.
     Answer {
         node: NodeId,
         place: u32,

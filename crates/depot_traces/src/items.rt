@@ -1,4 +1,4 @@
-//! Lists of items of which any may stand behind any.
+//! Lists of items that may follow one another in any order.
 ghost use Rattle.std.specs.Prelude.{◌≡◌, ◌++◌, ℕ, List, Result, [], OnOk};
 ghost use Rattle.std.specs.List.{flat_map, AllByRecursion};
 ghost use Rattle.depot_base.specs.Cursor.{Cursor};
@@ -10,7 +10,7 @@ use depot_base::fault::Fault;
 use depot_base::{Bytes, Fields, Memory};
 use std::alloc::Global;
 
-/// What a list of a trace's text has as an item.
+/// An item of a list in a trace's text.
 pub trait Item: Drop {
     /// Whether it has a text.
     ghost fits: { Self → Type 0 };
@@ -18,21 +18,21 @@ pub trait Item: Drop {
     /// That text.
     ghost text: { Self → List ℕ };
 
-    /// What a reader takes from the front.
+    /// What a reader gets from a cursor: the item and the cursor after it, or the offset of the fault.
     ghost read: { Cursor → Result (Self × Cursor) ℕ };
 
-    /// Takes an item from the front, whose bytes it copies.
+    /// Reads the next item, and copies its bytes.
     fn read(alloc: Global, fields: &mut Fields<'_>) -> Result<Self, Fault>
         ensures stays { GoesOn fields.old fields.new }
         ensures reads { Reads result fields.new (read fields.old) };
 
-    /// Writes its text at the end. After Memory a front of it may stand there.
+    /// Appends its text. On `Memory` a prefix of it may be there.
     fn put(&self, out: &mut Bytes) -> Result<(), Memory>
         requires { fits self.now }
         ensures { OnOk result (out.new ≡ out.old ++ text self.now) };
 }
 
-/// So many items.
+/// Reads `count` items.
 pub fn items_in<I: Item>(
     alloc: Global,
     fields: &mut Fields<'_>,
@@ -49,7 +49,7 @@ pub fn items_in<I: Item>(
     Ok(list)
 }
 
-/// Writes the texts of items at the end, in their order. After Memory a front of them may stand there.
+/// Appends the texts of the items, in order. On `Memory` a prefix of them may be there.
 pub fn put_items<I: Item>(out: &mut Bytes, list: &[I]) -> Result<(), Memory>
     requires { AllByRecursion I.fits list.now }
     ensures { OnOk result (out.new ≡ out.old ++ flat_map I.text list.now) }

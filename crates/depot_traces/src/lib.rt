@@ -1,10 +1,12 @@
 //! Traces: what nodes hand in for an audit, and what an audit finds.
 //!
-//! A `Trace` is a node's record texts and its reads, each with the number of records that it saw; it has one text, by which it travels.
-//! A `Finding` says that the traces of many nodes keep the headline, or names the first part of it that fails, with the place.
+//! A `Trace` is a node's record texts and its reads, each with the number of records that it saw; it has one text,
+//! which is how it travels. A `Finding` says that the traces of many nodes keep the headline, or names the first part
+//! of it that fails, with the place.
 //!
-//! Nothing is judged here: whether the records of a trace are lawful and its reads right isn't asked. The definitions stand in
-//! `depot_model`; `specs/SeenTraces.antt` says how they see these types, and `specs/TraceTexts.antt` what the text of a trace is.
+//! Nothing is judged here: whether the records of a trace are lawful and its reads right isn't checked. The definitions
+//! are in `depot_model`; `specs/SeenTraces.antt` says how they see these types, and `specs/TraceTexts.antt` has the
+//! format of a trace's text.
 #![tactic(auto)]
 
 mod finding;

@@ -45,7 +45,7 @@ pub struct ReadTrace {
 /// Reads, in the order in which they were made.
 pub type Reads = Sequence<ReadTrace>;
 
-/// What a node hands in.
+/// What a node hands in for an audit.
 #[derive(Debug, Drop)]
 pub struct Trace {
     /// The node.

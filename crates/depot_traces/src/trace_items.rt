@@ -11,7 +11,7 @@ use depot_base::reading::{bytes_in, hash_in, u8_in, u16_in, u32_in};
 use depot_base::{Bytes, Fields, Key, Memory, Value};
 use std::alloc::Global;
 
-/// The text of a record, behind its length.
+/// The text of a record, after its length.
 impl Item for Bytes {
     ghost fits = { λ text. record_piece.fits text };
 
@@ -34,7 +34,7 @@ impl Item for Bytes {
     }
 }
 
-/// A write that a read listed: its id, a mark, and a value behind its length where the mark calls for one.
+/// A write that a read listed: its id, a mark, and a value after its length where the mark calls for one.
 impl Item for Answered {
     ghost fits = { λ a. answered_text.fits a };
 
@@ -82,7 +82,7 @@ impl Item for Answered {
     }
 }
 
-/// So many writes that a read listed.
+/// Reads `count` writes that a read listed.
 #[tactic(auto, unfolding(depot_base::specs::Format::list_of))]
 fn listing_in(alloc: Global, fields: &mut Fields<'_>, count: u16) -> Result<Listing, Fault>
     ensures stays { GoesOn fields.old fields.new }
@@ -92,7 +92,7 @@ fn listing_in(alloc: Global, fields: &mut Fields<'_>, count: u16) -> Result<List
     Ok(Listing::from_vec(list))
 }
 
-/// A read: the number of records, the key behind its length, and the writes that it listed behind their number.
+/// A read: the number of records, the key after its length, and the writes that it listed after their number.
 impl Item for ReadTrace {
     ghost fits = { λ r. read_text.fits r };
 

@@ -1,8 +1,8 @@
-//! What holds of all texts of traces. Each law is a function that does nothing; its contract is the law.
+//! What holds of all texts of traces. Each law is a function with an empty body, whose contract is the law.
 ghost use Rattle.depot_base.specs.Reading.{IsPrefixFree, IsReadInOneWay};
 ghost use Rattle.depot_traces.specs.TraceTexts.{trace_text};
 
-/// No text of a trace begins the text of another.
+/// No text of a trace is a prefix of the text of another.
 pub fn traces_are_prefix_free()
     ensures { IsPrefixFree trace_text }
 {}

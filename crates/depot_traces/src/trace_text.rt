@@ -13,25 +13,25 @@ use depot_base::reading::{at_end, node_in, u8_in, u32_in};
 use depot_base::{Bytes, Fields, Memory, Texts};
 use std::alloc::Global;
 
-/// What a decoder answers for a text that is no trace's.
+/// Why a decoder gives no trace for a text.
 #[derive(Clone, Copy, Debug, PartialEq, Eq)]
 pub enum TraceError {
-    /// No memory was found.
+    /// Memory ran out.
     Memory,
     /// The text is no trace's. The number is the offset in bytes, from 0, of the first field that is cut short or out of its
     /// range, or of the first byte after the last field.
     IllFormed(u64),
 }
 
-/// The trace whose text this is (docs/FORMATS.md). `IllFormed` comes exactly where it is no trace's text, with the offset in
-/// bytes of its first fault. Whether a record text is a record's isn't asked.
+/// Decodes a trace (docs/FORMATS.md). `IllFormed` comes exactly where this is no trace's text, with the offset in bytes
+/// of the first fault. Whether a record text is a record's isn't checked.
 pub fn decode_trace(alloc: Global, text: &[u8]) -> Result<Trace, TraceError>
     ensures { Decodes trace_text text.now (as_decoded result) }
 {
     answer(whole_trace(alloc, &mut Fields::new(text)))
 }
 
-/// The trace's one text (docs/FORMATS.md).
+/// Encodes a trace (docs/FORMATS.md).
 pub fn encode_trace(alloc: Global, trace: &Trace) -> Result<Bytes, Memory>
     requires { IsTrace trace.now }
     ensures { IfOk result (λ text. text ≡ text_of_trace trace.now) }
@@ -52,7 +52,7 @@ fn answer(read: Result<Trace, Fault>) -> Result<Trace, TraceError>
     }
 }
 
-/// A trace, of all the bytes that are left.
+/// Reads a trace from all the bytes that are left.
 fn whole_trace(alloc: Global, fields: &mut Fields<'_>) -> Result<Trace, Fault>
     ensures { Gives result (whole trace_text fields.old) }
 {
@@ -60,7 +60,7 @@ fn whole_trace(alloc: Global, fields: &mut Fields<'_>) -> Result<Trace, Fault>
     at_end(fields, found)
 }
 
-/// A trace.
+/// Reads a trace.
 #[tactic(auto, unfolding(crate::specs::TraceTexts::trace_text))]
 fn trace_in(alloc: Global, fields: &mut Fields<'_>) -> Result<Trace, Fault>
     ensures { Reads result fields.new (trace_text.read fields.old) }
@@ -75,7 +75,7 @@ fn trace_in(alloc: Global, fields: &mut Fields<'_>) -> Result<Trace, Fault>
     Ok(Trace { node, texts, reads })
 }
 
-/// So many record texts.
+/// Reads `count` record texts.
 #[tactic(auto, unfolding(depot_base::specs::Format::list_of))]
 fn texts_in(alloc: Global, fields: &mut Fields<'_>, count: u32) -> Result<Texts, Fault>
     ensures { Reads result fields.new ((list_of count record_piece any_follows).read fields.old) }
@@ -84,7 +84,7 @@ fn texts_in(alloc: Global, fields: &mut Fields<'_>, count: u32) -> Result<Texts,
     Ok(Texts::from_vec(list))
 }
 
-/// So many reads.
+/// Reads `count` reads.
 #[tactic(auto, unfolding(depot_base::specs::Format::list_of))]
 fn reads_in(alloc: Global, fields: &mut Fields<'_>, count: u32) -> Result<Reads, Fault>
     ensures { Reads result fields.new ((list_of count read_text any_follows).read fields.old) }
@@ -93,7 +93,7 @@ fn reads_in(alloc: Global, fields: &mut Fields<'_>, count: u32) -> Result<Reads,
     Ok(Reads::from_vec(list))
 }
 
-/// Writes a trace. After Memory a front of it may stand there.
+/// Writes a trace. On `Memory` a prefix of it may be there.
 #[tactic(auto, using(depot_base::proofs::Writing::texts), unfolding(crate::specs::TraceTexts::trace_text, depot_base::specs::Format::number, depot_base::specs::Format::list_of))]
 fn put_trace(out: &mut Bytes, trace: &Trace) -> Result<(), Memory>
     requires { IsTrace trace.now }

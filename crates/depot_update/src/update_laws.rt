@@ -1,4 +1,4 @@
-//! What holds of all texts of a kind. Each law is a function that does nothing; its contract is the law.
+//! What holds of all texts of a kind. Each law is a function with an empty body, whose contract is the law.
 ghost use Rattle.std.specs.Prelude.{◌≡◌, ◌↔◌};
 ghost use Rattle.depot_base.specs.Reading.{IsPrefixFree, IsReadInOneWay, IsClosedReadInOneWay};
 ghost use Rattle.depot_base.specs.declared.update.Update.{Update};
@@ -6,22 +6,22 @@ ghost use Rattle.depot_base.specs.declared.statement.Statement.TheVariants as st
 ghost use Rattle.depot_model.specs.Texts.{update_body, statement, signed, proof, IsUpdate, IsStatement, text_of_update, text_of_statement};
 ghost use Rattle.depot_model.specs.Records.{record_text};
 
-/// No body of an update begins the body of another.
+/// No body of an update is a prefix of the body of another.
 pub fn updates_are_prefix_free()
     ensures { IsPrefixFree update_body }
 {}
 
-/// No body of a statement begins the body of another.
+/// No body of a statement is a prefix of the body of another.
 pub fn statements_are_prefix_free()
     ensures { IsPrefixFree statement }
 {}
 
-/// No text of a signed statement begins the text of another.
+/// No text of a signed statement is a prefix of the text of another.
 pub fn signed_are_prefix_free()
     ensures { IsPrefixFree signed }
 {}
 
-/// No text of a proof begins the text of another.
+/// No text of a proof is a prefix of the text of another.
 pub fn proofs_are_prefix_free()
     ensures { IsPrefixFree proof }
 {}
@@ -51,8 +51,8 @@ pub fn proofs_are_read_in_one_way()
     ensures { IsReadInOneWay proof }
 {}
 
-/// An update has the same body as the statement that it is, and is in the ranges of the one exactly where it is in
-/// those of the other.
+/// An update has the same body as an update and as a statement, and is in the ranges of the one format exactly where it
+/// is in those of the other.
 pub fn update_texts_agree()
     ensures text { (u : Update) → text_of_statement (statements.Update u) ≡ text_of_update u }
     ensures fits { (u : Update) → IsStatement (statements.Update u) ↔ IsUpdate u }

@@ -12,7 +12,7 @@ use depot_base::reading::{at_end, node_in, u8_in, u16_in, u32_in};
 use depot_base::{Bytes, Fields, Ids, Memory, Voucher};
 use std::alloc::Global;
 
-/// So many ids, rising strictly.
+/// Reads `count` ids, rising strictly.
 #[tactic(auto, unfolding(depot_base::specs::Format::list_of))]
 fn ids_in(alloc: Global, fields: &mut Fields<'_>, count: u16) -> Result<Ids, Fault>
     ensures { Reads result fields.new ((digests count).read fields.old) }
@@ -21,7 +21,7 @@ fn ids_in(alloc: Global, fields: &mut Fields<'_>, count: u16) -> Result<Ids, Fau
     Ok(Ids::from_vec(ids))
 }
 
-/// The fields of a voucher behind its version and kind.
+/// Reads the fields of a voucher after its version and kind.
 #[tactic(auto, unfolding(depot_model::specs::Texts::voucher_fields))]
 pub(crate) fn voucher_fields_in(alloc: Global, fields: &mut Fields<'_>) -> Result<Voucher, Fault>
     ensures { Reads result fields.new (voucher_fields.read fields.old) }
@@ -33,7 +33,7 @@ pub(crate) fn voucher_fields_in(alloc: Global, fields: &mut Fields<'_>) -> Resul
     Ok(Voucher { node, seq, ids })
 }
 
-/// The body of a voucher, where nothing else may stand.
+/// Reads the body of a voucher, where nothing else may be.
 #[tactic(auto, unfolding(depot_model::specs::Texts::voucher_body))]
 fn voucher_in(alloc: Global, fields: &mut Fields<'_>) -> Result<Voucher, Fault>
     ensures { Reads result fields.new (voucher_body.read fields.old) }
@@ -43,7 +43,7 @@ fn voucher_in(alloc: Global, fields: &mut Fields<'_>) -> Result<Voucher, Fault>
     voucher_fields_in(alloc, fields)
 }
 
-/// The same, of all the bytes that are left.
+/// Reads the body of a voucher from all the bytes that are left.
 pub(crate) fn whole_voucher(alloc: Global, fields: &mut Fields<'_>) -> Result<Voucher, Fault>
     ensures { Gives result (whole voucher_body fields.old) }
 {
@@ -51,7 +51,7 @@ pub(crate) fn whole_voucher(alloc: Global, fields: &mut Fields<'_>) -> Result<Vo
     at_end(fields, voucher)
 }
 
-/// Writes the fields of a voucher behind its version and kind.
+/// Writes the fields of a voucher after its version and kind.
 #[tactic(auto, using(depot_base::proofs::Writing::texts), unfolding(depot_model::specs::Texts::voucher_fields, depot_base::specs::Format::number, depot_base::specs::Format::list_of))]
 pub(crate) fn put_voucher_fields(out: &mut Bytes, voucher: &Voucher) -> Result<(), Memory>
     requires { voucher_fields.fits voucher.now }

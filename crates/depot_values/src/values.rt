@@ -14,7 +14,7 @@ use std::alloc::Global;
 
 type Slots = IndexMap<Hash32, Option<Value>>;
 
-/// Puts a slot in place of none, or of an empty one. Only a hash with no slot takes memory.
+/// Fills a slot that is absent or empty. Only a hash without a slot takes memory.
 fn put_slot(slots: &mut Slots, hash: Hash32, slot: Option<Value>) -> Result<(), Memory>
     ensures ok { OnOk result (PutsSlot slots.old slots.new hash slot) }
     ensures err { OnErr result (IsUnchanged slots.old slots.new) }
@@ -29,7 +29,7 @@ fn put_slot(slots: &mut Slots, hash: Hash32, slot: Option<Value>) -> Result<(), 
 /// A map from SHA-256 to the first value that was added with it.
 #[derive(Drop)]
 pub struct Values {
-    // A hash whose slot is empty is one that room was found for.
+    // A hash whose slot is empty is one for which memory was reserved.
     slots: Slots,
     ghost hashed: { AreSlotsHashed slots },
 }
@@ -47,8 +47,8 @@ impl Values {
         }
     }
 
-    /// Finds the memory for a value of this hash: after it the next `add` of one can't fail, whatever other hashes are
-    /// reserved or added before. After Memory all is as before.
+    /// Reserves memory for a value of this hash: the next `add` of one can't fail, whatever other hashes are reserved
+    /// or added before. On `Memory` all is unchanged.
     #[tactic(auto, using(crate::proofs::ValueSlotLaws::slot_laws), unfolding(crate::specs::Values::held_in, crate::specs::Values::has_value_room))]
     pub fn reserve(&mut self, hash: &Hash32) -> Result<(), Memory>
         ensures room { OnOk result (IsTrue (has_value_room self.new hash.now)) }
@@ -62,7 +62,7 @@ impl Values {
     }
 
     /// Adds a value under its SHA-256. Known comes exactly where a value of that hash is there, and then nothing
-    /// changes. After Memory all is as before.
+    /// changes. On `Memory` all is unchanged.
     pub fn add(&mut self, value: Value) -> Result<Taken, Memory>
         ensures known { (result ≡ Ok taken.Known) ↔ IsSome (held_in self.old (sha256 value)) }
         ensures new { result ≡ Ok taken.New → held_in self.new (sha256 value) ≡ Some value }

@@ -1,4 +1,4 @@
--- How long the chains of a forest are, and where the next item stands.
+-- How long the chains of a forest are, and where the next item is.
 use Rattle.std.proofs.Common.{◌≡◌, ℕ, zero, suc, ◌+◌, ◌-◌, ◌<◌, ◌≤◌, List, [], ◌∷◌, ◌++◌, length, true, false, cond, eqb, Option, Some, refl, sym, ap, subst, ◌∙◌, arith, inl, inr, true≢false}
 use Rattle.std.proofs.lemmas.Bool.{cases_lt}
 use Rattle.std.proofs.lemmas.List.Sums.{sum_by-append}
@@ -55,7 +55,7 @@ tip_length prevs placed item s p l at free (suc n) is = elim (cases_lt s.place n
   | inr least ↦ omega (arith, least, l.low item s at, is)
 ]
 
--- the next item stands at its chain's length
+-- the next item is at its chain's length
 next_is_length : (prevs : List (Option ℕ)) (placed : List Spot) (prev : Option ℕ) → Placed prevs placed → Long placed → (next_spot prevs placed prev).place ≡ spot_count placed (next_spot prevs placed prev).chain
 next_is_length prevs placed prev p l = elim (next_cases prevs placed prev) [
   | inl s ↦ subst (λ (x : Spot). x.place ≡ spot_count placed x.chain) (sym s.first) (sym (none_of_next prevs placed p l (spot_count placed (chains_of placed)) refl))
@@ -73,7 +73,7 @@ all_long : (prevs : List (Option ℕ)) → Long (spots prevs)
 unfolding spots
 all_long prevs = long_behind [] [] prevs none_placed (record { low = λ item s at. absurd cc; last = λ chain n is. absurd (omega (arith, is)) })
 
--- ---- where the next item stands
+-- ---- where the next item is
 
 pub next_place : (prevs : List (Option ℕ)) (prev : Option ℕ) → (next_spot prevs (spots prevs) prev).place ≡ spot_count (spots prevs) (next_spot prevs (spots prevs) prev).chain
 next_place prevs prev = next_is_length prevs (spots prevs) prev (all_placed prevs) (all_long prevs)

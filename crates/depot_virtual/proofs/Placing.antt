@@ -29,7 +29,7 @@ pub record Placed (prevs : List (Option ℕ)) (placed : List Spot) : Type 0 wher
   pub place : (item : ℕ) (s : Spot) → slice_get placed item ≡ Some s → s.place ≤ item
   pub started : (c : ℕ) → c < chains_of placed → (item : ℕ) × (slice_get placed item ≡ Some (spot_at c 0))
 
--- the next item goes on with the chain of its prev, which has no child yet
+-- the next item continues the chain of its prev, which has no child yet
 pub record Continues (prevs : List (Option ℕ)) (placed : List Spot) (prev : Option ℕ) (next : Spot) : Type 0 where
   pub item : ℕ
   pub spot : Spot
@@ -201,7 +201,7 @@ spots_next prevs prev = spots_behind_next [] [] prevs prev
 
 -- ---- paths
 
--- so many places back in a chain
+-- this many places back in a chain
 pub record Earlier (prevs : List (Option ℕ)) (placed : List Spot) (steps item chain place : ℕ) : Type 0 where
   pub from : ℕ
   pub spot : slice_get placed from ≡ Some (spot_at chain place)
@@ -229,7 +229,7 @@ leads_earlier : (prevs : List (Option ℕ)) → IsForest prevs → (steps from t
 leads_earlier prevs forest zero from to same = omega (arith, same)
 leads_earlier prevs forest (suc steps) from to b = omega (arith, forest from b.0 b.1.0, leads_earlier prevs forest steps b.0 to b.1.1)
 
--- no item of a chain stands behind its last one
+-- no item of a chain follows its last one
 pub tip_is_highest : (prevs : List (Option ℕ)) (chain tip : ℕ) → IsForest prevs → (t : IsTip (spots prevs) chain tip) → (item place : ℕ) → slice_get (spots prevs) item ≡ Some (spot_at chain place) → place ≤ t.place
 tip_is_highest prevs chain tip forest t item place at = by_test (nat_lt t.place place) refl where
   by_test : (b : Bool) → nat_lt t.place place ≡ b → place ≤ t.place

@@ -46,7 +46,7 @@ is_that_item : (p : ℕ) (prev : Option ℕ) → is_item p prev ≡ true → pre
 is_that_item p None e = absurd cc
 is_that_item p (Some q) e = let same : q ≡ p = grind (arith, nat_tests) in ap (λ (n : ℕ). Some n) same
 
--- where an item's child stands
+-- where an item's child is
 child_place : (prevs : List (Option ℕ)) (p : ℕ) → has_child prevs p ≡ true → (item : ℕ) × (slice_get prevs item ≡ Some (Some p))
 child_place [] p e = absurd cc
 child_place (o ∷ os) p e = elim (or_cases (is_item p o) (has_child os p) e) [
@@ -88,7 +88,7 @@ few_chains prevs placed tips n =
     let chains : length tips ≡ chains_of placed = n.chains in
     omega arith
 
--- ---- a tip stays one, unless its chain goes on
+-- ---- a tip stays one, unless its chain continues
 
 tip_stays : (placed : List Spot) (x : Spot) (chain item : ℕ) → IsTip placed chain item → (x.chain ≡ chain → ⊥) → IsTip (placed ++ x ∷ []) chain item
 tip_stays placed x chain item t other = record {
@@ -115,7 +115,7 @@ tip_new placed chain place item e = record {
 is_or_not : (a b : ℕ) → (a ≡ b) ⊎ (a ≢ b)
 is_or_not a b = grind arith
 
--- what was written at a place is what stands there
+-- what was written at a place is what is there
 written : (tips : List ℕ) (chain place item i : ℕ) → chain < length tips → place ≡ chain → slice_get (set tips chain item) place ≡ Some i → item ≡ i
 written tips chain place item i low same e = let there : slice_get (set tips chain item) place ≡ Some item = at_set tips item chain place low same in cc
 
@@ -256,7 +256,7 @@ by_free : (prevs : List (Option ℕ)) (placed : List Spot) (item : ℕ) (spot : 
 by_free prevs placed item spot true free at = absurd cc
 by_free prevs placed item spot false free at = ap (λ (o : Option Spot). place_behind placed o) at
 
--- the prev is its chain's tip: the chain goes on
+-- the prev is its chain's tip: the chain continues
 pub prev_free : (prevs : List (Option ℕ)) (placed : List Spot) (tips : List ℕ) (item : ℕ) (spot : Spot) → AreSpotsNumbered prevs placed tips → slice_get placed item ≡ Some spot → slice_get tips spot.chain ≡ Some item → next_spot prevs (spots prevs) (Some item) ≡ spot_at spot.chain (spot.place + 1)
 prev_free prevs placed tips item spot n at tip =
     subst (λ (l : List Spot). next_spot prevs l (Some item) ≡ spot_at spot.chain (spot.place + 1)) n.same (by_free prevs placed item spot (has_child prevs item) (n.childless item spot at tip) at)
@@ -309,7 +309,7 @@ later_place prevs placed tips prev x n is later = elim (next_cases prevs placed 
       omega arith
 ]
 
--- behind another item of its chain, the next item has a chain that is there
+-- after another item of its chain, the next item has a chain that is there
 pub chain_of_later : (prevs : List (Option ℕ)) (placed : List Spot) (tips : List ℕ) (prev : Option ℕ) (x : Spot) → AreSpotsNumbered prevs placed tips → x ≡ next_spot prevs (spots prevs) prev → (x.place ≡ 0 → ⊥) → x.chain < length tips
 chain_of_later prevs placed tips prev x n is later = later_place prevs placed tips prev x n (is ∙ ap (λ (l : List Spot). next_spot prevs l prev) (sym n.same)) later
 

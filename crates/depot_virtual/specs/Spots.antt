@@ -1,9 +1,10 @@
--- The chains of a forest, whose items come one after another, each with an earlier item as its prev or with none.
+-- The chains of a forest, which are virtual writers: its items come one after another, each with an earlier item as its
+-- prev or with none.
 use Rattle.std.specs.Prelude.{◌≡◌, ℕ, zero, suc, ◌+◌, ◌<◌, List, [], ◌∷◌, ◌++◌, Bool, false, ◌==◌, Option, Some, None, slice_get, count_by, if◌then◌else◌}
 use Rattle.std.specs.List.{list_any}
 use Rattle.depot_virtual.specs.declared.Spot.{Spot}
 
--- what is seen of a forest: the prev of each item, in order, and how many items more have their memory
+-- what is seen of a forest: the prev of each item, in order, and how many items more have reserved memory
 pub record Forest : Type 0 where
   pub prevs : List (Option ℕ)
   pub room : ℕ
@@ -31,12 +32,12 @@ chains_of placed = count_by (λ s. s.place == 0) placed
 abbrev pub next_chain : List Spot → Spot
 next_chain placed = record { chain = chains_of placed; place = 0 }
 
--- the place behind this one, in the same chain
+-- the place after this one, in the same chain
 abbrev pub place_behind : List Spot → Option Spot → Spot
 place_behind placed None = next_chain placed
 place_behind placed (Some s) = record { chain = s.chain; place = s.place + 1 }
 
--- The spot of an item behind those with these prevs and spots. It continues its prev's chain where no earlier item has
+-- The spot of an item after those with these prevs and spots. It continues its prev's chain where no earlier item has
 -- the same prev; else, and where it has no prev, it starts the next chain.
 abbrev pub next_spot : List (Option ℕ) → List Spot → Option ℕ → Spot
 next_spot prevs placed None = next_chain placed
@@ -53,7 +54,7 @@ spots prevs = spots_behind [] [] prevs
 
 -- ---- chains
 
--- the item stands at this place of this chain
+-- the item is at this place of this chain
 abbrev pub IsSpotAt : List (Option ℕ) → ℕ → ℕ → ℕ → Type 0
 IsSpotAt prevs item chain place = slice_get (spots prevs) item ≡ Some (record { chain = chain; place = place })
 
@@ -71,7 +72,7 @@ pub record IsTip (placed : List Spot) (chain item : ℕ) : Type 0 where
   pub own : slice_get placed item ≡ Some (record { chain = chain; place = place })
   pub last : (later : ℕ) (s : Spot) → slice_get placed later ≡ Some s → item < later → s.chain ≡ chain → ⊥
 
--- So many steps by prev lead from an item back to another.
+-- This many steps by prev lead from an item back to another.
 abbrev pub LeadsBack : List (Option ℕ) → ℕ → ℕ → ℕ → Type 0
 LeadsBack prevs zero from to = from ≡ to
 LeadsBack prevs (suc steps) from to = (p : ℕ) × ((slice_get prevs from ≡ Some (Some p)) × LeadsBack prevs steps p to)

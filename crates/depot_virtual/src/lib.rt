@@ -1,11 +1,12 @@
 //! The chains of a forest of items: its virtual writers.
 //!
-//! Items come one after another, each with an earlier item as its prev or with none. The first child of an item continues
-//! its chain; each later child, and each item without a prev, starts a new one. So the updates of a writer that never forks
-//! make one chain, and each further branch of a writer that forks is a chain of its own.
+//! Items come one after another, each with an earlier item as its prev or with none. The first child of an item
+//! continues its chain; each later child, and each item without a prev, starts a new one. So the updates of a writer
+//! that never forks make one chain, and each further branch of a writer that forks is a chain of its own: the article's
+//! virtual node.
 //!
-//! A forest is seen as the list of the prevs that were added, and the number of items that have their memory. Each prev is
-//! an earlier item. What the items are, this crate doesn't know.
+//! A forest is seen as the list of the prevs that were added, and the number of items for which memory is reserved.
+//! Each prev is an earlier item. What the items are, this crate doesn't know.
 #![tactic(auto)]
 
 ghost use Rattle.std.specs.Prelude.{◌≡◌, ◌<◌, ◌-◌, ◌≤◌, ◌==◌, ℕ, List, [], ◌∷◌, ◌++◌, length, Option, Some, slice_get, slice_set, OnOk, OnErr, IfOk, IfSome, IsOk, vec_len, if◌then◌else◌};
@@ -16,12 +17,12 @@ use depot_base::Memory;
 use std::alloc::Global;
 use std::marker::Model;
 
-/// Where an item stands.
+/// The place of an item: its chain, and its place there.
 #[derive(Clone, Copy, Debug, PartialEq, Eq)]
 pub struct Spot {
     /// Its chain, from 0 in the order in which the chains start.
     pub chain: u32,
-    /// How many items of the chain stand before it.
+    /// How many items of the chain come before it.
     pub place: u32,
 }
 
@@ -58,7 +59,7 @@ impl Chains {
         }
     }
 
-    /// Finds the memory for one item more.
+    /// Reserves memory for one more item.
     pub fn reserve(&mut self) -> Result<(), Memory>
         ensures same { self.new.prevs ≡ self.old.prevs }
         ensures room { OnOk result (0 < self.new.room) }
@@ -70,7 +71,7 @@ impl Chains {
         Ok(())
     }
 
-    /// Adds an item with this prev behind the others, and gives its spot.
+    /// Appends an item with this prev, and returns its spot.
     pub fn add(&mut self, prev: Option<u32>) -> Result<Spot, Memory>
         requires earlier { IfSome prev (λ item. item < length self.old.prevs) }
         requires few { length self.old.prevs < 4294967295 }
@@ -85,7 +86,7 @@ impl Chains {
         Ok(spot)
     }
 
-    /// The spot that the next item gets, if it has this prev. It stands behind the last item of its chain, which is its prev;
+    /// The spot that the next item gets, if it has this prev. It follows the last item of its chain, which is its prev;
     /// or it is the first of the next chain. It takes no memory.
     pub fn next(&self, prev: Option<u32>) -> Spot
         requires earlier { IfSome prev (λ item. item < length self.now.prevs) }
@@ -166,7 +167,7 @@ impl Chains {
     }
 }
 
-/// The item is its chain's tip from now on. Where it starts the chain, there is room for a tip.
+/// Makes the item its chain's tip. Where it starts the chain, memory for a tip is reserved.
 fn move_tip(tips: &mut Vec<u32>, spot: Spot, item: u32)
     requires room { vec_len tips.old < vec_capacity tips.old }
     requires known { (spot.place ≡ 0 → ⊥) → spot.chain < vec_len tips.old }
@@ -179,8 +180,8 @@ fn move_tip(tips: &mut Vec<u32>, spot: Spot, item: u32)
     }
 }
 
-/// A chain is one path by prev, with each place once, whatever the prevs are: from an item to one that stands before it
-/// in its chain lead as many steps as its place is higher.
+/// A chain is one path by prev, with each place once, whatever the prevs are: from an item to an earlier one of its
+/// chain the path has as many steps as the places differ by.
 pub fn one_chain_is_one_path()
     ensures path { (prevs : List (Option ℕ)) (chain a b i j : ℕ) → IsSpotAt prevs a chain i → IsSpotAt prevs b chain j → i < j → LeadsBack prevs (j - i) b a }
     ensures once { (prevs : List (Option ℕ)) (chain place a b : ℕ) → IsSpotAt prevs a chain place → IsSpotAt prevs b chain place → a ≡ b }

@@ -67,7 +67,7 @@ vouched_place h (e ∷ es) on = go e.1 on (vouched_place h es) where
   ]
   go false on later = or_right (bytes_eq h e.0) (is_among h (keys_of es)) (later on)
 
--- an id isn't one of those that it stands below
+-- an id isn't one of those that it is below
 not_below : (h : List ℕ) (ks : List (List ℕ)) → AllByRecursion (λ k. slice_cmp nat_cmp h k ≡ Less) ks → is_among h ks ≡ true → ⊥
 not_below h ks all on =
     let less : slice_cmp nat_cmp h h ≡ Less = all_at (λ k. slice_cmp nat_cmp h k ≡ Less) ks h all (among_to h ks on) in

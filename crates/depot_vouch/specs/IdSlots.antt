@@ -1,4 +1,4 @@
--- Ids that are vouched, or that room was found for, in the order of the ids.
+-- Ids that are vouched, or for which memory was reserved, in the order of the ids.
 use Rattle.std.specs.Prelude.{ℕ, List, [], ◌∷◌, Bool, if◌then◌else◌}
 use Rattle.std.specs.List.Sorted.{IsStrictlySortedBy}
 use Rattle.std.specs.Cmp.Lexicographic.{slice_cmp}

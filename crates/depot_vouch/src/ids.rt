@@ -10,13 +10,14 @@ use std::alloc::Global;
 use std::collections::BTreeMap;
 use std::marker::Model;
 
-/// A set of ids that vouchers name, which only grows: those that others vouched for, or those that a node itself did.
+/// A set of ids that vouchers name, which only grows: those that others vouched for, or those that a node itself
+/// vouched for.
 ///
-/// It is seen as the list of the ids, and that of the ids for which there is room: these, and those that were reserved.
-/// Whoever signs a voucher picks the ids in it, so none is hashed: a look-up takes logarithmic time, whatever they are.
+/// It is seen as the list of the ids, and the list of those for which there is room: these, and the reserved ones. The
+/// signer of a voucher picks its ids, so none is hashed: a look-up takes logarithmic time for any ids.
 #[derive(Drop)]
 pub struct VouchedIds {
-    // Whether each is vouched. One that isn't is one that room was found for.
+    // Whether each is vouched. One that isn't is one for which memory was reserved.
     slots: VoucherSlots,
 }
 
@@ -45,8 +46,8 @@ impl VouchedIds {
         }
     }
 
-    /// Finds the memory for these ids: after it an `add` of them, or of some of them, can't fail, whatever comes between.
-    /// The ids in the set stay, also after Memory.
+    /// Reserves memory for these ids: an `add` of them, or of some of them, can't fail, whatever comes between. The ids
+    /// in the set stay, also on `Memory`.
     pub fn reserve(&mut self, ids: &Ids) -> Result<(), Memory>
         ensures ok { OnOk result (AreTogether self.old.room ids.now self.new.room) }
         ensures ids { self.new.ids ≡ self.old.ids }
@@ -79,7 +80,7 @@ impl VouchedIds {
     }
 }
 
-/// Finds a place for each of these ids. Which ids are vouched stays.
+/// Reserves a place for each of these ids. Which ids are vouched stays.
 fn reserve_all(slots: &mut VoucherSlots, ids: &[Hash32]) -> Result<(), Memory>
     ensures ok { OnOk result (AreTogether (keys_of slots.old.entries) ids.now (keys_of slots.new.entries)) }
     ensures ids { vouched_in slots.new.entries ≡ vouched_in slots.old.entries }
@@ -93,7 +94,7 @@ fn reserve_all(slots: &mut VoucherSlots, ids: &[Hash32]) -> Result<(), Memory>
     Ok(())
 }
 
-/// Finds a place for an id, if it has none.
+/// Reserves a place for an id, if it has none.
 fn reserve_one(slots: &mut VoucherSlots, id: Hash32) -> Result<(), Memory>
     ensures ok { OnOk result (AreTogether (keys_of slots.old.entries) (id ∷ []) (keys_of slots.new.entries)) }
     ensures ids { vouched_in slots.new.entries ≡ vouched_in slots.old.entries }

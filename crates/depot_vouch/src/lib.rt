@@ -1,9 +1,9 @@
-//! What others vouched for, and who is convicted.
+//! Which updates others vouched for, as the article names it, and who is convicted.
 //!
-//! Two sets that only grow. An id that some other node's voucher names is vouched, and stays so when the node that vouched
-//! is convicted. A convicted node stays convicted. They are seen as the list of the vouched ids and that of the convicted
-//! nodes, each once; room for the convictions of all nodes is found at the start. Whether a voucher or a proof is to be
-//! believed, this crate doesn't know.
+//! Two sets that only grow. An id that some other node's voucher names is vouched, and stays so when the node that
+//! vouched is convicted. A convicted node stays convicted. They are seen as the list of the vouched ids and that of the
+//! convicted nodes, each once; memory for the convictions of all nodes is reserved at the start. Whether a voucher or a
+//! proof can be believed, this crate doesn't know.
 //!
 //! `VouchedIds` is the set of ids alone, as a node keeps it of its own vouchers.
 #![tactic(auto)]
@@ -42,7 +42,7 @@ impl Model for Vouched {
 }
 
 impl Vouched {
-    /// Nothing, with room for the convictions of so many nodes: at most 256, as many as a roster has.
+    /// Empty sets, with memory for the convictions of `nodes` nodes: at most 256, as many as a roster has.
     pub fn new(alloc: Global, nodes: u32) -> Result<Vouched, Memory>
         ensures ids { IfOk result (λ v. v.ids ≡ []) }
         ensures convicted { IfOk result (λ v. v.convicted ≡ []) }

@@ -98,7 +98,7 @@ three_written (x ∷ y ∷ []) a b c three = absurd (omega arith)
 three_written (x ∷ y ∷ z ∷ []) a b c three = refl
 three_written (x ∷ y ∷ z ∷ w ∷ rest) a b c three = absurd (omega arith)
 
--- three places after a front, each written
+-- three places after a prefix, each written
 write_after : (own rest : List ℕ) (a b c : ℕ) → length own ≡ 64 →
     set (set (set (own ++ rest) 64 a) 65 b) 66 c ≡ own ++ set (set (set rest 0 a) 1 b) 2 c
 write_after own rest a b c front =

@@ -5,8 +5,8 @@ ghost use Rattle.depot_winter.specs.Smaller.{HasSmallerDigit, IsFirstSmaller};
 
 use depot_base::Hash32;
 
-/// The 67 digits of a digest: its 64 hexadecimal digits, the high half of each byte first, and then the sum of what each
-/// falls short of 15, as three digits, the highest first (docs/FORMATS.md, signatures).
+/// The 67 digits of a digest: its 64 hexadecimal digits, the high half of each byte first, and then the sum of 15 minus
+/// each digit, as three digits, the highest first (docs/FORMATS.md, signatures).
 #[tactic(auto, using(crate::proofs::DigitLemmas::digits_made))]
 pub fn digits(digest: &Hash32) -> [u8; 67]
     ensures value { result ≡ digits_of digest.now }
@@ -27,8 +27,8 @@ pub fn digits(digest: &Hash32) -> [u8; 67]
     digits
 }
 
-/// The first place, from 0 to 66, at which the second digest's digit is smaller than the first's, and `None` for equal
-/// digests. For two different digests each has a smaller digit somewhere, so that no signature of one signs the other.
+/// The first place, from 0 to 66, at which the second digest's digit is smaller than the first's; `None` for equal
+/// digests. Each of two different digests has a smaller digit somewhere, so no signature of one signs the other.
 #[tactic(auto, using(crate::proofs::SmallerLaws::differ_both_ways))]
 pub fn smaller_digit(first: &Hash32, second: &Hash32) -> Option<u8>
     ensures found { IfSome result (IsFirstSmaller first.now second.now) }

@@ -10,8 +10,8 @@ use crate::scheme::digest_of;
 use depot_base::{Bytes, Hash32, Memory};
 use depot_model::Layer;
 
-// A bottom tree of a key of two layers, and the part of the top layer that signs its root. It says itself of which key and which
-// tree of that it is: who finds one in a cell, of whose content no clause knows, compares.
+// A bottom tree of a key of two layers, and the part of the top layer that signs its root. It records its key and which
+// of that key's trees it is, since no clause knows the content of a cell: whoever finds one there compares.
 #[derive(Drop)]
 pub(crate) struct KeptBottom {
     pub(crate) tree: Tree,

@@ -12,7 +12,7 @@ use Rattle.depot_audit.proofs.shows.shows.Given.{Over}
 use Rattle.depot_audit.proofs.shows.shows.Goals as goal
 use Rattle.depot_audit.proofs.shows.shows.Goals.{After-as_slice-answer, After-is_told}
 
--- the answer is what the read lists exactly where it is what is told of the items
+-- the answer is what the read lists exactly where it is what is said of the items
 listed : (g : Over) (c : After-as_slice-answer g)
     → (map answered_of c.as_slice-answer.result.now ≡ told_at c.args.readings.now.records c.args.read.now.key c.latest-items.result.now) ↔ (map answered_of c.args.read.now.answer ≡ map answered (shown_of c.args.readings.now.records c.args.read.now.key))
 listed g c =

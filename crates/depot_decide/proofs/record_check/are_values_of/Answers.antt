@@ -5,7 +5,7 @@ use Rattle.depot_decide.proofs.PutValues.{AreLeft, next_left, past_value, other_
 use Rattle.depot_decide.proofs.record_check.are_values_of.Goals as goal
 use Rattle.depot_decide.proofs.record_check.are_values_of.Goals.{In-Some-get}
 
--- the write and the value that are looked at stand in front of what is left
+-- the write and the value that are looked at are before what is left
 in_front : (c : In-Some-get) → AreLeft c.args.writes.now c.args.values.now (c.write-item.result ∷ drop (c.loop-write.write-index + 1) c.args.writes.now) (c.in-Some-get.value.now ∷ drop (c.loop-write.place + 1) c.args.values.now)
 in_front c =
     rw (sym (next_left c.args.writes.now c.loop-write.write-index c.write-item.result c.loop-write-test.true c.write-item.is), sym (next_left c.args.values.now c.loop-write.place c.in-Some-get.value.now c.in-Some-get.ensures.lookup.3.0 c.in-Some-get.ensures.lookup.1))

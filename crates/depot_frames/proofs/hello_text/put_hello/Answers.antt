@@ -15,7 +15,7 @@ joined : (out a b c d n1 l1 n2 l2 n3 l3 o1 o2 o3 o4 o5 o6 : List ℕ)
     → o6 ++ (n3 ++ l3) ≡ out ++ (a ++ (b ++ (c ++ (d ++ (n1 ++ (l1 ++ (n2 ++ (l2 ++ (n3 ++ (l3 ++ []))))))))))
 joined out a b c d n1 l1 n2 l2 n3 l3 o1 o2 o3 o4 o5 o6 p1 p2 p3 p4 p5 p6 = rw (p6, p5, p4, p3, p2, p1) (simp (append_assoc, append-nil))
 
--- a list behind its count
+-- a list after its count
 counted : {E : Type 0} → (E → List ℕ) → List ℕ → List E → List ℕ
 counted text out s = out ++ (numeral w16 (length s) ++ flat_map text s)
 

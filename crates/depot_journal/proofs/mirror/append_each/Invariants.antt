@@ -1,4 +1,4 @@
--- The records before the next one stand on the disk, and no more room was taken than theirs.
+-- The records before the next one are on the disk, and no more room was taken than theirs.
 use Rattle.std.proofs.Common.{◌≡◌, ◌++◌, ◌+◌, ◌≤◌, ◌*◌, IsTrue, vec_len, vec_capacity, length, take}
 use Rattle.depot_base.specs.Calls.{calls_to_append_all, made}
 use Rattle.depot_base.specs.Disk.{LeavesOnly, Only}

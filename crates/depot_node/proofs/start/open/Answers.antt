@@ -17,7 +17,7 @@ use Rattle.depot_node.proofs.start.open.Given.{Over}
 use Rattle.depot_node.proofs.start.open.Goals as goal
 use Rattle.depot_node.proofs.start.open.Goals.{After-fill}
 
--- where the node stands
+-- the setting of the node
 abbrev here : (g : Over) (c : After-fill g) → Setting
 here g c = setting g.S.Scheme.verifies c.args.state
 
@@ -25,11 +25,11 @@ here g c = setting g.S.Scheme.verifies c.args.state
 mid : (g : Over) (c : After-fill g) → c.new-store.result.disk ≡ c.in-Ok.journal.disk
 mid g c = ap (λ (v : Holding g.row.D.Denot). v.disk) c.new-store.ensures
 
--- it tells its bytes as the one that was given
+-- its bytes are visible as the one that was given
 told_in : (g : Over) (c : After-fill g) → IsTrue (g.D.Disk.tells c.args.disk) → IsTrue (g.D.Disk.tells c.new-store.result.disk)
 told_in g c told = subst (λ (d : g.row.D.Denot). IsTrue (g.D.Disk.tells d)) (sym (mid g c)) (subst IsTrue (sym c.in-Ok.ensures.tells) told)
 
--- what a stop may leave, of the journal's start and of what comes behind it
+-- the crash images, of the journal's start and of what comes after it
 left : (g : Over) (c : After-fill g) (new : List Record) → IsTrue (g.D.Disk.tells c.args.disk)
     → LeavesOnly g.D.Disk.moment g.D.Disk.left_since c.new-store.result.disk c.fill.new.store.disk (LeavesNew new (c.new-store.result.unread ≡ []) (g.D.Disk.may_leave c.new-store.result.disk))
     → LeavesOnly g.D.Disk.moment g.D.Disk.left_since c.args.disk c.fill.new.store.disk (LeavesNew new (IsFileOf (g.D.Disk.seen c.args.disk) []) (g.D.Disk.may_leave c.args.disk))

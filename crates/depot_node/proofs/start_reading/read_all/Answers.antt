@@ -8,7 +8,7 @@ use Rattle.depot_node.proofs.RecordReads.{reading_begins, reading_ends, reading_
 use Rattle.depot_node.proofs.start_reading.read_all.Given.{Over}
 use Rattle.depot_node.proofs.start_reading.read_all.Goals as goal
 
--- where the node stands
+-- the setting of the node
 abbrev at : (g : Over) → Holding g.row.D.Denot → Setting
 at g v = node_setting g.S.Scheme.verifies v
 

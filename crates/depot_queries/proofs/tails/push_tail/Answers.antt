@@ -34,7 +34,7 @@ spot-requires-in-loop-found c = at_within (updates_in c.args.graph.now.items.ent
 pub prev-requires : goal.prev-requires
 prev-requires c = at_within (updates_in c.args.graph.now.items.entries) c.loop-found.item c.args.chain c.loop-found.invariant.place c.loop-found.invariant.at
 
--- the item before is the one that was told
+-- the item before is the one that was given
 told : (us : List Update) (item b item_next : ℕ) (prev : Option ℕ) → slice_get (prev_places us) item ≡ Some (Some b) → slice_get (prev_places us) item ≡ Some prev → item_next ≡ unwrap_or prev item → b ≡ item_next
 told us item b item_next prev is tells next = let both : Some (Some b) ≡ Some prev = sym is ∙ tells in let same : Some b ≡ prev = cc in ap (λ (o : Option ℕ). unwrap_or o item) same ∙ sym next
 

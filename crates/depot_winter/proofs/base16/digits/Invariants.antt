@@ -3,7 +3,7 @@ use Rattle.std.specs.List.{flat_map}
 use Rattle.depot_model.specs.Winternitz.{nibbles, checksum}
 use Rattle.depot_winter.proofs.base16.digits.Given as goal
 
--- the digits of the bytes so far stand at the front, and the checksum is theirs
+-- the digits of the bytes so far are at the front, and the checksum is theirs
 abbrev pub invariant-loop-place : goal.invariant-loop-place
 invariant-loop-place l = record {
   whole : length l.digits ≡ 67;

@@ -6,7 +6,7 @@ use Rattle.depot_journal.proofs.journal.Journal.start.Given.{Over}
 use Rattle.depot_journal.proofs.journal.Journal.start.Goals as goal
 use Rattle.depot_journal.proofs.journal.Journal.start.Goals.{In-Ok}
 
--- the disk told its bytes before the call
+-- the disk's bytes were visible before the call
 told_before : (g : Over) (c : In-Ok g) → IsTrue (g.D.Disk.tells c.start_on.new.disk) → IsTrue (g.D.Disk.tells c.args.disk)
 told_before g c told = subst (λ (b : Bool). IsTrue b) c.start_on.ensures.tells told
 

@@ -16,7 +16,7 @@ use Rattle.depot_node.proofs.node.Node.start.Given.{Over}
 use Rattle.depot_node.proofs.node.Node.start.Goals as goal
 use Rattle.depot_node.proofs.node.Node.start.Goals.{In-Ok-open}
 
--- where the node stands
+-- the setting of the node
 abbrev here : (g : Over) (c : In-Ok-open g) → Setting
 here g c = record { verifies = g.S.Scheme.verifies; me = c.args.me; listed = c.args.roster }
 

@@ -50,9 +50,9 @@ read-requires g c =
     let new = subst (λ (rs : List Record). IsLawful (node_setting g.S.Scheme.verifies c.args.self.now) (c.args.self.now.records ++ rs)) (sym c.take_texts.ensures.same) c.requires.lawful in
     record { lawful = subst (λ (r : Known). IsLawful (readings.standing g.S.Scheme.verifies r) (r.records ++ c.take_texts.new.self)) (sym (c.keep_parents.ensures ∙ is)) new }
 
--- ---- what stands when memory for the journal was found
+-- ---- what holds when memory for the journal was reserved
 
--- the records, as they stand inside
+-- the records, as they are inside
 abbrev J : (g : Over) (c : After-reserve g) → List Record
 J g c = records_in_texts (take c.self.inside.read c.self.inside.journal.records)
 
@@ -86,7 +86,7 @@ returns-in_err-read-clause-call g c =
     let p = err_from_is_err_and c.from_residual.result c.from_residual.ensures.1 in
     rw (p.1, p.2) (unwritten_then g (goal.at.returns-in_err-read-clause-call g c).After-reserve _ refl (ap (λ (x : List (List ℕ)). records_in_texts (take c.self.inside.read x)) c.reserve.ensures.same) c.reserve.ensures.running)
 
--- ---- what stands when the texts were appended, or weren't
+-- ---- what holds when the texts were appended, or weren't
 
 abbrev texts : (g : Over) (c : After-count-self-inside g) → List (List ℕ)
 texts g c = with_rest c.as_slice.result.now c.given-rest.result.now
@@ -103,7 +103,7 @@ mid_texts g c = subst (λ (x : List (List ℕ)). AreTextsFor (records_in_texts (
 lawful_in : (g : Over) (c : After-count-self-inside g) → IsLawful (node_setting g.S.Scheme.verifies c.args.self.now) (records_in_texts (take c.self.inside.read c.self.inside.journal.records) ++ c.args.new)
 lawful_in g c = subst (λ (K : List Record). IsLawful (node_setting g.S.Scheme.verifies c.args.self.now) (K ++ c.args.new)) (sym (ap (λ (v : Holding g.row.D.Denot). v.records) c.self.view_is)) c.requires.lawful
 
--- what is told of the call, whatever comes of it
+-- what is said of the call, whatever comes of it
 written : (g : Over) (c : After-count-self-inside g) {failed nothing : Type 0} (K : List Record) (me : ℕ) (listed : List RosterEntry) (unread : List (List ℕ)) → AreTextsFor K c.append_all-written.new.self.records → (failed ↔ IsErrOf c.append_all-written.result refused.Disk)
     → ((c.append_all-written.new.self.is_stopped ≡ true) ↔ failed) → (nothing → ⊥) → ((failed → ⊥) → (K ≡ records_in_texts (take c.self.inside.read c.self.inside.journal.records) ++ c.args.new) × (c.append_all-written.result ≡ Ok tt))
     → IsJournalCall (journal_on g.D.Disk) c.args.self.now (store_over me listed K unread c.append_all-written.new.self) c.args.new ⊥ failed nothing

@@ -8,7 +8,7 @@ use Rattle.depot_readings.specs.Lacking.{is_next, hashes_behind}
 use Rattle.depot_readings.proofs.HashesOfNames.{all_hashes, first_hashes, hash_found, hash_left, hashes_are}
 use Rattle.depot_readings.proofs.named.NamedValues.first_hashes.Goals as goal
 
--- what a test told of the hashes so far is told of these
+-- what a test said of the hashes so far holds of these
 told : (found seen : List (List ℕ)) (e : NamedValue × Bool) (tells : Bool) → seen ≡ found → tells ≡ is_next seen e → is_next found e ≡ tells
 told found seen e tells same is = ap (λ (hs : List (List ℕ)). is_next hs e) (sym same) ∙ sym is
 
@@ -40,7 +40,7 @@ loop-name-preserved c =
       few = omega (arith, c.loop-name.invariant.few, c.if-as_slice.false, ap length c.as_slice-in-loop-name.ensures, ap length c.in_ok-push.ensures.ok, length-append c.loop-name.found (e.0.hash ∷ []));
     }
 
--- all were gone through
+-- all were scanned
 pub returns : goal.returns
 returns c = λ ns are.
     let none = rest_all deref_pair c.loop-name.name-iterator c.next.new.self c.next.result c.in-None.is c.next.ensures.steps in

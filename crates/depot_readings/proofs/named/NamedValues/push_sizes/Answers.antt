@@ -9,7 +9,7 @@ use Rattle.depot_readings.proofs.named.NamedValues.push_sizes.Goals as goal
 pub range-name-items-requires : goal.range-name-items-requires
 range-name-items-requires c = runs_forward c.args.hash.now _ _ c.new.ensures.start c.new.ensures.end
 
--- a name that room was found for alone
+-- a name that only has memory reserved
 pub loop-name-preserved-then-not-mark : goal.loop-name-preserved-then-not-mark
 loop-name-preserved-then-not-mark c =
     let e = deref_pair (c.in-Some.name, c.in-Some.mark) in
@@ -24,7 +24,7 @@ loop-name-preserved c =
     subst (λ (ns : List ℕ). ns ++ sizes_in c.next.new.self ≡ c.args.found.now.items ++ sizes_in (names_between c.args.hash.now c.args.self.now.marks.entries)) (sym c.in_ok-push.ensures.items)
     (size_found c.loop-name.found.items e c.loop-name.name-iterator c.next.new.self _ next c.if-not-mark.false c.loop-name.invariant)
 
--- all were gone through
+-- all were scanned
 pub returns-clause-kept : goal.returns-clause-kept
 returns-clause-kept c = λ size on.
     let none = rest_all deref_pair c.loop-name.name-iterator c.next.new.self c.next.result c.in-None.is c.next.ensures.steps in

@@ -25,7 +25,7 @@ overflow_add-self-2 g c =
     let light = lawful_is_light _ _ (lawful_inside g.S.Scheme.verifies _ _ _ _ c.self.view_is c.new.view_is c.requires.lawful) in
     omega (arith, light, bytes_more J new, c.self.invariant.1.size, c.new.invariant.sum)
 
--- no memory was found
+-- memory ran out
 pub invariant_of-self : goal.invariant_of-self
 invariant_of-self g c =
     let J : List Record = c.self.inside.records.items in (
