@@ -31,11 +31,11 @@ use Rattle.depot_model.specs.World.{Shown}
 use Rattle.depot_lines.specs.declared.line_fault.LineFault.{LineFault}
 use Rattle.depot_lines.specs.declared.line_fault.LineFault.TheVariants as line_fault
 
--- a text behind a space
+-- a text after a space
 abbrev pub spaced : List ℕ → List ℕ
 spaced text = 32 ∷ text
 
--- a name, and a number behind it
+-- a name, and a number after it
 abbrev pub text_of_number : List ℕ → ℕ → List ℕ
 text_of_number name n = name ++ spaced (decimal n)
 
@@ -137,12 +137,12 @@ name_of_more false = codes "whole"
 abbrev pub text_of_counts : Counts → List ℕ
 text_of_counts c = text_of_number (codes "proofs") c.proofs ++ spaced (text_of_number (codes "vouchers") c.vouchers) ++ spaced (text_of_number (codes "updates") c.updates) ++ spaced (text_of_number (codes "values") c.values)
 
--- why a feed was closed: where no frame stands, or what is full
+-- why a feed was closed: at an offset there is no frame, or what is full
 abbrev pub text_of_closing : Closing → List ℕ
 text_of_closing (ill_formed at) = text_of_number (codes "ill-formed") at
 text_of_closing (out_of_room f) = text_of_full f
 
--- how a stream ended; that its feed was closed is said where there are no words for why
+-- how a stream ended; where there are no words for why its feed was closed, only that it was
 abbrev pub text_of_ending : Ending → List ℕ
 text_of_ending ending.Closed = codes "closed"
 text_of_ending ending.Whole = codes "whole"
@@ -173,11 +173,11 @@ text_of_refused r = spaced (text_of_number (codes "refused") r.frame ++ spaced (
 abbrev pub text_of_traced : ℕ → ℕ → List ℕ
 text_of_traced records reads = text_of_number (codes "records") records ++ spaced (text_of_number (codes "reads") reads)
 
--- the place of a node's record or read behind a space: `NODE PLACE`
+-- the place of a node's record or read after a space: `NODE PLACE`
 abbrev pub text_of_spot : ℕ → ℕ → List ℕ
 text_of_spot node place = spaced (text_of_number (decimal node) place)
 
--- an operation behind a space: `wNODE.PLACE` of a write, `rNODE.PLACE` of a read
+-- an operation after a space: `wNODE.PLACE` of a write, `rNODE.PLACE` of a read
 abbrev pub text_of_op : Op → List ℕ
 text_of_op (the_write node place) = codes " w" ++ decimal node ++ codes "." ++ decimal place
 text_of_op (the_read node place) = codes " r" ++ decimal node ++ codes "." ++ decimal place
@@ -204,7 +204,7 @@ text_of_empty = codes "Empty"
 abbrev pub text_of_many : ℕ → List ℕ
 text_of_many n = text_of_number (codes "Many") n
 
--- why a text isn't opened as a checkpoint's, whatever the roster and the id; nothing of one that is
+-- why a text isn't opened as a checkpoint's, whatever the roster and the id; nothing for one that is
 abbrev pub text_of_unopened : Opened → List ℕ
 text_of_unopened (ill_at at) = text_of_number (codes "IllFormed") at
 text_of_unopened (of_roster given) = codes "OtherRoster"
@@ -215,7 +215,7 @@ text_of_unopened (opened ids) = []
 abbrev pub text_of_unsigned : ℕ → List ℕ
 text_of_unsigned node = text_of_number (codes "Unsigned") node
 
--- how many updates a reader keeps of how many that were accepted, the trimmed ones too
+-- how many updates a reader keeps, and how many were accepted, the trimmed ones too
 abbrev pub text_of_kept : ℕ → ℕ → List ℕ
 text_of_kept left all = text_of_number (codes "kept") left ++ spaced (text_of_number (codes "of") all)
 
@@ -225,12 +225,12 @@ text_of_trim (unopened why) = text_of_unopened why
 text_of_trim (unsigned node) = text_of_unsigned node
 text_of_trim (reading R) = text_of_kept (length (kept R)) (length (accepted R.journal))
 
--- what is full, behind a space, where something is
+-- what is full, after a space, where something is
 abbrev pub text_where_full : Option Full → List ℕ
 text_where_full None = []
 text_where_full (Some f) = spaced (text_of_full f)
 
--- how many frames of a stream were new, known and refused, and how many stood below; and what was full, where one found no room
+-- how many frames of a stream were new, known, refused and below; and what was full, if one found no room
 unfoldable pub text_of_reader_feed : ReaderFeed → List ℕ
 text_of_reader_feed s =
     text_of_number (codes "accepted") s.accepted ++ spaced (text_of_number (codes "known") s.known) ++ spaced (text_of_number (codes "refused") s.refused) ++ spaced (text_of_number (codes "below") s.below) ++ text_where_full s.full

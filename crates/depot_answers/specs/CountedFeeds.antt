@@ -5,7 +5,7 @@ use Rattle.depot_model.specs.ReaderFeeds.{ReaderFeed}
 use Rattle.depot_answers.specs.AnswerTexts.{text_of_reader_feed}
 use Rattle.depot_answers.specs.declared.reader_answers.ReaderCounts.{ReaderCounts}
 
--- to what stood there, what is printed of each feed is added that has these counts, and in which this was full
+-- what is printed of a feed with these counts, and with this full, is appended to what was there
 abbrev pub TellsFeed : ReaderCounts → Option Full → (old new : List ℕ) → Type 0
 TellsFeed counts met old new =
     (s : ReaderFeed) → s.accepted ≡ counts.accepted → s.known ≡ counts.known → s.refused ≡ counts.refused → s.below ≡ counts.below → s.full ≡ met → new ≡ old ++ text_of_reader_feed s

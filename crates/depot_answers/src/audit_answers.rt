@@ -9,7 +9,7 @@ use depot_base::{Bytes, Memory, NodeId};
 use depot_traces::{Finding, Op};
 use std::alloc::Global;
 
-/// How many records and reads a trace has. After Memory a front of that may have been added.
+/// Appends how many records and reads a trace has. On `Memory` a prefix of it may have been appended.
 #[tactic(auto, using(depot_base::proofs::Writing::texts))]
 pub fn traced(alloc: Global, out: &mut Bytes, records: u32, reads: u32) -> Result<(), Memory>
     ensures { OnOk result (out.new ≡ out.old ++ text_of_traced records reads) }
@@ -18,7 +18,7 @@ pub fn traced(alloc: Global, out: &mut Bytes, records: u32, reads: u32) -> Resul
     spaced_number(alloc, out, "reads", reads as u64)
 }
 
-/// The place of a node's record or read, behind a space: `NODE PLACE`.
+/// The place of a node's record or read, after a space: `NODE PLACE`.
 #[tactic(auto, using(depot_base::proofs::Writing::texts))]
 fn spot(alloc: Global, out: &mut Bytes, node: NodeId, place: u32) -> Result<(), Memory>
     ensures { OnOk result (out.new ≡ out.old ++ text_of_spot node place) }
@@ -28,7 +28,7 @@ fn spot(alloc: Global, out: &mut Bytes, node: NodeId, place: u32) -> Result<(), 
     text(out, words.as_str())
 }
 
-/// An operation behind a space: `wNODE.PLACE` of a write, `rNODE.PLACE` of a read.
+/// An operation after a space: `wNODE.PLACE` of a write, `rNODE.PLACE` of a read.
 #[tactic(auto, using(depot_base::proofs::Writing::texts))]
 fn operation(alloc: Global, out: &mut Bytes, op: Op) -> Result<(), Memory>
     ensures { OnOk result (out.new ≡ out.old ++ text_of_op (op_of_trace op)) }
@@ -47,7 +47,7 @@ fn operation(alloc: Global, out: &mut Bytes, op: Op) -> Result<(), Memory>
     }
 }
 
-/// What an audit finds, behind a name: one operation.
+/// What an audit finds, after a name: one operation.
 #[tactic(auto, using(depot_base::proofs::Writing::texts))]
 fn one_op(alloc: Global, out: &mut Bytes, name: &str, op: Op) -> Result<(), Memory>
     ensures { OnOk result (out.new ≡ out.old ++ (name.now ++ text_of_op (op_of_trace op))) }
@@ -81,7 +81,8 @@ fn one_spot(
     spot(alloc, out, node, place)
 }
 
-/// What an audit finds: `yes`, or what fails first and where. After Memory a front of that may have been added.
+/// Appends what an audit finds: `yes`, or what fails first and where. On `Memory` a prefix of it may have been
+/// appended.
 #[tactic(auto, using(depot_base::proofs::Writing::texts), unfolding(crate::specs::AnswerTexts::text_of_finding))]
 pub fn finding(alloc: Global, out: &mut Bytes, found: Finding) -> Result<(), Memory>
     ensures { OnOk result (out.new ≡ out.old ++ text_of_finding (finding_of found)) }

@@ -8,8 +8,8 @@ use depot_lines::spelling::name_of_kind;
 use depot_model::Refusal;
 use std::alloc::Global;
 
-/// A failed check: its number, its name, and what it carries where that is a number or a kind. After Memory a front of that may have
-/// been added.
+/// Appends a failed check: its number, its name, and what it carries where that is a number or a kind. On `Memory` a
+/// prefix of it may have been appended.
 #[tactic(auto, unfolding(crate::specs::AnswerTexts::text_of_check))]
 pub fn check(alloc: Global, out: &mut Bytes, check: &Check) -> Result<(), Memory>
     ensures { OnOk result (out.new ≡ out.old ++ text_of_check check.now) }
@@ -34,8 +34,8 @@ pub fn check(alloc: Global, out: &mut Bytes, check: &Check) -> Result<(), Memory
     }
 }
 
-/// A refused frame, for a line of its own: a space, the frame's number and the check. After Memory a front of that may have been
-/// added.
+/// Appends a refused frame, for a line of its own: a space, the frame's number and the check. On `Memory` a prefix of
+/// it may have been appended.
 #[tactic(auto, using(depot_base::proofs::Writing::texts))]
 pub fn refusal(alloc: Global, out: &mut Bytes, refusal: &Refusal) -> Result<(), Memory>
     ensures { OnOk result (out.new ≡ out.old ++ text_of_refused refusal.now) }

@@ -19,8 +19,8 @@ pub enum Closing {
     Full(Full),
 }
 
-/// Of a hello, how many nodes are convicted, and how many leaves and wanted values are named. After Memory a front of that may have
-/// been added.
+/// Appends how many nodes a hello lists as convicted, and how many leaves and wanted values it names. On `Memory` a
+/// prefix of it may have been appended.
 #[tactic(auto, using(depot_base::proofs::Writing::texts))]
 pub fn named(alloc: Global, out: &mut Bytes, hello: &Hello) -> Result<(), Memory>
     ensures { OnOk result (out.new ≡ out.old ++ text_of_named hello.now) }
@@ -40,7 +40,8 @@ fn name_of_more(more: bool) -> &'static str
     if more { "more" } else { "whole" }
 }
 
-/// How many frames of each sort a bundle has, and whether there is more. After Memory a front of that may have been added.
+/// Appends how many frames of each sort a bundle has, and whether there is more. On `Memory` a prefix of it may have
+/// been appended.
 #[tactic(auto, using(depot_base::proofs::Writing::texts))]
 pub fn counts(alloc: Global, out: &mut Bytes, counts: &Counts, more: bool) -> Result<(), Memory>
     ensures { OnOk result (out.new ≡ out.old ++ (text_of_counts counts.now ++ spaced (name_of_more more))) }
@@ -76,9 +77,9 @@ fn end(alloc: Global, out: &mut Bytes, closing: Option<Closing>, how: Ending) ->
     }
 }
 
-/// What became of the frames of a stream: how many were new, known and refused, and how the stream ended. `closing` is why the last
-/// piece closed its feed: where `FeedError::IllFormed` or `Full` answered it. Where another error did it is None, and the line ends in
-/// `closed`. After Memory a front of that may have been added.
+/// Appends what became of the frames of a stream: how many were new, known and refused, and how the stream ended.
+/// `closing` is why the last piece closed its feed: `FeedError::IllFormed` or `Full`. For other errors it is None, and
+/// the line ends in `closed`. On `Memory` a prefix of it may have been appended.
 #[tactic(auto, using(depot_base::proofs::Writing::texts))]
 pub fn report(
     alloc: Global,

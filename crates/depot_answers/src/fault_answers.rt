@@ -25,7 +25,7 @@ fn name_of(fault: LineFault) -> &'static str
     }
 }
 
-/// A faulty line's number, from 1, and its first fault. After Memory a front of that may have been added.
+/// Appends a faulty line's number, from 1, and its first fault. On `Memory` a prefix of it may have been appended.
 #[tactic(auto, using(depot_base::proofs::Writing::texts))]
 pub fn faulty_line(
     alloc: Global,

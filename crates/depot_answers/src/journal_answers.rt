@@ -9,7 +9,8 @@ use crate::words::{numbered, text};
 use depot_base::{Bytes, Memory, Update};
 use std::alloc::Global;
 
-/// The seq and the clock of the update that a put made, `SEQ/CLOCK`. After Memory a front of that may have been added.
+/// Appends the seq and the clock of the update that a put made, `SEQ/CLOCK`. On `Memory` a prefix of it may have been
+/// appended.
 pub fn put(alloc: Global, out: &mut Bytes, seq: u32, clock: u64) -> Result<(), Memory>
     ensures { OnOk result ((u : Update) → u.seq ≡ seq → u.clock ≡ clock → out.new ≡ out.old ++ text_of_put u) }
 {
@@ -28,7 +29,7 @@ pub enum Seen<'a> {
     Gone,
 }
 
-/// What stands behind a write: `=` and the value in lower-case hexadecimal, `=?` where it isn't held, or `!` of a deletion.
+/// What follows a write: `=` and the value in lower-case hexadecimal, `=?` where it isn't held, or `!` of a deletion.
 #[tactic(auto, using(depot_base::proofs::Writing::texts))]
 fn sighting(alloc: Global, out: &mut Bytes, seen: Seen<'_>) -> Result<(), Memory>
     ensures { OnOk result (out.new ≡ out.old ++ text_of_sighting (sighting_of_seen seen.entry)) }
@@ -44,8 +45,8 @@ fn sighting(alloc: Global, out: &mut Bytes, seen: Seen<'_>) -> Result<(), Memory
     }
 }
 
-/// A write that a read shows, and what it shows of it: `WRITER/SEQ/CLOCK=VALUE`, or `WRITER/SEQ/CLOCK!` of a deletion. After Memory a
-/// front of that may have been added.
+/// Appends a write that a read shows, and what it shows of it: `WRITER/SEQ/CLOCK=VALUE`, or `WRITER/SEQ/CLOCK!` of a
+/// deletion. On `Memory` a prefix of it may have been appended.
 #[tactic(auto, using(depot_base::proofs::Writing::texts))]
 pub fn write(alloc: Global, out: &mut Bytes, update: &Update, seen: Seen<'_>) -> Result<(), Memory>
     ensures { OnOk result (out.new ≡ out.old ++ text_of_write (record { update = update.now; seen = sighting_of_seen seen.entry })) }
@@ -58,7 +59,7 @@ pub fn write(alloc: Global, out: &mut Bytes, update: &Update, seen: Seen<'_>) ->
     sighting(alloc, out, seen)
 }
 
-/// How many records a journal has. After Memory a front of that may have been added.
+/// Appends how many records a journal has. On `Memory` a prefix of it may have been appended.
 pub fn records(alloc: Global, out: &mut Bytes, count: u32) -> Result<(), Memory>
     ensures { OnOk result ((J : List Record) → length J ≡ count → out.new ≡ out.old ++ text_of_records J) }
 {

@@ -18,7 +18,7 @@ fn name_of_half(half: Half) -> &'static str
     }
 }
 
-/// The node and the kind of a verdict. After Memory a front of that may have been added.
+/// Appends the node and the kind of a verdict. On `Memory` a prefix of it may have been appended.
 #[tactic(auto, using(depot_base::proofs::Writing::texts))]
 pub fn verdict(alloc: Global, out: &mut Bytes, verdict: &Verdict) -> Result<(), Memory>
     ensures { OnOk result (out.new ≡ out.old ++ text_of_verdict verdict.now) }
@@ -40,7 +40,8 @@ fn two_writers(alloc: Global, out: &mut Bytes, first: NodeId, second: NodeId) ->
     text(out, words.as_str())
 }
 
-/// A failed point, and what it carries; nothing for Memory. After Memory a front of that may have been added.
+/// Appends a failed point, and what it carries; nothing for `Memory`. On `Memory` a prefix of it may have been
+/// appended.
 pub fn point(alloc: Global, out: &mut Bytes, point: &JudgeError) -> Result<(), Memory>
     ensures { OnOk result (out.new ≡ out.old ++ text_of_point point.now) }
 {
@@ -60,7 +61,7 @@ pub fn point(alloc: Global, out: &mut Bytes, point: &JudgeError) -> Result<(), M
     }
 }
 
-/// Where a roster goes wrong; nothing for Memory. After Memory a front of that may have been added.
+/// Appends where a roster goes wrong; nothing for `Memory`. On `Memory` a prefix of it may have been appended.
 pub fn roster_error(alloc: Global, out: &mut Bytes, error: &RosterError) -> Result<(), Memory>
     ensures { OnOk result (out.new ≡ out.old ++ text_of_roster_error error.now) }
 {

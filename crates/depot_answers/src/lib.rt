@@ -1,14 +1,14 @@
-//! What is printed of answers: of a put and a read, of a refusal, of what two nodes exchanged, of a judgement.
+//! The text that is printed of each answer: of a put and a read, a refusal, an exchange of two nodes, a judgement.
 //!
-//! Each function adds one text at the end of the bytes so far: the one that `specs/AnswerTexts.antt` or `depot_model/specs/Lines.antt`
-//! gives for that answer, without LF. Where no memory is found, a front of it may have been added.
+//! Each function appends one text to the bytes so far: the one that `specs/AnswerTexts.antt` or
+//! `depot_model/specs/Lines.antt` defines for that answer, without LF. On `Memory` a prefix of it may have been
+//! appended.
 //!
-//! `checks` has failed checks and refusals, `limit_answers` the limits that a node meets, `journal_answers` what is put, read and
-//! counted of a journal, `exchange_answers` hellos, bundles and streams, `receipt_answers` why none is given and whether a put is settled,
-//! `reader_answers` checkpoints and the readers made by them, `judgement_answers` rosters and proofs, `audit_answers` what an audit finds,
-//! `record_faults` faulty records, `fault_answers` faulty lines, and `words` what these are made of.
-//!
-//! Nothing here reads, decides or prints.
+//! `checks` has failed checks and refusals, `limit_answers` the limits that a node meets, `journal_answers` puts, reads
+//! and counts of a journal, `exchange_answers` hellos, bundles and streams, `receipt_answers` why no receipt is given
+//! and whether a put is settled, `reader_answers` checkpoints and their readers, `judgement_answers` rosters and
+//! proofs, `audit_answers` what an audit finds, `record_faults` faulty records, `fault_answers` faulty lines, and
+//! `words` what these are made of.
 #![tactic(auto)]
 
 mod audit_answers;

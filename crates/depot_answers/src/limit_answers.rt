@@ -18,14 +18,15 @@ fn name_of_full(what: FullOf) -> &'static str
     }
 }
 
-/// What is full, and the number now. After Memory a front of that may have been added.
+/// Appends what is full, and the number now. On `Memory` a prefix of it may have been appended.
 pub fn full(alloc: Global, out: &mut Bytes, full: &Full) -> Result<(), Memory>
     ensures { OnOk result (out.new ≡ out.old ++ text_of_full full.now) }
 {
     numbered(alloc, out, name_of_full(full.what), full.number as u64)
 }
 
-/// So many own statements were made, and too few leaves are left. After Memory a front of that may have been added.
+/// Appends that so many own statements were made, and too few leaves are left. On `Memory` a prefix of it may have been
+/// appended.
 #[tactic(auto, unfolding(crate::specs::AnswerTexts::text_of_limit))]
 pub fn spent(alloc: Global, out: &mut Bytes, count: u32) -> Result<(), Memory>
     ensures { OnOk result (out.new ≡ out.old ++ text_of_limit (spent count)) }
@@ -33,7 +34,8 @@ pub fn spent(alloc: Global, out: &mut Bytes, count: u32) -> Result<(), Memory>
     numbered(alloc, out, "Spent", count as u64)
 }
 
-/// An update would have so many entries, more than 1,024. After Memory a front of that may have been added.
+/// Appends that an update would have so many entries, more than 1,024. On `Memory` a prefix of it may have been
+/// appended.
 #[tactic(auto, unfolding(crate::specs::AnswerTexts::text_of_limit))]
 pub fn tips(alloc: Global, out: &mut Bytes, count: u32) -> Result<(), Memory>
     ensures { OnOk result (out.new ≡ out.old ++ text_of_limit (tips count)) }
@@ -41,7 +43,7 @@ pub fn tips(alloc: Global, out: &mut Bytes, count: u32) -> Result<(), Memory>
     numbered(alloc, out, "Tips", count as u64)
 }
 
-/// An update's id isn't fresh, whatever the id. After Memory a front of that may have been added.
+/// Appends that an update's id isn't fresh, whatever the id. On `Memory` a prefix of it may have been appended.
 #[tactic(auto, unfolding(crate::specs::AnswerTexts::text_of_limit))]
 pub fn collides(out: &mut Bytes) -> Result<(), Memory>
     ensures { OnOk result ((id : List ℕ) → out.new ≡ out.old ++ text_of_limit (collides id)) }

@@ -8,28 +8,31 @@ use crate::words::{numbered, numbered_node, spaced_number, text};
 use depot_base::{Bytes, Full, Memory, NodeId};
 use std::alloc::Global;
 
-/// No checkpoint is made, since nothing was accepted. After Memory a front of that may have been added.
+/// Appends that no checkpoint is made, since nothing was accepted. On `Memory` a prefix of it may have been appended.
 pub fn empty(out: &mut Bytes) -> Result<(), Memory>
     ensures { OnOk result (out.new ≡ out.old ++ text_of_empty) }
 {
     text(out, "Empty")
 }
 
-/// No checkpoint is made, since there are so many leaves, more than 1,024. After Memory a front of that may have been added.
+/// Appends that no checkpoint is made, since there are so many leaves, more than 1,024. On `Memory` a prefix of it may
+/// have been appended.
 pub fn many(alloc: Global, out: &mut Bytes, count: u32) -> Result<(), Memory>
     ensures { OnOk result (out.new ≡ out.old ++ text_of_many count) }
 {
     numbered(alloc, out, "Many", count as u64)
 }
 
-/// The first node of the roster that didn't sign a checkpoint. After Memory a front of that may have been added.
+/// Appends the first node of the roster that didn't sign a checkpoint. On `Memory` a prefix of it may have been
+/// appended.
 pub fn unsigned(alloc: Global, out: &mut Bytes, node: NodeId) -> Result<(), Memory>
     ensures { OnOk result (out.new ≡ out.old ++ text_of_unsigned node) }
 {
     numbered_node(alloc, out, "Unsigned", node)
 }
 
-/// How many updates a reader keeps of how many that were accepted. After Memory a front of that may have been added.
+/// Appends how many updates a reader keeps of how many that were accepted. On `Memory` a prefix of it may have been
+/// appended.
 #[tactic(auto, using(depot_base::proofs::Writing::texts))]
 pub fn kept(alloc: Global, out: &mut Bytes, left: u32, all: u32) -> Result<(), Memory>
     ensures { OnOk result (out.new ≡ out.old ++ text_of_kept left all) }
@@ -38,7 +41,7 @@ pub fn kept(alloc: Global, out: &mut Bytes, left: u32, all: u32) -> Result<(), M
     spaced_number(alloc, out, "of", all as u64)
 }
 
-/// How many frames a reader was given that came to the same.
+/// How many frames that a reader was given had the same outcome.
 #[derive(Clone, Copy, Debug)]
 pub struct ReaderCounts {
     /// Answered New.
@@ -65,8 +68,8 @@ fn full_behind(alloc: Global, out: &mut Bytes, met: Option<Full>) -> Result<(), 
     }
 }
 
-/// How many frames of a stream a reader found new, known, to be refused and below, and what was full where one found no room. After
-/// Memory a front of that may have been added.
+/// Appends how many frames of a stream a reader found new, known, to be refused and below, and what was full where one
+/// found no room. On `Memory` a prefix of it may have been appended.
 #[tactic(auto, using(depot_base::proofs::Writing::texts), unfolding(crate::specs::AnswerTexts::text_of_reader_feed))]
 pub fn reader_feed(
     alloc: Global,

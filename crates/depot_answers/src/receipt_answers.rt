@@ -6,14 +6,14 @@ ghost use Rattle.depot_answers.specs.AnswerTexts.{name_of_settled, text_of_no_re
 use crate::words::text;
 use depot_base::{Bytes, Memory};
 
-/// No accepted update has an id, whatever the id. After Memory a front of that may have been added.
+/// Appends that no accepted update has an id, whatever the id. On `Memory` a prefix of it may have been appended.
 pub fn unknown(out: &mut Bytes) -> Result<(), Memory>
     ensures { OnOk result ((id : List ℕ) → out.new ≡ out.old ++ text_of_no_receipt (unknown id)) }
 {
     text(out, "Unknown")
 }
 
-/// A value of an update isn't held, whatever its id. After Memory a front of that may have been added.
+/// Appends that a value of an update isn't held, whatever its id. On `Memory` a prefix of it may have been appended.
 pub fn no_value(out: &mut Bytes) -> Result<(), Memory>
     ensures { OnOk result ((id : List ℕ) → out.new ≡ out.old ++ text_of_no_receipt (lacks_value id)) }
 {
@@ -27,7 +27,7 @@ fn name_of_settled(settled: bool) -> &'static str
     if settled { "yes" } else { "no" }
 }
 
-/// Whether enough nodes gave receipts: `yes` or `no`. After Memory a front of that may have been added.
+/// Appends whether enough nodes gave receipts: `yes` or `no`. On `Memory` a prefix of it may have been appended.
 pub fn settled(out: &mut Bytes, settled: bool) -> Result<(), Memory>
     ensures { OnOk result (out.new ≡ out.old ++ name_of_settled settled) }
 {

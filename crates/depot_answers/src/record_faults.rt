@@ -8,8 +8,8 @@ use depot_base::{Bytes, Memory};
 use depot_model::RecordFault;
 use std::alloc::Global;
 
-/// What is wrong with a record: the fault's name, and the offset or the check that it carries. After Memory a front of that may have
-/// been added.
+/// Appends what is wrong with a record: the fault's name, and the offset or the check that it carries. On `Memory` a
+/// prefix of it may have been appended.
 pub fn record_fault(alloc: Global, out: &mut Bytes, fault: &RecordFault) -> Result<(), Memory>
     ensures { OnOk result (out.new ≡ out.old ++ text_of_record_fault fault.now) }
 {

@@ -13,7 +13,7 @@ pub(crate) fn text(out: &mut Bytes, text: &str) -> Result<(), Memory>
     out.push_all(text.as_bytes())
 }
 
-/// A name, a space, and a number in decimal. After Memory a front of that may have been added.
+/// Appends a name, a space, and a number in decimal. On `Memory` a prefix of it may have been appended.
 pub fn numbered(alloc: Global, out: &mut Bytes, name: &str, n: u64) -> Result<(), Memory>
     ensures { OnOk result (out.new ≡ out.old ++ text_of_number name.now n) }
 {

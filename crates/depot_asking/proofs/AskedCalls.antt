@@ -1,4 +1,4 @@
--- What answering leaves of a node, from what the call on it leaves.
+-- What answering makes of a node, by what the call makes of it.
 use Rattle.std.proofs.Common.{◌≡◌, ◌<◌, ℕ, Bool, true, false, List, [], ◌++◌, Result, Ok, Err, refl, sym, ap, subst, ◌∙◌, arith, inl, inr, append-nil}
 use Rattle.depot_base.specs.declared.record.Record.{Record}
 use Rattle.depot_bounds.specs.SendCalls.{IsSendCall, sent_by}
@@ -35,7 +35,7 @@ stable_of g n s = λ told. subst (λ (b : Bool). LeavesAll (g.records n) b (g.ma
 
 -- ---- a call that may append
 
--- the call, told of what is answered in place of a reply
+-- the call, by what is answered instead of a reply
 asked_call : {N : Type 0} (g : Ghosts N) (old new : N) (then appends : List Record) {stopped was_failed nothing : Type 0} (failed : Type 0) → IsServing g old → then ≡ g.records old ++ appends
     → IsNodeCall g old new appends stopped was_failed nothing → LastsIn g was_failed old new → (was_failed → failed) → (failed → was_failed) → IsAskedCall g old new then failed
 asked_call g old new then appends {was_failed = was_failed} failed running brings node lasts so back = record {

@@ -1,4 +1,4 @@
--- A text by which something is asked goes wrong nowhere.
+-- A text that asks something has no fault.
 use Rattle.std.proofs.Common.{◌≡◌, ℕ, Bool, true, false, List, Option, None, is_some, option_map, sym, ap, ◌∙◌, if◌then◌else◌}
 use Rattle.depot_bounds.proofs.SendTextLaws.{sending_text_lawful}
 use Rattle.depot_bounds.specs.SendTexts.{sending_of_body}

@@ -1,4 +1,4 @@
--- What comes of what is asked of a node, and what answering it leaves of the node.
+-- The outcome of what a node is asked, and what answering makes of the node.
 use Rattle.std.specs.Prelude.{◌≡◌, List, ◌++◌, ℕ, false, IsTrue, Result, Ok, Err}
 use Rattle.depot_base.specs.Faults.{HasCause}
 use Rattle.depot_base.specs.declared.record.Record.{Record}
@@ -27,7 +27,7 @@ pub record Came : Type 0 where
 abbrev pub came_to : Served → Came
 came_to s = record { journal = s.journal; text = text_of_reply s.reply }
 
--- What is asked comes to, by where the node stands, how it signs and what its journal is. A question changes nothing.
+-- The outcome of what is asked, by the node's setting, its signer and its journal. A question changes nothing.
 abbrev pub came_by : Setting → Signs → List Record → Asked → Came
 came_by here sign J (asked.Request r) = came_to (served here sign J r)
 came_by here sign J (asked.Question q) = record { journal = J; text = text_of_answer (told_of_question here J q) }
@@ -35,18 +35,20 @@ came_by here sign J (asked.Sending s) = came_to (sent_by here sign J s)
 
 -- ---- one call
 
--- A node runs, and a stop leaves its records.
+-- A node runs, and each crash image has its records.
 pub record IsServing {N : Type 0} (g : Ghosts N) (node : N) : Type 0 where
   pub runs : g.stopped node ≡ false
   pub stable : IsTrue (g.tells node) → LeavesAll (g.records node) false (g.may_leave node)
 
--- The message that answers, and the journal then, are what it comes to. Of an error the call's clause says what stands.
+-- The message that answers and the journal afterwards are the defined outcome. For an error, the call's clause says
+-- what holds.
 abbrev pub AnswersAsked : Setting → Signs → List Record → Asked → Result (List ℕ) Halt → List Record → Type 0
 AnswersAsked here sign J a (Ok text) then = came_by here sign J a ≡ record { journal = then; text = text }
 AnswersAsked here sign J a (Err e) then = Unit {0}
 
--- The call was to append what is brought: with these the journal is `then`. A stop at any moment of it leaves the records from before and a front of
--- those; after it, all records of the node. It runs on unless its disk failed, which is answered where its count rose.
+-- The call was to append these records: with them the journal is `then`. Every crash image of it has the records from
+-- before and a prefix of those; every later one all records of the node. The node runs on unless its disk failed, which
+-- is answered if its count rose.
 pub record IsAskedCall {N : Type 0} (g : Ghosts N) (old new : N) (then : List Record) (failed : Type 0) : Type 0 where
   pub same : IsSameNode g old new
   pub appends : List Record

@@ -1,4 +1,4 @@
--- What may be asked by the body of a message.
+-- What the body of a message may ask.
 use Rattle.std.specs.Prelude.{◌≡◌, ℕ, List, [], ◌∷◌, Bool, true, false, ◌&&◌, nat_le, is_some, Option, Some, None, option_map, Result, Ok, Err, if◌then◌else◌}
 use Rattle.depot_base.specs.declared.fault.DecodeError.{DecodeError}
 use Rattle.depot_base.specs.declared.fault.DecodeError.TheVariants as errors
@@ -16,7 +16,7 @@ abbrev pub begins_within : ℕ → ℕ → List ℕ → Bool
 begins_within least most [] = false
 begins_within least most (kind ∷ fields) = nat_le least kind && nat_le kind most
 
--- a question's kinds are 16 to 22, and those of what is to be sent 32 and 33; any other body is to be a request's
+-- the kinds of questions are 16 to 22, and those of requests to send 32 and 33; any other body has to be a request's
 abbrev pub begins_question : List ℕ → Bool
 begins_question body = begins_within 16 22 body
 
@@ -25,7 +25,7 @@ begins_sending body = begins_within 32 33 body
 
 -- ---- what is asked
 
--- What is asked by a body, if it is such a text: its first byte says of which sort it is to be.
+-- What a body asks, if it is such a text: its first byte says of which sort it has to be.
 abbrev pub asked_of_body : List ℕ → Option Asked
 asked_of_body body =
     if begins_question body then option_map (λ q. asked.Question q) (question_of_body body)
@@ -36,7 +36,7 @@ asked_of_body body =
 abbrev pub is_asked : List ℕ → Bool
 is_asked body = is_some (asked_of_body body)
 
--- as a text of this sort the bytes first go wrong at this offset
+-- as a text of this sort the bytes have their first fault at this offset
 abbrev pub IsFaultBy : (is_question is_sending : Bool) → List ℕ → ℕ → Type 0
 IsFaultBy true is_sending body at = question_text.fault body at
 IsFaultBy false true body at = sending_text.fault body at
@@ -51,7 +51,7 @@ abbrev pub MayBeAsked : Asked → Type 0
 MayBeAsked (asked.Request r) = IsRequest r
 MayBeAsked other = Unit {0}
 
--- What a reader answers: what is asked, or where the body goes wrong, unless memory ran out.
+-- What a reader answers: what is asked, or where the body's first fault is, unless memory ran out.
 abbrev pub FindsAsked : List ℕ → Result Asked DecodeError → Type 0
 FindsAsked body (Ok a) = asked_of_body body ≡ Some a
 FindsAsked body (Err errors.Memory) = Unit {0}

@@ -1,4 +1,4 @@
-//! Has a node do or tell what is asked, and makes the message that answers.
+//! Has a node carry out or answer what is asked, and makes the message that answers.
 ghost use Rattle.std.specs.Prelude.{◌≡◌, IsErrOf};
 ghost use Rattle.depot_requests.specs.Requests.{IsRequest};
 ghost use Rattle.depot_asking.specs.Answering.{AnswersAsked, IsAskedCall, IsServing, came_by};
@@ -51,7 +51,8 @@ fn send_to<N: LocalNode>(alloc: Global, node: &mut N, sending: &SendRequest) -> 
     Ok(encode_reply(alloc, &reply)?)
 }
 
-/// Has a node that runs do or tell what is asked, and gives the message that answers. `Memory` may come where a request was carried out.
+/// Has a running node carry out or answer what is asked, and returns the message that answers. `Memory` may be returned
+/// after a request was carried out.
 pub fn answer<N: LocalNode>(alloc: Global, node: &mut N, asked: Asked) -> Result<Bytes, Halt>
     requires running { IsServing N.NodeState node.old }
     requires asked { MayBeAsked asked }

@@ -48,8 +48,9 @@ fn request_in(alloc: Global, body: &[u8]) -> Result<Asked, DecodeError>
     Ok(Asked::Request(decode_request(alloc, body)?))
 }
 
-/// What is asked by this body. `IllFormed` comes exactly where it is no text of the sort that its first byte says, with the offset of the first fault, 0
-/// of no bytes and of an unknown kind. A node may be asked for each that is given.
+/// Decodes what a body asks. `IllFormed` is returned exactly when it is no text of the sort that its first byte says,
+/// with the offset of the first fault, 0 for no bytes and for an unknown kind. A node may be asked whatever is
+/// returned.
 pub fn decode_asked(alloc: Global, body: &[u8]) -> Result<Asked, DecodeError>
     ensures finds { FindsAsked body.now result }
     ensures may_be_asked { IfOk result MayBeAsked }

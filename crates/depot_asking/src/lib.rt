@@ -1,7 +1,7 @@
-//! What may be asked of a node over its input: that it does something, that it tells what it knows, or that it sends within bounds.
+//! What a node may be asked over its input: to do something, to answer what it knows, or to send within bounds.
 //!
-//! `decode_asked` reads the body of a message. Its first byte says of which sort it is, so it is read in one way. `answer` has a `LocalNode` do or tell
-//! it, and gives the message that answers.
+//! `decode_asked` reads the body of a message. Its first byte says of which sort it is, so it is read in one way.
+//! `answer` has a `LocalNode` carry it out or answer it, and returns the message that answers.
 #![tactic(auto)]
 
 mod answering;

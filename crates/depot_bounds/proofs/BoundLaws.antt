@@ -100,7 +100,7 @@ unbounded_is_bundle here sign J text =
     answers_alike here (λ h. answer_with here sign J h (bounded_sent here sign J h unbounded) (leaves_some here sign J h unbounded)) (answer_for here sign J text) (answer_is here sign J text) (whole hello (record { at = 0; rest = text }))
     ∙ sym (answered_by here sign J text)
 
--- ---- fronts
+-- ---- prefixes
 
 no_more : {X : Type 0} (xs : List X) → length xs ≤ 0 → xs ≡ []
 no_more [] short = refl

@@ -1,4 +1,4 @@
--- Parcel by parcel what bounds admit is chosen.
+-- Parcel by parcel, what the bounds admit is chosen.
 use Rattle.std.proofs.Common.{◌≡◌, ℕ, ◌+◌, List, [], ◌∷◌, ◌++◌, length, Bool, true, false, not, cond, ◌&&◌, ◌||◌, leb, eqb, refl, sym, ap, ◌∙◌, arith, length-append, append_assoc}
 use Rattle.std.specs.List.{filter, flat_map}
 use Rattle.std.proofs.lemmas.Bool.{and_parts, leb-true}
@@ -19,7 +19,7 @@ use Rattle.depot_bounds.specs.Choices.{IsChosenFrom, IsParcelWith, IsStoppedAt, 
 use Rattle.depot_bounds.specs.declared.choice.Choice.{Choice}
 use Rattle.depot_bounds.specs.declared.choice.Space.{Space}
 
--- ---- the longest front
+-- ---- the longest prefix
 
 -- with one more that may follow, it goes one further
 pub front_more : {X : Type 0} (may : List X → X → Bool) (before xs : List X) (x : X) → longest_front may before xs ≡ xs → may (before ++ xs) x ≡ true → longest_front may before (xs ++ x ∷ []) ≡ xs ++ x ∷ []

@@ -1,4 +1,4 @@
--- What is chosen one after the other, of candidates and of wanted values.
+-- Candidates and wanted values, chosen one after the other.
 use Rattle.std.proofs.Common.{◌≡◌, ℕ, suc, ◌+◌, List, [], ◌∷◌, ◌++◌, length, take, drop, sum_by, cond, Option, Some, None, refl, sym, ap, subst, ◌∙◌, arith, length-append, append_assoc}
 use Rattle.std.specs.List.{flat_map}
 use Rattle.std.proofs.lemmas.List.{append-nil, take-append-drop}
@@ -22,7 +22,7 @@ one_is : (x next : Parcel) (sent left : List Parcel) → x ∷ [] ≡ sent ++ ne
 one_is x next [] left is = (refl, cc)
 one_is x next (y ∷ sent) left is = absurd (let long : 1 ≡ suc (length sent + suc (length left)) = ap length is ∙ ap suc (length-append sent (next ∷ left)) in omega (arith, long))
 
--- so it has no room behind others
+-- so it has no room after others
 pub cut_alone : (me : ℕ) (J : List Record) (room : Space) (xs : List Parcel) (x : Parcel) (c : Choice) (s : Sending) → IsChosenFrom me J room xs c → IsCutAt me (x ∷ []) s → IsStoppedAt me J room (xs ++ x ∷ []) c
 cut_alone me J room xs x c s k cut =
     let one = one_is x cut.next cut.sent cut.left cut.is in

@@ -1,4 +1,4 @@
--- Places further back by prev: where they stand, and how they are found step by step.
+-- Places further back by prev: where they are, and how they are found step by step.
 use Rattle.std.proofs.Common.{◌≡◌, ℕ, zero, suc, ◌+◌, ◌-◌, ◌*◌, ◌<◌, ◌≤◌, ◌^◌, add-one, pow-suc, List, [], ◌∷◌, ◌++◌, length, map, take, get_or, Option, Some, None, refl, sym, ap, subst, ◌∙◌, inl, inr, arith, append_assoc}
 use Rattle.std.specs.Prelude.{option_map, option_to_list, slice_get}
 use Rattle.std.specs.List.{AllByRecursion, flat_map}
@@ -28,14 +28,14 @@ use Rattle.depot_bounds.specs.FarHellos.{back, far_behind, far_for, far_hello, f
 
 -- ---- one step back
 
--- the prev of a place stands among the updates
+-- the prev of a place is among the updates
 pub one_inside : (us : List Update) (place q : ℕ) → one_back (prev_places us) place ≡ Some q → q < length us
 one_inside us place q e = by_get (slice_get us place) (ap (λ (o : Option (Option ℕ)). elim o as (λ x. Option ℕ) [ None ↦ None | Some before ↦ before ]) (sym (slice_get-map (λ (u : Update). place_of_prev u.prev us) us place)) ∙ e) where
   by_get : (o : Option Update) → elim (option_map (λ (u : Update). place_of_prev u.prev us) o) as (λ x. Option ℕ) [ None ↦ None | Some before ↦ before ] ≡ Some q → q < length us
   by_get None is = absurd cc
   by_get (Some u) is = prev_inside us u q is
 
--- the prev that is told is the one back
+-- the prev that is found is the one back
 pub one_told : (prevs : List (Option ℕ)) (place : ℕ) (result : Option ℕ) → slice_get prevs place ≡ Some result → one_back prevs place ≡ result
 one_told prevs place result e = ap (λ (o : Option (Option ℕ)). elim o as (λ x. Option ℕ) [ None ↦ None | Some before ↦ before ]) e
 
@@ -61,7 +61,7 @@ back_inside us (suc n) place q inside e = by_one (one_back (prev_places us) plac
   by_one None is later e = absurd cc
   by_one (Some p) is later e = later p (one_inside us place p is) e
 
--- ---- the places far behind
+-- ---- the places further back
 
 pub far_none : (prevs : List (Option ℕ)) (n steps place : ℕ) → back prevs steps place ≡ None → far_behind prevs (suc n) steps place ≡ []
 unfolding far_behind
@@ -84,7 +84,7 @@ far_inside us (suc n) steps place inside = by_back (back (prev_places us) steps 
   by_back None is later = tt
   by_back (Some far) is later = let at = back_inside us steps place far inside is in (at, later far at)
 
--- all of them stand among the updates
+-- all of them are among the updates
 pub far_places_inside : (us : List Update) (ids : List (List ℕ)) (i : ℕ) → IsIn i (far_places us ids) → i < length us
 unfolding far_places
 far_places_inside us ids i on =
@@ -115,7 +115,7 @@ pub far_of_some : (us : List Update) (id : List ℕ) (place : ℕ) → place_of_
 unfolding far_places
 far_of_some us id place some = ap (λ (o : Option ℕ). flat_map (far_behind (prev_places us) 17 1) (option_to_list o ++ [])) some ∙ append-nil (far_behind (prev_places us) 17 1 place)
 
--- a front goes by the front of what is in front
+-- a prefix depends on the prefix before it
 pub take_alike : {X : Type 0} (n : ℕ) (xs ys zs : List X) → take n xs ≡ take n ys → take n (xs ++ zs) ≡ take n (ys ++ zs)
 take_alike zero xs ys zs same = refl
 take_alike (suc n) [] [] zs same = refl

@@ -24,7 +24,7 @@ use Rattle.depot_bounds.specs.FarHellos.{far_for, far_hello, far_leaves, far_pla
 
 -- ---- leaves that follow one another
 
--- what follows goes by the last in front
+-- what follows depends on the last one before it
 follows_last : (f g xs : List HelloLeaf) → last_of f ≡ last_of g → Follows hello_leaf hello_leaf_rises f xs → Follows hello_leaf hello_leaf_rises g xs
 follows_last f g [] same follows = tt
 follows_last f g (x ∷ xs) same follows = (

@@ -1,4 +1,4 @@
--- Leaves put among others that rise: where one goes.
+-- Leaves inserted among rising ones: where one goes.
 use Rattle.std.proofs.Common.{◌≡◌, ◌∙◌, ℕ, suc, ◌+◌, Bool, true, false, cond, List, [], ◌∷◌, Some, refl, sym, ap, arith}
 use Rattle.std.specs.List.{prefix_len, insert}
 use Rattle.std.proofs.lemmas.List.Folds.{length-prefix_len}
@@ -7,7 +7,7 @@ use Rattle.depot_model.specs.Hello.{hello_leaf_rises}
 use Rattle.depot_bounds.specs.FarHellos.{put_leaf}
 use Rattle.depot_bounds.specs.LeafPlaces.{is_new_at, leaf_place}
 
--- the place that is found is behind a lower one, and else the front
+-- the place that is found follows a lower one, or is the first
 place_behind : (l k : HelloLeaf) (ks : List HelloLeaf) → hello_leaf_rises (Some k) l ≡ true → leaf_place l (k ∷ ks) ≡ suc (leaf_place l ks)
 place_behind l k ks low =
     let here = length-prefix_len (λ m. hello_leaf_rises (Some m) l) (k ∷ ks) in
@@ -32,7 +32,7 @@ leaf_put l (k ∷ ks) new = by_test (hello_leaf_rises (Some k) l) refl (leaf_put
       let over : hello_leaf_rises (Some l) k ≡ true = sym (ap (λ (n : ℕ). is_new_at l (k ∷ ks) n) at) ∙ new in
       ap (λ (n : ℕ). insert (k ∷ ks) n l) at ∙ sym (ap (λ (b : Bool). cond b (l ∷ k ∷ ks) (k ∷ ks)) over)
 
--- where it isn't, it stands there
+-- where it isn't, it is there
 pub leaf_stays : (l : HelloLeaf) (ks : List HelloLeaf) → is_new_at l ks (leaf_place l ks) ≡ false → ks ≡ put_leaf l ks
 unfolding put_leaf
 leaf_stays l [] old = absurd cc

@@ -1,4 +1,4 @@
--- What a node replies where it is asked to send, by what its calls answer.
+-- What a node replies when asked to send, by what its calls answer.
 use Rattle.std.proofs.Common.{◌≡◌, ◌↔◌, ℕ, true, false, List, [], ◌++◌, Result, Ok, Err, refl, sym, ap, ◌∙◌, inl, inr}
 use Rattle.std.specs.Prelude.{IsErrAnd, IsErrOf}
 use Rattle.std.proofs.lemmas.List.{append-nil}
@@ -113,7 +113,7 @@ module _ (here : Setting) (sign : Signs) (J : List Record) (hello : List ℕ) (b
         foreign = others.foreign;
       }
 
-  -- what isn't prepared isn't sent, and the journal is as before
+  -- what isn't prepared isn't sent, and the journal is unchanged
   pub unprepared_sends : (e : BundleError) → PreparesWithin here sign J hello b (Err e) → BundlesBy here J false answer (Err e) J
   unprepared_sends error.Memory p = inl refl
   unprepared_sends error.Disk p = absurd p

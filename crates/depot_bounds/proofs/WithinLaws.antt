@@ -1,4 +1,5 @@
--- What is chosen within bounds is what a bounded bundle sends, and its vouchers are for accepted updates of others, each once.
+-- What is chosen within bounds is what a bounded bundle sends; its vouchers are for accepted updates of others, each
+-- once.
 use Rattle.std.proofs.Common.{◌≡◌, ℕ, suc, ◌+◌, ◌*◌, ◌/◌, ◌%◌, min, ◌≤◌, List, [], ◌∷◌, ◌++◌, length, map, Bool, true, false, not, cond, ◌&&◌, ◌||◌, leb, eqb, Option, None, Some, refl, sym, ap, subst, ◌∙◌, inl, inr, arith, length-append}
 use Rattle.std.specs.Prelude.{option_to_list}
 use Rattle.std.specs.List.{AllByRecursion, filter, flat_map, list_any}
@@ -119,7 +120,7 @@ own_tell me J (p ∷ ps) all = by_test (is_of_at me J p) (own_tell me J ps all.1
   by_test true rest = (all.0, rest)
   by_test false rest = rest
 
--- ---- a front
+-- ---- a prefix
 
 pub longest_is_front : {X : Type 0} (may : List X → X → Bool) (before xs : List X) → (left : List X) × (xs ≡ longest_front may before xs ++ left)
 unfolding longest_front
@@ -180,7 +181,8 @@ own_unvouched me sign J h xs left is =
     sym (ap (λ (ys : List Parcel). filter (other me) (updates_of ys)) is ∙ ap (filter (other me)) (flat_map-append told xs left) ∙ filter-append (other me) (updates_of xs) (updates_of left)) ∙ none in
     ap (λ (us : List Update). filter (λ (i : List ℕ). not (is_mine_vouched J i)) (map id_of_update us)) (front_none (filter (other me) (updates_of xs)) (filter (other me) (updates_of left)) parts)
 
--- The ids that a bounded bundle makes vouchers for are apart, and each is that of an accepted update of another.
+-- The ids that a bounded bundle makes vouchers for are distinct, and each is that of an accepted update of another
+-- writer.
 pub record AreForOthers (here : Setting) (J : List Record) (ids : List (List ℕ)) : Type 0 where
   pub apart : AreApart ids
   pub foreign : (i : List ℕ) → IsIn i ids → is_foreign here.me (accepted J) i ≡ true

@@ -21,18 +21,19 @@ use Rattle.depot_bounds.specs.declared.bounds.Bounds.{Bounds}
 abbrev pub unbounded : Bounds
 unbounded = record { bytes = MOST_BUNDLE; vouchers = None; own = false }
 
--- these parcels are a front of those
+-- these parcels are a prefix of those
 pub record StandInFront (all sent : List Parcel) : Type 0 where
   pub left : List Parcel
   pub is : all ≡ sent ++ left
 
--- What is sent within bounds is a front of what there is to send, and all of it where no more is told.
+-- What is sent within bounds is a prefix of what there is to send, and all of it if the answer says that there is no
+-- more.
 pub record SendsFront (here : Setting) (sign : Signs) (J : List Record) (h : Hello) (b : Bounds) : Type 0 where
   pub front : StandInFront (parcels_of here.me sign J h b.own) (bounded_sent here sign J h b)
   pub all : leaves_some here sign J h b ≡ false → bounded_sent here sign J h b ≡ parcels_of here.me sign J h b.own
 
--- The bounds are kept: what takes more bytes than allowed is one parcel, with nothing that takes bytes in front of it; and the vouchers that are made are
--- no more than allowed, and than leaves are left.
+-- The bounds are kept: only a single parcel, with nothing before it that takes bytes, may take more bytes than allowed;
+-- and there are at most as many vouchers as allowed, and as unused leaves.
 pub record KeepsBounds (here : Setting) (J : List Record) (b : Bounds) (xs : List Parcel) : Type 0 where
   pub bytes : (bytes_of_parcels xs ≤ b.bytes) ⊎ ((front : List Parcel) × ((x : Parcel) × ((xs ≡ front ++ x ∷ []) × (bytes_of_parcels front ≡ 0))))
   pub vouchers : (most : ℕ) → b.vouchers ≡ Some most → length (new_vouchers here.me J (unvouched here.me J xs)) ≤ min most (leaves_left here J)
@@ -41,7 +42,7 @@ pub record KeepsBounds (here : Setting) (J : List Record) (b : Bounds) (xs : Lis
 abbrev pub IsNamedIn : Hello → List ℕ → Type 0
 IsNamedIn h id = IsIn id (map (λ l. l.id) h.leaves)
 
--- An update isn't one that a hello names, nor does it precede one that it names and that was accepted here.
+-- A hello neither names an update nor names an update, accepted here, that follows it.
 pub record IsSpared (K : List Record) (h : Hello) (u : Update) : Type 0 where
   pub named : IsIn u (accepted K) → IsNamedIn h (id_of_update u) → ⊥
   pub past : (l : Update) → IsIn l (accepted K) → IsNamedIn h (id_of_update l) → has_id (past l (accepted K)) (id_of_update u) ≡ false
@@ -54,7 +55,7 @@ NamesAccepted here J = (l : HelloLeaf) → IsIn l (far_hello here J).leaves → 
 abbrev pub KeepsLeaves : Setting → List Record → Type 0
 KeepsLeaves here J = (l : HelloLeaf) → IsIn l (leaves_named J) → IsIn l (far_hello here J).leaves
 
--- of a first parcel that fits into a bundle and needs few enough vouchers: it is sent
+-- a first parcel that fits into a bundle and needs few enough vouchers is sent
 abbrev pub SendsFirst : Setting → Signs → List Record → Hello → Bounds → Type 0
 SendsFirst here sign J h b = (x : Parcel) (rest : List Parcel) → parcels_of here.me sign J h b.own ≡ x ∷ rest → fit_a_bundle (x ∷ []) ≡ true → has_few_vouchers here J b.vouchers (x ∷ []) ≡ true
     → IsIn x (bounded_sent here sign J h b)

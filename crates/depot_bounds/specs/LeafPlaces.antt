@@ -4,10 +4,10 @@ use Rattle.std.specs.Option.{option_map_or}
 use Rattle.depot_model.specs.declared.hello.HelloLeaf.{HelloLeaf}
 use Rattle.depot_model.specs.Hello.{hello_leaf_rises}
 
--- the first place at which no lower leaf stands, or the list's end
+-- the first place with a leaf that isn't lower, or the list's end
 abbrev pub leaf_place : HelloLeaf → List HelloLeaf → ℕ
 leaf_place l ks = length (take_while (λ k. hello_leaf_rises (Some k) l) ks)
 
--- at a place a higher leaf stands, or none
+-- at this place is a higher leaf, or none
 abbrev pub is_new_at : HelloLeaf → List HelloLeaf → ℕ → Bool
 is_new_at l ks place = option_map_or (λ k. hello_leaf_rises (Some l) k) (slice_get ks place) true

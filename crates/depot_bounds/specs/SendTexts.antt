@@ -1,4 +1,4 @@
--- The texts of what a node is asked to send: a kind, and what the kind calls for.
+-- The texts of requests to send: a kind, and what the kind calls for.
 use Rattle.std.specs.Prelude.{◌≡◌, ℕ, ◌-◌, List, Option, Some, None, Result, Ok, Err, Bool, true, false, ◌==◌, if◌then◌else◌}
 use Rattle.std.specs.Int.{w8, w32}
 use Rattle.depot_base.specs.declared.fault.DecodeError.{DecodeError}
@@ -19,7 +19,7 @@ use Rattle.depot_bounds.specs.declared.send_request.SendRequest.TheVariants as r
 abbrev pub vouchers_told : ℕ → Option ℕ
 vouchers_told n = if n == 4294967295 then None else Some n
 
--- and how it is told
+-- and how it is reported
 abbrev pub vouchers_number : Option ℕ → ℕ
 vouchers_number None = 4294967295
 vouchers_number (Some n) = n
@@ -28,7 +28,7 @@ abbrev pub own_flag : Bool → ℕ
 own_flag true = 1
 own_flag false = 0
 
--- bounds, 9 bytes: most bytes, most vouchers, whether the node's own updates alone are sent
+-- bounds, 9 bytes: most bytes, most vouchers, whether only the node's own updates are sent
 unfoldable pub bounds_text : Format Bounds
 bounds_text =
     field (number w32 1 MOST_BUNDLE) (λ b. b.bytes) λ bytes.
@@ -38,7 +38,7 @@ bounds_text =
 
 -- ---- what is asked
 
--- bounds, and the bytes of a hello, which are all that is left of a message
+-- bounds, and the bytes of a hello, which take the rest of a message
 unfoldable pub bounded_text : Closed (Bounds × List ℕ)
 bounded_text = before bounds_text (λ p. p.0) (λ bounds. last_field (λ hello. (bounds, hello)) (λ p. p.1) (rest_of (MOST_MESSAGE - 10)))
 
@@ -50,19 +50,19 @@ abbrev pub send_kind : SendRequest → ℕ
 send_kind request.FarHello = 32
 send_kind (request.Bounded hello bounds) = 33
 
--- what stands behind a kind
+-- what follows a kind
 unfoldable pub sent_behind : ℕ → Closed SendRequest
 sent_behind kind = closed_choose (kind == 32) (closing (made_of_fields request.FarHello)) (closed_variant (λ p. request.Bounded p.1 p.0) as_bounded bounded_text)
 
--- a kind, and what stands behind it
+-- a kind, and what follows it
 unfoldable pub sending_text : Closed SendRequest
 sending_text = before (number w8 32 33) send_kind sent_behind
 
--- what is asked in a body, if that is such a text
+-- what a body asks for, if it is such a text
 abbrev pub sending_of_body : List ℕ → Option SendRequest
 sending_of_body body = value_read (sending_text.read (record { at = 0; rest = body }))
 
--- What a reader answers: what is asked in the body, or that nothing is, unless memory ran out.
+-- What a reader answers: what the body asks for, or that it is no such text, unless memory ran out.
 abbrev pub FindsSending : List ℕ → Result SendRequest DecodeError → Type 0
 FindsSending body (Ok r) = sending_of_body body ≡ Some r
 FindsSending body (Err errors.Memory) = Unit {0}

@@ -31,7 +31,7 @@ PreparesWithin here sign J text b (Err (error.OtherRoster given mine)) = (bounde
 PreparesWithin here sign J text b (Err (error.Spent n)) = ⊥
 PreparesWithin here sign J text b (Err (error.Full what)) = ⊥
 
--- what a running node answers to a text within bounds, and its journal then
+-- what a running node answers to a text within bounds, and its journal afterwards
 abbrev pub BundlesWithin : {N : Type 0} → Ghosts N → N → N → List ℕ → Bounds → Result Bundled BundleError → Type 0
 BundlesWithin g old new text b result = BundlesBy (g.stands old) (g.records old) false (bounded_answer (g.stands old) (g.signature_of old) (g.records old) text b) result (g.records new)
 

@@ -20,23 +20,26 @@ pub fn no_bounds_law()
     ensures { (here : Setting) (sign : Signs) (J : List Record) (text : List ℕ) → bounded_answer here sign J text unbounded ≡ bundle_answer here sign J text }
 {}
 
-/// What is sent within bounds is a front of all that there is to send, or of the node's own updates; and it is all of it where no more is told.
+/// What is sent within bounds is a prefix of all that there is to send, or of the node's own updates; and it is all of
+/// it if the answer says that there is no more.
 pub fn bounded_bundles_are_fronts()
     ensures { (here : Setting) (sign : Signs) (J : List Record) (h : Hello) (b : Bounds) → SendsFront here sign J h b }
 {}
 
-/// Bounds are kept. And the first parcel goes where it fits into a bundle and needs no more vouchers than allowed, whatever bytes it takes.
+/// Bounds are kept. The first parcel is sent if it fits into a bundle and needs no more vouchers than allowed, whatever
+/// bytes it takes.
 pub fn bounds_are_kept()
     ensures kept { (here : Setting) (sign : Signs) (J : List Record) (h : Hello) (b : Bounds) → KeepsBounds here J b (bounded_sent here sign J h b) }
     ensures first { (here : Setting) (sign : Signs) (J : List Record) (h : Hello) (b : Bounds) → SendsFirst here sign J h b }
 {}
 
-/// Who answers a hello, be it a far one or another, sends no update that it names, and none that precedes one which it names and which was accepted there.
+/// The answer to a hello, be it a far one or not, has no update that the hello names, and none that precedes an update
+/// which it names and which was accepted there.
 pub fn named_updates_are_spared()
     ensures { (sign : Signs) (K : List Record) (h : Hello) (u : Update) → IsIn u (updates_of (parcels sign K h)) → IsSpared K h u }
 {}
 
-/// The far hello of a lawful journal has a text, all that it names was accepted, and it names each leaf.
+/// The far hello of a lawful journal has a text, names only accepted updates, and names each leaf.
 pub fn far_hellos_have_a_text()
     ensures text { (here : Setting) (J : List Record) → IsRoster here.listed → IsLawful here J → is_empty J ≡ false → IsHello (far_hello here J) }
     ensures accepted { (here : Setting) (J : List Record) → NamesAccepted here J }

@@ -16,7 +16,7 @@ use depot_local::LocalNode;
 use depot_requests::{Halt, NodeLimit, Reason, Reply};
 use std::alloc::Global;
 
-/// What is chosen within bounds for the hello of a text, and the ids that are to be vouched for first.
+/// Chooses what is sent within bounds for the hello of a text, and the ids to vouch for first.
 fn prepare_within<N: LocalNode>(
     alloc: Global,
     node: &N,
@@ -35,7 +35,7 @@ fn prepare_within<N: LocalNode>(
     })
 }
 
-/// The bundle within bounds for the text of a hello. The vouchers that the node hasn't made yet are journaled before a byte is handed out.
+/// Makes the bundle within bounds for the text of a hello. Missing vouchers are journaled before a byte is handed out.
 fn bundle_within<N: LocalNode>(
     alloc: Global,
     node: &mut N,
@@ -81,10 +81,12 @@ fn reply_of(made: Result<Bundled, BundleError>) -> Result<Reply, Halt>
     }
 }
 
-/// What a node sends within bounds for the text of a hello: a front of what its bundle without bounds sends, or of its own updates, made into parcels by
-/// themselves (`bounded_bundles_are_fronts`), and before it the proofs and vouchers that go with it. What it leaves out is told as `more`. A refusal is that of a bundle: the text is no hello, or goes by
-/// another roster, or its vouchers meet a limit. `Stopped` comes exactly where the disk failed in an earlier call. After `Memory` the node is as before or
-/// has all the vouchers; after `Disk` it is stopped. A stop at any moment leaves the records from before and a front of the vouchers.
+/// Makes the bundle that a node sends within bounds for the text of a hello: a prefix of what its bundle without bounds
+/// sends, or of its own updates, in parcels by themselves (`bounded_bundles_are_fronts`), preceded by the proofs and
+/// vouchers that go with it. `more` says that something is left out. A refusal is that of a bundle: the text is no
+/// hello, or is of another roster, or its vouchers meet a limit. `Stopped` is returned exactly when the disk failed in
+/// an earlier call. On `Memory` the node is unchanged or has all the vouchers; after `Disk` it is stopped. Every crash
+/// image has the records from before and a prefix of the vouchers.
 pub fn bounded<N: LocalNode>(
     alloc: Global,
     node: &mut N,

@@ -30,7 +30,7 @@ fn leaves_left<N: LocalNode>(node: &N) -> u32
 }
 
 impl Space {
-    /// The room that bounds leave at a node: a voucher names 256 ids, and takes one of the leaves that are left.
+    /// The room that bounds leave at a node: a voucher names 256 ids, and takes an unused leaf.
     pub(crate) fn of<N: LocalNode>(node: &N, bounds: &Bounds) -> Space
         requires { N.stopped node.now ≡ false }
         ensures { result ≡ room_within (N.stands node.now) (N.records node.now) bounds.now }
@@ -55,7 +55,7 @@ impl Space {
         }
     }
 
-    /// Whether there is room for so many bytes, of which so many stand before the last parcel.
+    /// Whether there is room for so many bytes, of which so many precede the last parcel.
     fn has_bytes(&self, before: usize, bytes: usize) -> bool
         ensures { result ≡ (before == 0 || nat_le bytes self.now.bytes) }
     {
@@ -79,7 +79,7 @@ fn fits_a_bundle(bytes: usize, frames: u64) -> bool
     bytes <= MOST_BUNDLE as usize && frames <= u64::from(MOST_BUNDLE_FRAMES)
 }
 
-/// The updates and values that are chosen, and what is to be vouched for.
+/// The chosen updates and values, and what is to be vouched for.
 #[derive(Drop)]
 pub(crate) struct Choice {
     /// The updates and values.
@@ -96,7 +96,7 @@ fn frame_count(sending: &Sending) -> u64
     u64::from(sending.updates) + u64::from(sending.values)
 }
 
-/// Puts ids behind others.
+/// Puts ids after others.
 fn push_ids(ids: &mut Ids, more: &Ids) -> Result<(), Memory>
     ensures { OnOk result (ids.new ≡ ids.old ++ more.now) }
 {
@@ -117,7 +117,7 @@ impl Choice {
         }
     }
 
-    /// Whether there is room for a parcel behind what is chosen.
+    /// Whether there is room for a parcel after what is chosen.
     fn admits(&self, parcel: &Sending, fresh: &Ids, room: &Space) -> bool
         ensures room { TellsRoom self.now parcel.now fresh.now room.now result }
         ensures few { IsTrue result → (self.now.sending.updates + self.now.sending.values) + (parcel.now.updates + parcel.now.values) ≤ MOST_BUNDLE_FRAMES }
@@ -129,7 +129,7 @@ impl Choice {
         room.has(before, bytes, frames, ids)
     }
 
-    /// Chooses a parcel, with the ids in it that are to be vouched for, where there is room. Says whether there is.
+    /// Chooses a parcel, with the ids in it to vouch for, if there is room. Returns whether there is.
     pub(crate) fn add(
         &mut self,
         parcel: &Sending,

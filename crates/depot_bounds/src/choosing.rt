@@ -16,7 +16,8 @@ use depot_local::LocalNode;
 use depot_model::{Hello, Peer};
 use std::alloc::Global;
 
-/// Chooses the candidate of a place, with the values behind it but for those of these hashes, where there is room. Says whether there is.
+/// Chooses the candidate of a place with its values, except those whose hashes are in the set, if there is room.
+/// Returns whether there is.
 fn choose_candidate<R: Peer>(
     alloc: Global,
     choice: &mut Choice,
@@ -38,7 +39,7 @@ fn choose_candidate<R: Peer>(
     choice.add(&parcel, &fresh, room)
 }
 
-/// Chooses the candidates of these places, as long as there is room. Says whether all have room.
+/// Chooses the candidates of these places, as long as there is room. Returns whether all have room.
 fn choose_candidates<R: Peer>(
     alloc: Global,
     choice: &mut Choice,
@@ -62,7 +63,8 @@ fn choose_candidates<R: Peer>(
     Ok(true)
 }
 
-/// Chooses the value of a wanted hash, if it is held and its hash isn't among these, where there is room. Says whether there is.
+/// Chooses the value of a wanted hash, if it is held, its hash isn't in the set, and there is room. Returns whether
+/// there is.
 fn choose_wanted_value<R: Peer>(
     alloc: Global,
     choice: &mut Choice,
@@ -85,7 +87,8 @@ fn choose_wanted_value<R: Peer>(
     choice.add(&parcel, &Ids::new(alloc), room)
 }
 
-/// Chooses the wanted values that are held and whose hashes aren't among these, as long as there is room. Says whether all have room.
+/// Chooses the wanted values that are held and whose hashes aren't in the set, as long as there is room. Returns
+/// whether all have room.
 fn choose_wanted<R: Peer>(
     alloc: Global,
     choice: &mut Choice,
@@ -130,7 +133,7 @@ fn own_places<R: Peer>(alloc: Global, node: &R, places: &[u32]) -> Result<Items,
     Ok(own)
 }
 
-/// Chooses the candidates of these places, and then the wanted values. Says whether all have room.
+/// Chooses the candidates of these places, then the wanted values. Returns whether all have room.
 fn choose_all<R: Peer>(
     alloc: Global,
     choice: &mut Choice,
@@ -151,7 +154,7 @@ fn choose_all<R: Peer>(
     choose_wanted(alloc, choice, &hashes, node, wanted, room)
 }
 
-/// Chooses what there is to send for a hello, or the node's own updates of it. Says whether all have room.
+/// Chooses what there is to send for a hello, or only the node's own updates of it. Returns whether all have room.
 fn choose_for<R: Peer>(
     alloc: Global,
     choice: &mut Choice,

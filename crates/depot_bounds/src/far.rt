@@ -25,7 +25,7 @@ use std::alloc::Global;
 /// How many ids further back a chain can have: the last is 131,071 back, as far as a journal's records go.
 pub const MOST_FAR: u32 = 17;
 
-/// The item so many prevs back from an item. None exactly where its chain is shorter.
+/// The item so many prevs back from an item. `None` exactly when its chain is shorter.
 fn back(graph: &Graph, item: u32, steps: u32) -> Option<u32>
     requires { item < length (⟦<Graph as Past>⟧.updates graph.now) }
     ensures { result ≡ back (prev_places (⟦<Graph as Past>⟧.updates graph.now)) steps item }
@@ -55,7 +55,7 @@ fn add_far(items: &mut Vec<u32>, graph: &Graph, item: u32) -> Result<(), Memory>
     Ok(())
 }
 
-/// Adds those of the item with an id, if there is one, unless so many are there.
+/// Adds those of the item with an id, if there is one, unless the list is full.
 fn add_far_of(
     items: &mut Vec<u32>,
     graph: &Graph,
@@ -73,7 +73,7 @@ fn add_far_of(
     }
 }
 
-/// The items further back from leaves, at most so many: of leaf after leaf.
+/// The items further back from leaves, at most so many, leaf after leaf.
 fn far_items(
     alloc: Global,
     graph: &Graph,
@@ -90,21 +90,21 @@ fn far_items(
     Ok(items)
 }
 
-/// Whether a leaf stands before another.
+/// Whether a leaf precedes another.
 fn rises(before: &HelloLeaf, leaf: &HelloLeaf) -> bool
     ensures { result ≡ hello_leaf_rises (Some before.now) leaf.now }
 {
     leaf.may_follow(Some(before), 0)
 }
 
-/// The first place of a list at which no lower leaf stands, or its end.
+/// The first place with a leaf that isn't lower, or the end of the list.
 fn leaf_place(leaves: &[HelloLeaf], leaf: &HelloLeaf) -> usize
     ensures { result ≡ leaf_place leaf.now leaves.now }
 {
     leaves.iter().take_while(|other| rises(other, leaf)).count()
 }
 
-/// Whether at a place of a list a higher leaf stands, or none.
+/// Whether a place of a list has a higher leaf, or none.
 fn is_new_at(leaves: &[HelloLeaf], leaf: &HelloLeaf, place: usize) -> bool
     ensures { result ≡ is_new_at leaf.now leaves.now place }
 {
@@ -114,7 +114,7 @@ fn is_new_at(leaves: &[HelloLeaf], leaf: &HelloLeaf, place: usize) -> bool
     }
 }
 
-/// Puts a leaf into its place among others that rise, unless it stands there.
+/// Inserts a leaf in its place among rising ones, unless it is there.
 #[tactic(auto, using(crate::proofs::LeafPuts::leaf_laws))]
 fn put_leaf(leaves: &mut Vec<HelloLeaf>, leaf: HelloLeaf) -> Result<(), Memory>
     ensures { OnOk result (leaves.new.items ≡ put_leaf leaf leaves.old.items) }
@@ -142,7 +142,7 @@ fn put_items(leaves: &mut Vec<HelloLeaf>, graph: &Graph, items: &[u32]) -> Resul
     Ok(())
 }
 
-/// The leaves of a hello, and with them the ids further back for which there is room.
+/// The leaves of a hello, with the ids further back for which there is room.
 fn with_far(alloc: Global, graph: &Graph, leaves: HelloLeaves) -> Result<HelloLeaves, Memory>
     ensures { IfOk result (λ far. far ≡ far_leaves (⟦<Graph as Past>⟧.updates graph.now) leaves) }
 {
@@ -153,7 +153,7 @@ fn with_far(alloc: Global, graph: &Graph, leaves: HelloLeaves) -> Result<HelloLe
     Ok(HelloLeaves::from_vec(named))
 }
 
-/// The node's hello that names, beside the leaves, of each leaf's chain the ids 1, 3, 7, 15 .. back, as long as a hello has room.
+/// The node's hello that also names the ids 1, 3, 7, 15 .. back in each leaf's chain, as long as a hello has room.
 fn node_far_hello<N: LocalNode>(alloc: Global, node: &N) -> Result<Hello, Memory>
     requires { N.stopped node.now ≡ false }
     ensures { IfOk result (λ hello. hello ≡ far_hello (N.stands node.now) (N.records node.now)) }
@@ -187,8 +187,9 @@ fn say_far_hello<N: LocalNode>(alloc: Global, node: &N) -> Result<Reply, Halt>
     Ok(Reply::Hello { hello, text })
 }
 
-/// The hello of a node that names, beside its leaves, of each leaf's chain the ids 1, 3, 7, 15 .. back. Who answers it sends nothing that it names, or that
-/// precedes what it names (`named_updates_are_spared`). `Stopped` comes exactly where the disk failed in an earlier call, and else want of memory is the one other answer.
+/// Returns a node's hello that names, beside its leaves, the ids 1, 3, 7, 15 .. back in each leaf's chain. Its answer
+/// has nothing that it names, or that precedes what it names (`named_updates_are_spared`). `Stopped` is returned
+/// exactly when the disk failed in an earlier call; else `Memory` is the only error.
 pub fn far_hello<N: LocalNode>(alloc: Global, node: &N) -> Result<Reply, Halt>
     ensures sends { Sends (N.stands node.now) (N.signature_of node.now) (N.records node.now) SendRequest.FarHello result (N.records node.now) }
     ensures call { IsSendCall N.NodeState node.now node.now SendRequest.FarHello result }

@@ -1,4 +1,4 @@
-//! Bundles with bounds, and hellos that say more.
+//! Bundles with bounds, and hellos that name more ids.
 #![tactic(auto)]
 
 mod bound_laws;

@@ -1,4 +1,4 @@
-//! What a node is asked to send, and its text.
+//! Requests to send, and their texts.
 ghost use Rattle.std.specs.Prelude.{◌≡◌, ◌≤◌, ◌-◌};
 ghost use Rattle.depot_base.specs.Closed.{rest_of};
 ghost use Rattle.depot_base.specs.Reading.{DecodesClosed, Gives, IsClosedReadInOneWay, Reads};
@@ -27,7 +27,7 @@ pub enum SendRequest {
     Bounded { hello: Bytes, bounds: Bounds },
 }
 
-/// The most bytes of a hello: those of a message but for the kind, the bounds and the flag in front.
+/// The most bytes of a hello: those of a message without the kind, the bounds and the flag before it.
 const MOST_REST: usize = MOST_MESSAGE as usize - 10;
 
 /// All the bytes that are left.
@@ -79,7 +79,7 @@ fn whole_bounded(alloc: Global, fields: &mut Fields<'_>) -> Result<(Bounds, Byte
     Ok((bounds, hello))
 }
 
-/// What stands behind a kind.
+/// What follows a kind.
 #[tactic(auto, unfolding(crate::specs::SendTexts::sent_behind))]
 fn sending_in(alloc: Global, fields: &mut Fields<'_>, kind: u8) -> Result<SendRequest, Fault>
     requires least { 32 ≤ kind }
@@ -96,7 +96,7 @@ fn sending_in(alloc: Global, fields: &mut Fields<'_>, kind: u8) -> Result<SendRe
     }
 }
 
-/// What is asked, of all the bytes that are left.
+/// The request in all remaining bytes.
 #[tactic(auto, unfolding(crate::specs::SendTexts::sending_text))]
 fn sending_of(alloc: Global, fields: &mut Fields<'_>) -> Result<SendRequest, Fault>
     ensures { Gives result (sending_text.read fields.old) }
@@ -105,8 +105,8 @@ fn sending_of(alloc: Global, fields: &mut Fields<'_>) -> Result<SendRequest, Fau
     sending_in(alloc, fields, kind)
 }
 
-/// What is asked in a text: of kind 32, or of kind 33. `IllFormed` comes exactly where it is no such text, with the offset of the first fault, 0 of no
-/// bytes and of another kind.
+/// Decodes the text of a request to send, of kind 32 or 33. `IllFormed` is returned exactly when it is no such text,
+/// with the offset of the first fault, 0 for no bytes and for another kind.
 pub fn decode_sending(alloc: Global, body: &[u8]) -> Result<SendRequest, DecodeError>
     ensures decodes { DecodesClosed sending_text body.now result }
     ensures finds { FindsSending body.now result }
@@ -114,14 +114,15 @@ pub fn decode_sending(alloc: Global, body: &[u8]) -> Result<SendRequest, DecodeE
     answer(sending_of(alloc, &mut Fields::new(body)))
 }
 
-/// A text is that of one such request, or it is none and its first fault is at one place. Called for its clause alone.
+/// A text is that of one such request, or of none, with its first fault at one offset. Called for its clause alone.
 pub fn sendings_are_read_in_one_way()
     ensures { IsClosedReadInOneWay sending_text }
 {}
 
-/// Sends what a node is asked for, and replies. `Stopped` comes exactly where the disk failed in an earlier call. What is replied, and the journal then, is
-/// what is defined of the request; `Memory` may come in place of it, and `Disk` where the disk failed in this call, and then the node is stopped. A stop at
-/// any moment leaves the records from before, and a front of those that the request brings.
+/// Sends what a node is asked for, and returns its reply. `Stopped` is returned exactly when the disk failed in an
+/// earlier call. The reply and the journal are the defined ones; `Memory` may come instead, or `Disk` if the disk
+/// failed in this call, and then the node is stopped. Every crash image has the records from before and a prefix of
+/// those that the request brings.
 pub fn send<N: LocalNode>(alloc: Global, node: &mut N, request: &SendRequest) -> Result<Reply, Halt>
     ensures sends { Sends (N.stands node.old) (N.signature_of node.old) (N.records node.old) request.now result (N.records node.new) }
     ensures call { IsSendCall N.NodeState node.old node.new request.now result }

@@ -29,7 +29,7 @@ none_unasked (Ok (reply.Checkpoint done text)) = refl
 none_unasked (Ok (reply.Refused why)) = refl
 none_unasked (Err e) = refl
 
--- so what it answers to a request that was asked for is what it does that is asked
+-- so its answer to a request that was asked for is what it does
 pub replies_asked : (k : RequestKind) (n : ℕ) (input : List ℕ) (s : NodeView) (r : Request) (told : CallAnswer) (t : NodeView) → IsAskedBy k n input r → Replying s r told t → Requesting k n input s told t
 replies_asked k n input s r (Ok a) t asked replies = record { request = r; asked = asked; replies = replies }
 replies_asked k n input s r (Err refused.Input) t asked replies = let never : true ≡ false = ap is_unasked replies.is ∙ none_unasked replies.replied in absurd cc

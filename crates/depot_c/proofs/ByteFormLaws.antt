@@ -1,4 +1,4 @@
--- Changes and ids in bytes: their forms are lawful, and what is read is what a node may be asked for.
+-- Changes and ids in bytes: their forms are lawful, and they are read as what a node may be asked for.
 use Rattle.std.proofs.Common.{◌≡◌, ℕ, zero, suc, ◌+◌, ◌*◌, ◌≤◌, Bool, true, false, cond, eqb, List, [], ◌∷◌, ◌++◌, length, Option, Some, None, is_some, ◌||◌, Ok, Err, refl, sym, ap, subst, ◌∙◌, arith}
 use Rattle.std.specs.List.{AllByRecursion}
 use Rattle.std.specs.Int.{w8, w16, w32}
@@ -28,7 +28,7 @@ use Rattle.depot_c.specs.ByteForms.{IsListed, change_in_bytes, changes_in_bytes,
 
 -- ---- one change
 
--- behind a mark, a change has this key, and the mark is its own
+-- after a mark, a change has this key, and the mark is its own
 abbrev behind : Bool → List ℕ → Format Change
 behind gone key =
     choose gone (made_of_fields (record { key = key; value = None }))
@@ -77,7 +77,7 @@ changes_lawful n = list_lawful n change_in_bytes may_stand 65798 change_lawful
 
 -- ---- entries that rise
 
--- Where each entry is above the one before it, in an order, all behind it are.
+-- Where each entry is above the one before it, in an order, all after it are.
 module _ {E : Type 0} (entry : Format E) (may_follow : Option E → E → Bool) (above : E → E → Bool) (so : (a b : E) → may_follow (Some a) b ≡ true → above a b ≡ true)
     (trans : (a b c : E) → above a b ≡ true → above b c ≡ true → above a c ≡ true) where
   next_above : (front : List E) (before e : E) → may_follow (last_of (front ++ before ∷ [])) e ≡ true → above before e ≡ true
@@ -111,7 +111,7 @@ no_receipt key free = of (receipt_of key) free where
   of None e = refl
   of (Some h) e = absurd cc
 
--- what a change may stand by
+-- what a change may occur by
 stands : (b : Bool) (rises : Bool) → cond b false rises ≡ true → (b ≡ false) × (rises ≡ true)
 stands true rises e = absurd cc
 stands false rises e = (refl, e)

@@ -24,7 +24,7 @@ use Rattle.depot_c.specs.declared.refused.Refused.TheVariants as refused
 behind : (n item : ℕ) (items : List ℕ) → All (λ i. i < n) (item ∷ items) → All (λ i. i < n) items
 behind n item items all = λ k d inside. all (suc k) d (omega (arith, inside))
 
--- as many updates stand at them
+-- as many updates are at them
 pub as_many : (us : List Update) (items : List ℕ) → All (λ i. i < length us) items → length (updates_at us items) ≡ length items
 as_many us [] all = refl
 as_many us (n ∷ items) all =
@@ -50,7 +50,7 @@ item_is s key items place d are all inside =
     let r = at_place us (get_or items place d) (all place d inside) in
     record { latest = updates_at us items; are = are; update = r.0; at = at_items us items place d all inside ∙ r.1; shows = r.1 }
 
--- and behind the last of them stands none
+-- and after the last of them comes none
 pub no_item : (s : NodeView) (key items : List ℕ) (place : ℕ) → AreLatestIn key (accepted s.records) (updates_at (accepted s.records) items) → All (λ i. i < length (accepted s.records)) items → length items ≤ place → HasLatest s key place
 no_item s key items place are all behind =
     let us = accepted s.records in
@@ -72,7 +72,7 @@ pub item_writes : (s : NodeView) (key : List ℕ) (place item : ℕ) → IsPlace
 item_writes s key place item is u at =
     subst (Writes key) (one_update is.update u (sym is.shows ∙ at)) (is.are.only is.update (stands_in is.latest place is.update is.at)).writes
 
--- what is told of a write is what a read tells
+-- what is answered of a write is what a read shows
 told_text : (P : CallAnswer → Type 0) (text : List ℕ) (told : CallAnswer) → IsAnswerText text told → P (Ok (answer.Text text)) → P (Err refused.Memory) → P told
 told_text P text (Ok (answer.Text t)) is one other = subst (λ (t : List ℕ). P (Ok (answer.Text t))) (sym is) one
 told_text P text (Err refused.Memory) is one other = other

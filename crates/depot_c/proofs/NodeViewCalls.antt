@@ -1,4 +1,4 @@
--- A node of a handle that is called: where it runs, it goes on, and refuses nothing for the disk.
+-- Calls on a node of a handle: if it runs, it goes on, and refuses nothing because of the disk.
 use Rattle.std.proofs.Common.{◌≡◌, [], None, Result, Ok, Err, refl, arith}
 use Rattle.std.specs.Prelude.{IsErrOf}
 use Rattle.depot_feeds.specs.declared.feed_error.FeedError.{FeedError}

@@ -23,7 +23,7 @@ abbrev pub value_given : Option (List ℕ) → List ℕ
 value_given None = []
 value_given (Some v) = v
 
--- what follows the mark of a change of this key: nothing behind 0, and behind 1 the value's length and the value
+-- what follows the mark of a change of this key: nothing after 0, and after 1 the value's length and the value
 unfoldable pub marked_change : List ℕ → ℕ → Format Change
 marked_change key mark =
     choose (mark == 0) (made_of_fields (record { key = key; value = None }))
@@ -31,7 +31,7 @@ marked_change key mark =
     field (bytes_of size) (λ c. value_given c.value) λ value.
     made_of_fields (record { key = key; value = Some value }))
 
--- a change: its key behind the key's length, a mark, and what the mark calls for
+-- a change: its key after the key's length, a mark, and what the mark calls for
 unfoldable pub change_in_bytes : Format Change
 change_in_bytes =
     field (number w16 1 MOST_KEY) (λ c. length c.key) λ key_length.
@@ -50,7 +50,7 @@ abbrev pub key_rises : Option Change → Change → Bool
 key_rises None c = true
 key_rises (Some before) c = is_below before.key c.key
 
--- a change may stand behind another, or first: its key isn't reserved, and is above the one before it
+-- a change may follow another, or first: its key isn't reserved, and is above the one before it
 abbrev pub may_stand : Option Change → Change → Bool
 may_stand before c = if is_reserved c.key then false else key_rises before c
 

@@ -21,7 +21,7 @@ kept_answer h = h.answer
 abbrev pub IsNewHandle : HandleView → Answer → Type 0
 IsNewHandle v kept = (v ≡ nothing_kept) × (kept ≡ answer.Nothing)
 
--- Of bytes from an offset on, as many as there are and as have room are copied to the front of a piece.
+-- Of bytes from an offset on, as many as there are and as have room are copied to the beginning of a piece.
 pub record IsCopied (bytes : List ℕ) (at : ℕ) (room : List ℕ) (count : ℕ) (output : List ℕ) : Type 0 where
   pub many : count ≡ min (length bytes - at) (length room)
   pub copied : output ≡ take count (drop at bytes) ++ drop count room
@@ -41,7 +41,7 @@ pub record Performs (a : Ask) (n : ℕ) (input : List ℕ) (v : HandleView) (sta
   pub does : Does a n input v told w
   pub settles : KeepsAnswer told status kept
 
--- All is as it was.
+-- All is unchanged.
 pub record IsHandleUntouched (v : HandleView) (kept : Answer) (room : List ℕ) (w : HandleView) (then : Answer) (output : List ℕ) : Type 0 where
   pub view : w ≡ v
   pub same : then ≡ kept

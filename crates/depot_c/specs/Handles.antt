@@ -49,7 +49,7 @@ nothing_kept = record { listed = None; kept = None; node_view = None; feed = Non
 
 -- ---- rosters and keys
 
--- Keeps the roster of a text. Where the text is none, the handle is as before, with the roster from before.
+-- Keeps the roster of a text. Where the text is none, the handle is unchanged, with the roster from before.
 abbrev pub KeepsRoster : List ℕ → HandleView → CallAnswer → HandleView → Type 0
 KeepsRoster text v (Ok answer.Nothing) w = (listed : List RosterEntry) × (ParsesRoster text (Ok listed) × (w ≡ record v { listed = Some listed }))
 KeepsRoster text v (Err (refused.Roster e)) w = ParsesRoster text (Err e) × (w ≡ v)
@@ -63,8 +63,8 @@ IsSeed height seed = (length seed ≡ 32) × ((LEAST_HEIGHT ≤ height) × (heig
 abbrev pub signer_of_seed : ℕ → List ℕ → KeptSigner
 signer_of_seed height seed = record { key = key_of_seed seed height; sign = winternitz_signature seed height }
 
--- Makes the key and keeps its signer. Input comes exactly where there is none, and then, as where no memory is found, the handle is
--- as before.
+-- Makes the key and keeps its signer. Input is returned exactly when there is none, and then, as where no memory is
+-- found, the handle is unchanged.
 abbrev pub KeepsKey : ℕ → List ℕ → HandleView → CallAnswer → HandleView → Type 0
 KeepsKey height seed v (Ok answer.Nothing) w = IsSeed height seed × (w ≡ record v { kept = Some (signer_of_seed height seed) })
 KeepsKey height seed v (Err refused.Input) w = (IsSeed height seed → ⊥) × (w ≡ v)
@@ -79,7 +79,7 @@ SignerGiven seed height key sign (Err other) = ⊥
 
 -- ---- starts
 
--- The node of this number stands now, by the roster and the signer that are kept, which stay.
+-- The node of this number now, by the roster and the signer that are kept, which stay.
 pub record HasStarted (n : ℕ) (file : List ℕ) (v w : HandleView) : Type 0 where
   pub listed : List RosterEntry
   pub roster : v.listed ≡ Some listed
@@ -103,8 +103,9 @@ pub record HasNotStarted (n : ℕ) (file : List ℕ) (v : HandleView) (r : Refus
 abbrev pub is_ready : HandleView → Bool
 is_ready v = is_none v.node_view && (is_some v.listed && is_some v.kept)
 
--- Starts a node from the bytes of a journal's file. Input comes exactly where the number is no node's, and then Order exactly where
--- there is no roster, no key, or a node already; then the handle is as before, and so it is where no memory is found.
+-- Starts a node from the bytes of a journal's file. `Input` is returned exactly when the number is no node's, and then
+-- `Order` exactly when there is no roster, no key, or a node already; then the handle is unchanged, and so it is where
+-- no memory is found.
 abbrev pub Starts : ℕ → List ℕ → HandleView → CallAnswer → HandleView → Type 0
 Starts n file v (Ok answer.Nothing) w = HasStarted n file v w
 Starts n file v (Err (refused.Start e)) w = HasNotStarted n file v (refused.Start e) × (w ≡ v)
@@ -145,7 +146,7 @@ AtNodeViews (Some s) (Some t) P = P s t
 AtNodeViews None t P = ⊥
 AtNodeViews (Some s) None P = ⊥
 
--- all is as it was but the node
+-- all is unchanged but the node
 abbrev pub IsSameButNode : HandleView → HandleView → Type 0
 IsSameButNode v w = w ≡ record v { node_view = w.node_view }
 
@@ -167,7 +168,8 @@ pub record HasFed (piece : List ℕ) (v : HandleView) (fed : Result (Unit {0}) F
   pub nodes : AtNodeViews v.node_view w.node_view (λ s t. Stays s t × (RunsOn s (fed_as fed) t × Feeds s.here (at_work (stream_in v.feed) s.records) piece fed stream t.records))
   pub is : w ≡ record v { node_view = w.node_view; feed = Some stream; closing = closing }
 
--- A piece of a stream is fed. Order comes exactly where there is no node, or the stream was closed: it has to be ended first.
+-- A piece of a stream is fed. `Order` is returned exactly when there is no node, or the stream was closed: it has to be
+-- ended first.
 abbrev pub FeedsHandle : List ℕ → HandleView → CallAnswer → HandleView → Type 0
 FeedsHandle piece v (Ok answer.Nothing) w = HasFed piece v (Ok tt) v.closing w
 FeedsHandle piece v (Err (refused.Feed e)) w = HasFed piece v (Err e) (closing_by e) w
@@ -179,7 +181,7 @@ FeedsHandle piece v other w = ⊥
 abbrev pub IsReport : Report → Option Closing → CallAnswer → Type 0
 IsReport report closing told = IsAnswerText (report_text report (closing_of closing)) told
 
--- The stream ends, and is told.
+-- The stream ends, and is reported.
 abbrev pub EndsStream : Option Stream → HandleView → CallAnswer → HandleView → Type 0
 EndsStream None v told w = (told ≡ Err refused.Order) × (w ≡ v)
 EndsStream (Some f) v told w = IsReport (report_of_stream f) v.closing told × (w ≡ record v { feed = None; closing = None; report = Some (report_of_stream f) })
@@ -203,7 +205,7 @@ ShowsRefusal place v told = ShowsFrame v.report place told
 
 -- ---- the node
 
--- the node does what it is asked; Order comes exactly where there is none
+-- the node does what it is asked; `Order` is returned exactly when there is none
 abbrev pub AsksNodeView : NodeAsk → ℕ → List ℕ → Option NodeView → CallAnswer → Option NodeView → Type 0
 AsksNodeView a n input None told t = (told ≡ Err refused.Order) × (t ≡ None)
 AsksNodeView a n input (Some s) told (Some t) = Stays s t × (RunsOn s told t × AsksNode a n input s told t)

@@ -46,8 +46,8 @@ IsUnread s other = ⊥
 abbrev pub IsMessageServed : NodeView → List ℕ → CallAnswer → NodeView → Type 0
 IsMessageServed s body told t = ((a : Asked) × ((asked_of_body body ≡ Some a) × AnswersBody s a told t)) ⊎ (IsUnread s told × (t ≡ s))
 
--- What a node answers to the body of a message, and what it is then. `IllFormed` comes exactly where nothing is asked by it, with its first fault, and
--- then the node is as before.
+-- What a node answers to the body of a message, and what it is then. `IllFormed` is returned exactly when nothing is
+-- asked by it, with its first fault, and then the node is unchanged.
 abbrev pub Messaging : NodeView → List ℕ → CallAnswer → NodeView → Type 0
 Messaging s body (Err (refused.Unmet (reason.IllFormed at))) t = (asked_of_body body ≡ None) × (IsAskedFault body at × (t ≡ s))
 Messaging s body told t = IsMessageServed s body told t

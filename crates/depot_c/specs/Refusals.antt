@@ -107,6 +107,6 @@ words_of (refused.Unmet why) = text_of_reason why
 words_of (refused.Feed e) = words_of_feed e
 words_of other = []
 
--- words are told, or no memory was found for them, and then none are
+-- words are given, or no memory was found for them, and then none are
 abbrev pub IsTold : List ℕ → List ℕ → Type 0
 IsTold words told = (told ≡ words) ⊎ (told ≡ [])

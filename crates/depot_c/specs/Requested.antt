@@ -28,7 +28,7 @@ KeyGiven Is input (Err other) = ⊥
 
 -- ---- requests
 
--- the front of the input, of this length, is a key that a node may be asked to write, and what is behind it a value
+-- the prefix of the input, of this length, is a key that a node may be asked to write, and what follows it a value
 abbrev pub IsPutInput : ℕ → List ℕ → Type 0
 IsPutInput n input = (n ≤ length input) × (IsPutKey (take n input) × IsValue (drop n input))
 
@@ -48,7 +48,7 @@ abbrev pub LacksMemory : RequestKind → ℕ → List ℕ → Type 0
 LacksMemory kind.Put n input = IsPutInput n input
 LacksMemory other n input = Unit {0}
 
--- Why they are made no request. Input comes exactly where they ask for none.
+-- Why they are made no request. Input is returned exactly when they ask for none.
 abbrev pub IsUnasked : RequestKind → ℕ → List ℕ → Refused → Type 0
 IsUnasked k n input refused.Input = (r : Request) → IsAskedBy k n input r → ⊥
 IsUnasked k n input refused.Memory = LacksMemory k n input

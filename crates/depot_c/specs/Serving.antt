@@ -17,14 +17,14 @@ pub record RepliesAsked (k : RequestKind) (n : ℕ) (input : List ℕ) (s : Node
   pub asked : IsAskedBy k n input request
   pub replies : Replying s request told t
 
--- What a node does that is asked for a request. Input comes exactly where the number and the input ask for none, and then, as where no memory is found
--- to make the request, the node is as before.
+-- What a node does that is asked for a request. Input is returned exactly when the number and the input ask for none,
+-- and then, as where no memory is found to make the request, the node is unchanged.
 abbrev pub Requesting : RequestKind → ℕ → List ℕ → NodeView → CallAnswer → NodeView → Type 0
 Requesting k n input s (Err refused.Input) t = IsUnasked k n input refused.Input × (t ≡ s)
 Requesting k n input s (Err refused.Memory) t = IsUnasked k n input refused.Memory × (t ≡ s)
 Requesting k n input s told t = RepliesAsked k n input s told t
 
--- A read of the key that the input is. Input comes exactly where it is none.
+-- A read of the key that the input is. Input is returned exactly when it is none.
 abbrev pub OfKey : (NodeView → List ℕ → ℕ → CallAnswer → Type 0) → NodeView → List ℕ → ℕ → CallAnswer → Type 0
 OfKey Reads s input place (Err refused.Input) = IsKey input → ⊥
 OfKey Reads s input place told = IsKey input × Reads s input place told

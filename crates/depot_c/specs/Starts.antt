@@ -19,7 +19,8 @@ NodeGiven n (Ok node) = IsNodeNumber n × (node ≡ n)
 NodeGiven n (Err refused.Input) = IsNodeNumber n → ⊥
 NodeGiven n (Err other) = ⊥
 
--- The node that was started stands there, by this signer, with the journal of the file; of a file without records, with its birth.
+-- The node that was started is there, by this signer, with the journal of the file; of a file without records, with its
+-- birth.
 pub record IsViewStarted (here : Setting) (key : PublicKey) (sign : Signs) (file : List ℕ) (s : NodeView) : Type 0 where
   pub stands : s.here ≡ here
   pub keyed : key_of here.listed here.me ≡ Some key

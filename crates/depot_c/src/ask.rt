@@ -5,7 +5,7 @@ ghost use Rattle.depot_c.specs.Asked.{asked_by};
 /// Which request a node is asked to do.
 #[derive(Clone, Copy, Debug, PartialEq, Eq)]
 pub enum RequestKind {
-    /// To give a key a value: the number is the key's length, the input the key and behind it the value.
+    /// To give a key a value: the number is the key's length, the input the key and after it the value.
     Put,
     /// To give keys values and to delete keys: the number is how many changes there are, the input their bytes.
     Puts,

@@ -9,9 +9,9 @@ use depot_sign::{Roster, RosterError};
 use depot_winter::WinterScheme;
 use std::alloc::Global;
 
-/// What a judgement comes to. The status is that with which `depot judge` ends: 0 where the node is convicted in the kind (1 to 4,
-/// as in the text of a proof), 2 where there is no roster, 6 where no memory was found, 7 where a point of the proof fails. The node
-/// and the kind are 0 but at status 0.
+/// The outcome of a judgement. The status is that with which `depot judge` ends: 0 where the node is convicted in the
+/// kind (1 to 4, as in the text of a proof), 2 where there is no roster, 6 where no memory was found, 7 where a point
+/// of the proof fails. The node and the kind are 0 but at status 0.
 #[repr(C)]
 #[derive(Clone, Copy)]
 pub struct Judged {

@@ -14,9 +14,9 @@
 //! A node of a handle is in memory, and its caller keeps its records: after each call the new ones, in their order, before it uses the
 //! answer. The kit's gate lets no crate call the system but by a runtime, and no runtime crosses to C.
 //!
-//! What a node replies to a request and what its journal is then is defined in `depot_requests`, for scripts, schedules and callers
-//! alike; of a stream it is what `depot_feeds` has. What the caller has to uphold stands in bindings/depot.h: no
-//! proof reaches it.
+//! What a node replies to a request and what its journal is then is defined in `depot_requests`, for scripts, schedules
+//! and callers alike; of a stream it is what `depot_feeds` has. What the caller has to uphold is in bindings/depot.h:
+//! no proof reaches it.
 #![tactic(auto)]
 
 mod answer;

@@ -23,7 +23,7 @@ pub enum CallOutcome {
     Order,
     /// The disk failed in an earlier call.
     Stopped,
-    /// Nothing stands at that place.
+    /// Nothing is at that place.
     Absent,
 }
 

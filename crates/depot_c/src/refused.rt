@@ -22,7 +22,7 @@ pub enum Refused {
     Memory,
     /// The handle isn't where this can be asked.
     Order,
-    /// Nothing stands at that place.
+    /// Nothing is at that place.
     Absent,
     /// The text is no roster's.
     Roster(RosterError),
@@ -97,7 +97,7 @@ fn of_feed(error: FeedError) -> CallOutcome
     }
 }
 
-/// Adds why a request isn't done: what is printed of it, without the space in front and the LF.
+/// Adds why a request isn't done: what is printed of it, without the preceding space and the LF.
 fn say_reason(alloc: Global, out: &mut Bytes, reason: Reason) -> Result<(), Memory>
     ensures { OnOk result (out.new ≡ out.old ++ text_of_reason reason) }
 {

@@ -47,7 +47,7 @@ fn put_key_of(alloc: Global, input: &[u8]) -> Result<Key, Refused>
     key_of(alloc, input)
 }
 
-/// The request to give the key in front of the input, which has so many bytes, the value behind it.
+/// The request to give the key before the input, which has so many bytes, the value after it.
 fn put_of(alloc: Global, length: u64, input: &[u8]) -> Result<Request, Refused>
     ensures { RequestGiven RequestKind.Put length input.now result }
 {
@@ -88,7 +88,7 @@ fn change_in(alloc: Global, fields: &mut Fields<'_>) -> Result<Change, Fault>
     })
 }
 
-/// Whether a change may stand behind another, or first: its key isn't reserved, and is above the one before it.
+/// Whether a change may follow another, or first: its key isn't reserved, and is above the one before it.
 fn may_stand(before: Option<&Change>, change: &Change) -> bool
     ensures { result ≡ may_stand (option_copied before.entry) change.now }
 {
@@ -119,7 +119,7 @@ fn changes_in(alloc: Global, fields: &mut Fields<'_>, count: u16) -> Result<Chan
     Ok(changes)
 }
 
-/// So many changes, and nothing behind them.
+/// So many changes, and nothing after them.
 fn whole_changes(alloc: Global, fields: &mut Fields<'_>, count: u16) -> Result<Changes, Fault>
     ensures { Gives result (whole (changes_in_bytes count) fields.old) }
 {
@@ -150,7 +150,7 @@ fn ids_in(alloc: Global, fields: &mut Fields<'_>, count: u16) -> Result<Ids, Fau
     Ok(Ids::from_vec(ids))
 }
 
-/// So many ids, and nothing behind them.
+/// So many ids, and nothing after them.
 fn whole_ids(alloc: Global, fields: &mut Fields<'_>, count: u16) -> Result<Ids, Fault>
     ensures { Gives result (whole (digests count) fields.old) }
 {
@@ -185,7 +185,7 @@ fn settled_of(count: u64, input: &[u8]) -> Result<Request, Refused>
     }
 }
 
-/// The request of a kind that a number and bytes ask for. Input comes exactly where they ask for none.
+/// The request of a kind that a number and bytes ask for. Input is returned exactly when they ask for none.
 pub fn request_of(
     alloc: Global,
     kind: RequestKind,

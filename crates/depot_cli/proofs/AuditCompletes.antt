@@ -1,4 +1,4 @@
--- What `audit` comes to where its files are there: none is refused, and what they show is Done or Broken.
+-- The outcome of `audit` if its files are there: none is refused, and what they show is Done or Broken.
 use Rattle.std.proofs.Common.{◌≡◌, ◌⊎◌, ℕ, zero, suc, List, [], ◌∷◌, take, Bool, true, false, eqb, ◌||◌, IsTrue, Option, Some, Err, slice_get, refl, sym, ap, subst, ◌∙◌, inl, inr, arith}
 use Rattle.std.specs.List.{AllByRecursion, list_any}
 use Rattle.std.proofs.lemmas.Bool.{eqb-true}

@@ -1,4 +1,4 @@
--- What `audit` answers, by what was gathered of its trace files behind a roster.
+-- What `audit` answers, by what was gathered of its trace files after a roster.
 use Rattle.std.proofs.Common.{◌≡◌, ◌≤◌, ℕ, map, true, Result, Ok, Err, codes, arith, List, [], ◌∷◌, ◌++◌, length, get_or, take, Some, slice_get, ◌+◌, refl, sym, ap, subst, ◌∙◌, append_assoc, inl, inr}
 use Rattle.std.specs.Result.{IfOk, IsOk}
 use Rattle.std.proofs.lemmas.Option.{get_or_from_slice_get}
@@ -28,15 +28,15 @@ use Rattle.depot_cli.specs.declared.outcome.CommandOutcome.{CommandOutcome}
 use Rattle.depot_cli.specs.declared.status.Status.{Status}
 use Rattle.depot_cli.specs.Runs.{AnswersFiles, Audits, IsAudited, IsRosterText, status_of_finding}
 
--- the place of what was found is a place of the list, and one thing stands there
+-- the place of a finding is a place of the list, and one entry is there
 pub one_at : {X : Type 0} (xs : List X) (place : ℕ) (x y : X) → x ≡ get_or xs place x → slice_get xs place ≡ Some y → x ≡ y
 one_at xs place x y is at = is ∙ get_or_from_slice_get xs place y x at
 
--- behind the roster some first of these were loaded
+-- after the roster some first of these were loaded
 pub loaded_behind : (before mid after : List (List ℕ)) (roster : List ℕ) (names : List (List ℕ)) → mid ≡ before ++ roster ∷ [] → after ≡ mid ++ names → after ≡ before ++ roster ∷ names
 loaded_behind before mid after roster names first rest = rest ∙ ap (λ (xs : List (List ℕ)). xs ++ names) first ∙ append_assoc before (roster ∷ []) names
 
--- what the trace files answer behind a roster is what the audit answers
+-- what the trace files answer after a roster is what the audit answers
 pub audits_behind : (shelf : Shelves) (behind all : Loads) (listed : List RosterEntry) (roster : List ℕ) (names : List (List ℕ)) (status : Status) (text : List ℕ)
     → behind.before ≡ all.before ++ roster ∷ [] → all.after ≡ behind.after → WhereTold shelf (HasFile shelf roster (λ bytes. IsRosterText bytes listed))
     → AnswersFiles shelf behind listed names status text → Audits shelf all roster names status text
@@ -68,14 +68,14 @@ audits_behind shelf behind all listed roster names status text first same found 
   ),
 ))
 
--- the same where the shelf and the names are seen behind the load of the roster
+-- the same where the shelf and the names are seen after the load of the roster
 pub audits_later : (mid shelf : Shelves) (behind all : Loads) (listed : List RosterEntry) (roster : List ℕ) (given names : List (List ℕ)) (status : Status) (text : List ℕ)
     → mid ≡ shelf → given ≡ names → behind.before ≡ all.before ++ roster ∷ [] → all.after ≡ behind.after → WhereTold shelf (HasFile shelf roster (λ bytes. IsRosterText bytes listed))
     → AnswersFiles mid behind listed given status text → Audits shelf all roster names status text
 audits_later mid shelf behind all listed roster given names status text same are first last found answers =
     audits_behind shelf behind all listed roster names status text first last found (subst (λ (ns : List (List ℕ)). AnswersFiles shelf behind listed ns status text) are (subst (λ (s : Shelves). AnswersFiles s behind listed given status text) same answers))
 
--- which trace files were loaded behind the roster, where the shelf and the names are seen behind its load
+-- which trace files were loaded after the roster, where the shelf and the names are seen after its load
 pub loaded_later : (mid shelf : Shelves) (behind all : Loads) (listed : List RosterEntry) (roster : List ℕ) (given names : List (List ℕ))
     → mid ≡ shelf → given ≡ names → behind.before ≡ all.before ++ roster ∷ [] → all.after ≡ behind.after → HasLoadedTraces mid.tells mid.file behind listed [] given → HasLoadedTraces shelf.tells shelf.file all listed (roster ∷ []) names
 loaded_later mid shelf behind all listed roster given names same are first last is =

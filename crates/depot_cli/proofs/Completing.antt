@@ -1,4 +1,4 @@
--- What a run comes to where nothing fails.
+-- The outcome of a run where nothing fails.
 use Rattle.std.proofs.Common.{◌≡◌, ℕ, ◌⊎◌, List, Option, Some, None, refl, ap, ◌∙◌, subst, inl, inr, arith}
 use Rattle.depot_base.specs.Format.{whole}
 use Rattle.depot_base.specs.declared.update.Update.{Update}
@@ -72,7 +72,7 @@ load_completes : (number : ℕ) (status : Status) (text : List ℕ) → PrintsLo
 load_completes number Done text answer = inl refl
 load_completes number status text answer = absurd answer
 
--- what a command answers is what it comes to
+-- what a command answers is its outcome
 completes : (shelf : Shelves) (loads : Loads) (sink : Sinks) (command : Option Invocation) (status : Status) (text : List ℕ) → AnswersCommand shelf loads command status text → IsWell shelf sink → CommandCompletes shelf command status
 completes shelf loads sink None status text (loaded, (is, line)) well = inl is
 completes shelf loads sink (Some (asked.Scan log key)) status text (loaded, answer) well = scan_completes shelf sink log key status text well answer

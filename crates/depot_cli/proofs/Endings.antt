@@ -34,7 +34,7 @@ finished answers begins sink (Ok o) status answered none ends =
 finished answers begins sink (Err e) status answered none ends =
     inr (inl (record { is = ends.is; text = ends.text; begun = subst begins (sym ends.begun) none; wrote = ends.wrote }))
 
--- the same of a command that came to one outcome, unless memory ran out
+-- the same for a command with one outcome, unless memory ran out
 pub finished_by : (answers : Status → List ℕ → Type 0) (begins : List ℕ → Type 0) (sink : Sinks) (found : Result CommandOutcome absent.Memory) (one : CommandOutcome) (status : Status)
     → IfOk found (λ o. o ≡ one) → answers one.status one.text → begins [] → Finishes found sink status → Ends answers begins sink status
 finished_by answers begins sink found one status is answered none ends =
@@ -71,7 +71,7 @@ replay_ends shelf loads name bytes sink status loaded there ends =
     front text (inl none) = (inr loaded, inl none)
     front text (inr (whole, (n, (is, told)))) = (inr loaded, inr (whole, (n, (is, (loaded, replays shelf name bytes Done whole there told)))))
 
--- where a front of a transcript was written before memory ran out, if the sink tells it
+-- where a prefix of a transcript was written before memory ran out, if the sink's text is visible
 pub written_front : (tells : Bool) (before after transcript : List ℕ) → (IsTrue tells → (n : ℕ) × (after ≡ before ++ take n transcript))
     → (text : List ℕ) × (((n : ℕ) × (text ≡ take n transcript)) × (IsTrue tells → after ≡ before ++ text))
 written_front true before after transcript front = let f = front refl in (take f.0 transcript, ((f.0, refl), λ told. f.1))

@@ -1,4 +1,4 @@
--- How `node` ends, by what its roster and its script come to.
+-- How `node` ends, by the outcome of its roster and its script.
 use Rattle.std.proofs.Common.{◌≡◌, ◌≢◌, ◌⊎◌, ℕ, List, [], ◌∷◌, ◌++◌, Option, Some, Result, Ok, refl, sym, ap, subst, ◌∙◌, arith, inl, inr, codes}
 use Rattle.depot_base.proofs.Decoding.{in_one_way}
 use Rattle.depot_base.specs.declared.key.PublicKey.{PublicKey}
@@ -55,7 +55,7 @@ same_shelves g old mid new told same calm quiet = λ i. record {
 
 -- ---- the roster
 
--- a file that is no roster is told
+-- a file that is no roster is reported
 pub no_roster_answers : (shelf : Shelves) (loads : Loads) (n : NodeWords) (bytes : List ℕ) (error : RosterError) (found : Result CommandOutcome absent.Memory) → HasLoaded loads (n.roster ∷ []) → WhereTold shelf (shelf.file n.roster ≡ Some bytes) → (error ≡ roster_error.Memory) ⊎ IsRefusedFor bytes error
     → IfOk found (λ o. (error ≢ roster_error.Memory) × (o ≡ record { status = Input; text = codes "input " ++ n.roster ++ codes " " ++ text_of_roster_error error ++ codes "\n" })) → IfOk found (λ o. AnswersCommand shelf loads (Some (asked.Node n)) o.status o.text)
 no_roster_answers shelf loads n bytes error found named there (inl is) told = IfOk-weaker found _ _ (λ o so. absurd (so.0 is)) told
@@ -71,7 +71,7 @@ more_loads first whole one names before after has = after ∙ has ∙ ap (λ (x 
   append_one [] = refl
   append_one (x ∷ xs) = ap (λ (l : List (List ℕ)). x ∷ l) (append_one xs)
 
--- and a script's files behind it
+-- and a script's files after it
 loads_from_more : (first whole : Loads) (one : List ℕ) (names : List (List ℕ)) (commands : List line.Command) → first.before ≡ whole.before ++ one ∷ [] → whole.after ≡ first.after → LoadsFrom names commands first → LoadsFrom (one ∷ names) commands whole
 loads_from_more first whole one names commands before after loaded = (loaded.0, more_loads first whole one (names ++ loads_given loaded.0 commands) before after loaded.1)
 
@@ -129,7 +129,7 @@ module _ (first : List (List ℕ)) (one : List ℕ) (calls whole : Asked) (behin
   answered_behind here sign J s commands disk shelf sink e (inl w) = inl (w.0, whole_behind here sign s commands w.1)
   answered_behind here sign J s commands disk shelf sink e (inr short) = inr (short.0, short_behind here sign s short.0.done short.0.rest short.1)
 
--- what a script came to, behind one file more that was loaded first
+-- the outcome of a script, after one file more that was loaded first
 runs_behind : (listed : List RosterEntry) (n : NodeWords) (commands : List line.Command) (first : List (List ℕ)) (one : List ℕ) (disk : Disks) (behind shelf : Shelves) (calls whole : Asked) (sink : Sinks) (same_disk : Type 0) (e : ScriptEnding) → behind ≡ shelf → IsBehind calls whole one
     → RunsScript listed n commands first disk behind calls sink same_disk e → RunsScript listed n commands (one ∷ first) disk shelf whole sink same_disk e
 runs_behind listed n commands first one disk behind shelf calls whole sink same_disk e same asked_behind ran =
@@ -156,7 +156,7 @@ bytes_run listed n bytes disk behind shelf first loads calls whole sink same_dis
 bytes_run listed n bytes disk behind shelf first loads calls whole sink same_disk same_mid same_files status same before after called so there (inr (commands, (is, (loaded, (e, (ends, runs)))))) =
     inr (commands, (λ told. record { bytes = bytes; there = there told; holds = is }, (loads_from_more first loads n.script [] commands before after loaded, (e, (ends, runs_behind listed n commands [] n.script disk behind shelf calls whole sink same_disk e same called runs)))))
 
--- what is told of a script behind a roster
+-- what is reported of a script after a roster
 input_behind : (n : NodeWords) (listed : List RosterEntry) (behind shelf : Shelves) (first loads : Loads) (answer : Status) (text : List ℕ) → behind ≡ shelf → first.before ≡ loads.before ++ n.roster ∷ [] → loads.after ≡ first.after → WhereTold shelf (HasFile shelf n.roster (λ bytes. IsRosterText bytes listed))
     → ScriptInputs behind first n.script answer text → NodeInputs shelf loads n.roster n.script answer text
 input_behind n listed behind shelf first loads answer text same before after has (inl (loaded, (is, (lacks, line_is)))) =
@@ -182,9 +182,9 @@ file_run listed n disk behind shelf first loads calls whole sink same_disk same_
       runs = runs_behind listed n commands (n.script ∷ []) n.roster disk behind shelf calls whole sink same_disk e same called runs;
     })
 
--- ---- what nothing stands in the way of
+-- ---- what nothing prevents
 
--- what another command than `node` comes to completes it
+-- the outcome of another command than `node` completes it
 pub results_complete : (disk : Disks) (shelf : Shelves) (loads : Loads) (calls : Asked) (sink : Sinks) (same_disk same_files : Type 0) (command : Option Invocation) (status : Status) → Results command disk shelf loads calls sink same_disk same_files status → IsWell shelf sink → CommandCompletes shelf command status
 results_complete disk shelf loads calls sink same_disk same_files (Some (asked.Node n)) status r well = tt
 results_complete disk shelf loads calls sink same_disk same_files other status r well = ends_complete shelf loads sink other status r.1 well

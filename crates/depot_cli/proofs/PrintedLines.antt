@@ -1,4 +1,4 @@
--- What is printed behind a word, grouped either way.
+-- What is printed after a word, grouped either way.
 use Rattle.std.proofs.Common.{◌≡◌, ℕ, List, ◌++◌, ap, sym, ◌∙◌, append_assoc}
 
 -- three parts

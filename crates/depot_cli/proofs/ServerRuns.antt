@@ -1,4 +1,4 @@
--- How `serve` ends, by what its roster comes to, and what it comes to where nothing fails.
+-- How `serve` ends, by the outcome of its roster, and its outcome where nothing fails.
 use Rattle.std.proofs.Common.{◌≡◌, ◌≢◌, ◌⊎◌, ℕ, ◌+◌, List, [], ◌∷◌, ◌++◌, append_assoc, append-nil, length, length-append, take, drop, Bool, true, false, Option, Some, None, Result, Err, codes, refl, sym, ap, subst, ◌∙◌, arith, inl, inr}
 use Rattle.std.proofs.Math.Seq.{drop-append_seam, take-append_seam}
 use Rattle.std.proofs.lemmas.List.{append_cancel_left}
@@ -49,7 +49,7 @@ use Rattle.depot_cli.proofs.ThereFiles.{no_roster, not_lacking, one_file}
 
 -- ---- the roster
 
--- a file that is no roster is told
+-- a file that is no roster is reported
 pub no_roster_told : (shelf : Shelves) (loads : Loads) (name bytes : List ℕ) (error : RosterError) (found : Result CommandOutcome absent.Memory) → HasLoaded loads (name ∷ []) → WhereTold shelf (shelf.file name ≡ Some bytes) → (error ≡ roster_error.Memory) ⊎ IsRefusedFor bytes error
     → IfOk found (λ o. (error ≢ roster_error.Memory) × (o ≡ record { status = Input; text = codes "input " ++ name ++ codes " " ++ text_of_roster_error error ++ codes "\n" })) → IfOk found (λ o. RosterInputs shelf loads name o.status o.text)
 no_roster_told shelf loads name bytes error found named there (inl is) told = IfOk-weaker found _ _ (λ o so. absurd (so.0 is)) told
@@ -72,7 +72,7 @@ after_disk_fault e status is (inr (inr memory)) = inr (inr (is ∙ ap status_of_
 
 -- ---- what comes in place of requests
 
--- what stands in front of as many bytes is the same
+-- what precedes as many bytes is the same
 same_front : (a b r s : List ℕ) → length a ≡ length b → a ++ r ≡ b ++ s → (a ≡ b) × (r ≡ s)
 same_front a b r s long is = (
   sym (take-append_seam a r) ∙ ap (take (length a)) is ∙ ap (λ (n : ℕ). take n (b ++ s)) long ∙ take-append_seam b s,
@@ -87,11 +87,11 @@ same_message f g r s is_f is_g same =
     let bodies = same_front f.body g.body r s long heads.1 in
     (ap (λ (h : List ℕ). record { head = h; body = f.body }) heads.0 ∙ ap (λ (b : List ℕ). record { head = g.head; body = b }) bodies.0, bodies.1)
 
--- how long a message is, and what stands behind it
+-- how long a message is, and what follows it
 long_message : (m : Message) (r : List ℕ) → IsMessage m → length (text_of_message m ++ r) ≡ 4 + length m.body + length r
 long_message m r is = length-append (text_of_message m) r ∙ ap (λ (n : ℕ). n + length r) (length-append m.head m.body ∙ ap (λ (n : ℕ). n + length m.body) is.head)
 
--- a part of a message isn't a whole one, whatever stands behind that
+-- a part of a message isn't a whole one, whatever follows that
 no_part : (m : Message) (r text : List ℕ) → IsMessage m → text ≡ text_of_message m ++ r → IsPartOfMessage text → ⊥
 no_part m r text is same (inl short) = let long : length text ≡ 4 + length m.body + length r = ap length same ∙ long_message m r is in omega (arith, long, short)
 no_part m r text is same (inr (head, part, (parts, (four, less)))) =
@@ -100,7 +100,7 @@ no_part m r text is same (inr (head, part, (parts, (four, less)))) =
     let long : length part ≡ length m.body + length r = ap length fronts.1 ∙ length-append m.body r in
     omega (arith, less, says, long)
 
--- where requests are what comes, no bytes of their front are none
+-- where requests are what comes, no bytes of their prefix are none
 never_none : (requests : List Message) (over : Bool) (behind rest : List ℕ) (within : ℕ) → AreAsking requests → (over ≡ true → rest ≡ []) → behind ++ rest ≡ flat_map text_of_message requests → NoRequestCame over behind within → ⊥
 never_none [] over behind rest within each ends is (inl (inl (four, wrong), none)) = let long : length behind + length rest ≡ 0 = sym (length-append behind rest) ∙ ap length is in omega (arith, long, four)
 never_none [] over behind rest within each ends is (inl (inr (found, (least, part)), none)) = let long : length behind + length rest ≡ 0 = sym (length-append behind rest) ∙ ap length is in omega (arith, long, least)
@@ -119,7 +119,7 @@ never_none (m ∷ ms) over behind rest within each ends is (inr (other, (is_othe
     let one = same_message other m rest (flat_map text_of_message ms) is_other each.0.is (sym (ap (λ (t : List ℕ). t ++ rest) text) ∙ is) in
     no_fault m.body within each.0.asks (subst (λ (x : Message). IsAskedFault x.body within) one.0 faulty)
 
--- nor are those that stand behind some of them
+-- nor are those that follow some of them
 never_none_behind : (done requests : List Message) (over : Bool) (behind rest : List ℕ) (within : ℕ) → AreAsking done → AreAsking requests → (over ≡ true → rest ≡ []) → flat_map text_of_message done ++ (behind ++ rest) ≡ flat_map text_of_message requests
     → NoRequestCame over behind within → ⊥
 never_none_behind [] requests over behind rest within are each ends is came = never_none requests over behind rest within each ends is came
@@ -130,7 +130,7 @@ never_none_behind (d ∷ ds) (m ∷ ms) over behind rest within are each ends is
     let one = same_message d m (flat_map text_of_message ds ++ (behind ++ rest)) (flat_map text_of_message ms) are.0.is each.0.is (sym (append_assoc (text_of_message d) (flat_map text_of_message ds) (behind ++ rest)) ∙ is) in
     never_none_behind ds ms over behind rest within are.1 each.1 ends one.1 came
 
--- ---- what nothing stands in the way of
+-- ---- what nothing prevents
 
 no_fault_of_roster : (shelf : Shelves) (loads : Loads) (sink : Sinks) (n : ServerWords) (listed : List RosterEntry) (answer : Status) (text : List ℕ) → IsWell shelf sink → HasFile shelf n.roster (λ bytes. IsRosterText bytes listed) → RosterInputs shelf loads n.roster answer text → ⊥
 no_fault_of_roster shelf loads sink n listed answer text well has (inl (loaded, (is, (lacks, line)))) = not_lacking shelf sink n.roster has.bytes well has.there lacks
@@ -150,7 +150,7 @@ unstarted_memory disk shelf sink refused.Memory e status well disk_well is only 
 unstarted_memory disk shelf sink refused.Disk e status well disk_well is only failed (inl said) = absurd (omega (arith, failed refl, disk_well.is_well))
 unstarted_memory disk shelf sink other e status well disk_well is only failed (inl said) = absurd (only tt)
 
--- behind requests that were answered no others came, so that what came next is one
+-- after requests that were answered no others came, so that what came next is one
 no_other : (input : Inputs) (done requests : List Message) (behind : List ℕ) (within : ℕ) → IsWellSource input → input.after ++ input.rest_after ≡ input.before ++ input.rest → input.rest ≡ flat_map text_of_message requests → AreAsking done → AreAsking requests
     → input.after ≡ (input.before ++ flat_map text_of_message done) ++ behind → NoRequestCame input.over behind within → ⊥
 no_other input done requests behind within well whole gives are each given came =

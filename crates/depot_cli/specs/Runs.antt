@@ -61,13 +61,13 @@ EndsAtFault shelf status = (status ≡ Shelf) ⊎ (shelf.faults_after ≡ shelf.
 
 -- ---- scan
 
--- the bytes are no log, and the text tells where they go wrong
+-- the bytes are no log, and the text says where they go wrong
 pub record IsNoLog (name text bytes : List ℕ) : Type 0 where
   pub at : ℕ
   pub fault : IsLogFault bytes at
   pub is : text ≡ codes "input " ++ name ++ codes " at " ++ decimal at ++ codes "\n"
 
--- the bytes are a log, and the text tells the place of the first body with a parent that doesn't stand before it
+-- the bytes are a log, and the text names the place of the first body with a parent that doesn't precede it
 pub record IsOrphaned (text bytes : List ℕ) : Type 0 where
   pub place : ℕ
   pub orphan : HasOrphan bytes place
@@ -102,7 +102,7 @@ pub record IsRosterText (bytes : List ℕ) (r : List RosterEntry) : Type 0 where
   pub fits : IsRoster r
   pub is : bytes ≡ text_of_roster r
 
--- the bytes are no roster's, and the text tells why
+-- the bytes are no roster's, and the text says why
 pub record IsNoRoster (name text bytes : List ℕ) : Type 0 where
   pub error : RosterError
   pub cause : IsRefusedFor bytes error
@@ -130,7 +130,7 @@ JudgesProof shelf listed proof NoProof text = (e : JudgeError) × (IsPoint e × 
 JudgesProof shelf listed proof Shelf text = LacksFile shelf proof × (text ≡ shelf_line proof)
 JudgesProof shelf listed proof status text = ⊥
 
--- what `judge` answers: the roster is loaded and parsed first, and then the proof
+-- what `judge` answers: the roster is loaded and parsed first, then the proof
 abbrev pub Judges : Shelves → Loads → List ℕ → List ℕ → Status → List ℕ → Type 0
 Judges shelf loads roster proof status text =
     (HasLoaded loads (roster ∷ []) × ((status ≡ Shelf) × (LacksFile shelf roster × (text ≡ shelf_line roster)))) ⊎
@@ -139,9 +139,9 @@ Judges shelf loads roster proof status text =
 
 -- ---- replay
 
--- The bytes are the text of a schedule, and the text is its transcript. So it tells of a world that is fork-join causal and convicts no
--- correct node, while no correct node's signature is forged and no two hashed texts collide in it. No proof of two statements names a
--- correct node while none is forged, whether texts collide or not.
+-- The bytes are the text of a schedule, and the text is its transcript. So it describes a world that is fork-join
+-- causal and convicts no correct node, while no correct node's signature is forged and no two hashed texts collide in
+-- it. No proof of two statements names a correct node while none is forged, whether texts collide or not.
 pub record IsReplayed (text bytes : List ℕ) : Type 0 where
   pub schedule : Schedule
   pub read : IsTextOfSchedule bytes schedule
@@ -150,7 +150,7 @@ pub record IsReplayed (text bytes : List ℕ) : Type 0 where
   pub convicts : IsAuthentic (world_of schedule) → IsCollisionFree (world_of schedule) → ConvictsNoCorrectNode (world_of schedule)
   pub pairs : IsAuthentic (world_of schedule) → PairsConvictNoCorrectNode (world_of schedule)
 
--- the bytes are no schedule's, and the text tells the first faulty line and its first fault
+-- the bytes are no schedule's, and the text names the first faulty line and its first fault
 pub record IsNoSchedule (name text bytes : List ℕ) : Type 0 where
   pub number : ℕ
   pub fault : LineFault
@@ -172,14 +172,14 @@ Replays shelf name status text = ⊥
 
 -- ---- load
 
--- what is summed up of the replay of the schedule that the number makes
+-- the summary of the replay of the schedule that the number makes
 abbrev pub PrintsLoad : ℕ → Status → List ℕ → Type 0
 PrintsLoad number Done text = text ≡ summary_of number (transcript_of (load_of number))
 PrintsLoad number status text = ⊥
 
 -- ---- node
 
--- the bytes are no script's, and the text tells the first faulty line and its first fault
+-- the bytes are no script's, and the text names the first faulty line and its first fault
 pub record IsNoScript (name text bytes : List ℕ) : Type 0 where
   pub number : ℕ
   pub fault : LineFault
@@ -190,7 +190,8 @@ pub record IsNoScript (name text bytes : List ℕ) : Type 0 where
 abbrev pub IsSomeRoster : List ℕ → Type 0
 IsSomeRoster bytes = (r : List RosterEntry) × IsRosterText bytes r
 
--- What `node` answers where its roster or its script can't be had or isn't one: the roster is loaded and parsed first, and then the script.
+-- What `node` answers if its roster or its script can't be had or isn't one: the roster is loaded and parsed first,
+-- then the script.
 abbrev pub NodeInputs : Shelves → Loads → List ℕ → List ℕ → Status → List ℕ → Type 0
 NodeInputs shelf loads roster script status text =
     (HasLoaded loads (roster ∷ []) × ((status ≡ Shelf) × (LacksFile shelf roster × (text ≡ shelf_line roster)))) ⊎
@@ -205,8 +206,8 @@ abbrev pub status_of_finding : audits.Finding → Status
 status_of_finding audits.yes_found = Done
 status_of_finding other = Broken
 
--- What an audit of these traces answers: their one finding. It is yes exactly where they make a world that is fork-join causal, in which no
--- conviction names one of their nodes.
+-- What an audit of these traces answers: their one finding. It is yes exactly when they make a world that is fork-join
+-- causal, in which no conviction names one of their nodes.
 pub record IsAudited (listed : List RosterEntry) (ts : List Trace) (status : Status) (text : List ℕ) : Type 0 where
   pub found : audits.Finding
   pub is : IsFindingOf winternitz_verifies listed (map trace_of ts) found
@@ -214,7 +215,7 @@ pub record IsAudited (listed : List RosterEntry) (ts : List Trace) (status : Sta
   pub status_is : status ≡ status_of_finding found
   pub text_is : text ≡ text_of_finding found ++ codes "\n"
 
--- why the file of a name is refused, as it is told
+-- why the file of a name is refused, as it is reported
 abbrev pub text_of_refusal : List ℕ → TraceRefusal → List ℕ
 text_of_refusal name refusal.Missing = shelf_line name
 text_of_refusal name (refusal.IllFormed at) = codes "input " ++ name ++ codes " at " ++ decimal at ++ codes "\n"
@@ -229,16 +230,17 @@ status_of_refusal why = Input
 abbrev pub HasShelfFailed : Shelves → Type 0
 HasShelfFailed shelf = shelf.faults_before < shelf.faults_after
 
--- What the trace files of these names answer, where this was gathered of them.
+-- What the trace files of these names answer, given what was gathered of them.
 abbrev pub AnswersGathered : List RosterEntry → List (List ℕ) → GatheredTraces → Status → List ℕ → Type 0
 AnswersGathered listed names (gathered.Traces ts) status text = IsAudited listed ts status text
 AnswersGathered listed names (gathered.Refused place why) status text = (status ≡ status_of_refusal why) × ((name : List ℕ) → slice_get names place ≡ Some name → text ≡ text_of_refusal name why)
 
--- What they answer behind a roster: what was gathered of them, by which files were loaded, and its answer.
+-- What they answer after a roster: what was gathered of them, which files were loaded, and its answer.
 abbrev pub AnswersFiles : Shelves → Loads → List RosterEntry → List (List ℕ) → Status → List ℕ → Type 0
 AnswersFiles shelf loads listed names status text = (g : GatheredTraces) × (IsGathered shelf.tells shelf.file (HasShelfFailed shelf) (shelf.faults_after ≡ shelf.faults_before) loads listed names g × AnswersGathered listed names g status text)
 
--- The trace file of a place is refused: those before it were loaded and are traces of distinct nodes of the roster, and none behind it was loaded.
+-- The trace file of a place is refused: those before it were loaded and are traces of distinct nodes of the roster, and
+-- none after it was loaded.
 pub record RefusesTrace (shelf : Shelves) (loads : Loads) (listed : List RosterEntry) (roster : List ℕ) (names : List (List ℕ)) (status : Status) (text : List ℕ) : Type 0 where
   pub place : ℕ
   pub why : TraceRefusal
@@ -255,7 +257,7 @@ pub record AuditsTraces (shelf : Shelves) (loads : Loads) (listed : List RosterE
   pub for_audit : AreForAudit listed traces
   pub audited : IsAudited listed traces status text
 
--- What `audit` answers: the roster is loaded and parsed first, then the trace files one by one, and then they are audited.
+-- What `audit` answers: the roster is loaded and parsed first, then the trace files one by one; then they are audited.
 abbrev pub Audits : Shelves → Loads → List ℕ → List (List ℕ) → Status → List ℕ → Type 0
 Audits shelf loads roster names status text =
     (HasLoaded loads (roster ∷ []) × ((status ≡ Shelf) × (LacksFile shelf roster × (text ≡ shelf_line roster)))) ⊎
@@ -264,7 +266,7 @@ Audits shelf loads roster names status text =
 
 -- ---- any command
 
--- what the command answers and prints, and which files it loads, where memory is found and the sink doesn't fail
+-- what the command answers and prints, and which files it loads, if memory is found and the sink doesn't fail
 abbrev pub AnswersCommand : Shelves → Loads → Option Invocation → Status → List ℕ → Type 0
 AnswersCommand shelf loads None status text = HasLoaded loads [] × ((status ≡ Words) × (text ≡ codes "words\n"))
 AnswersCommand shelf loads (Some (asked.Scan log key)) status text = HasLoaded loads (log ∷ []) × Scans shelf log key status text
@@ -275,7 +277,7 @@ AnswersCommand shelf loads (Some (asked.Load number)) status text = HasLoaded lo
 AnswersCommand shelf loads (Some (asked.Node n)) status text = NodeInputs shelf loads n.roster n.script status text
 AnswersCommand shelf loads (Some (asked.Audit roster traces)) status text = Audits shelf loads roster traces status text
 
--- nothing, or a front of a text of which this holds
+-- nothing, or a prefix of a text of which this holds
 abbrev pub IsFrontOf : (List ℕ → Type 0) → List ℕ → Type 0
 IsFrontOf P text = (text ≡ []) ⊎ ((whole : List ℕ) × ((n : ℕ) × ((text ≡ take n whole) × P whole)))
 
@@ -287,13 +289,14 @@ LoadsAtMost loads name = HasLoaded loads [] ⊎ HasLoaded loads (name ∷ [])
 abbrev pub LoadsBehindRoster : Shelves → Loads → List ℕ → List ℕ → Type 0
 LoadsBehindRoster shelf loads roster other = LoadsAtMost loads roster ⊎ (HasLoaded loads (roster ∷ other ∷ []) × WhereTold shelf (HasRoster shelf roster))
 
--- no more than the roster was loaded; or it is one, and some first ones of the files of these names were loaded, too, of which all but
--- maybe the last are traces of distinct nodes of the roster
+-- at most the roster was loaded; or it is one, and a prefix of the files of these names was loaded, too, all but maybe
+-- the last traces of distinct nodes of the roster
 abbrev pub LoadsTracesBehindRoster : Shelves → Loads → List ℕ → List (List ℕ) → Type 0
 LoadsTracesBehindRoster shelf loads roster names =
     LoadsAtMost loads roster ⊎ ((listed : List RosterEntry) × (WhereTold shelf (HasFile shelf roster (λ bytes. IsRosterText bytes listed)) × HasLoadedTraces shelf.tells shelf.file loads listed (roster ∷ []) names))
 
--- what had been loaded when memory ran out: the first of the files that the words name
+-- what had been loaded when memory ran out: of the files that the words name at most the first, and further ones only
+-- after a roster
 abbrev pub LoadsFirst : Shelves → Loads → Option Invocation → Type 0
 LoadsFirst shelf loads (Some (asked.Scan log key)) = LoadsAtMost loads log
 LoadsFirst shelf loads (Some (asked.Judge roster proof)) = LoadsBehindRoster shelf loads roster proof
@@ -302,7 +305,8 @@ LoadsFirst shelf loads (Some (asked.Node n)) = LoadsBehindRoster shelf loads n.r
 LoadsFirst shelf loads (Some (asked.Audit roster traces)) = LoadsTracesBehindRoster shelf loads roster traces
 LoadsFirst shelf loads command = HasLoaded loads []
 
--- what had been loaded and written when memory ran out: no text, or a front of the transcript that `replay` writes line by line
+-- what had been loaded and written when memory ran out: no text, or a prefix of the transcript that `replay` writes
+-- line by line
 abbrev pub Begins : Shelves → Loads → Option Invocation → List ℕ → Type 0
 Begins shelf loads (Some (asked.Replay schedule)) text = LoadsAtMost loads schedule × IsFrontOf (AnswersCommand shelf loads (Some (asked.Replay schedule)) Done) text
 Begins shelf loads command text = LoadsFirst shelf loads command × (text ≡ [])
@@ -339,24 +343,24 @@ Ends answers begins sink status = EndsWhole answers sink status ⊎ (EndsWithout
 abbrev pub CommandEnds : Shelves → Loads → Option Invocation → Sinks → Status → Type 0
 CommandEnds shelf loads command sink status = Ends (AnswersCommand shelf loads command) (Begins shelf loads command) sink status
 
--- how a run ends that writes at once the text that it came to
+-- how a run ends that writes its text at once
 abbrev pub Finishes : Result CommandOutcome absent.Memory → Sinks → Status → Type 0
 Finishes (Ok o) sink status = Ends (λ answer text. (answer ≡ o.status) × (text ≡ o.text)) (λ text. text ≡ []) sink status
 Finishes (Err e) sink status = EndsWithoutMemory (λ text. text ≡ []) sink status
 
--- how a run ends that plays a schedule: the whole transcript is written, or a front of it
+-- how a run ends that plays a schedule: the whole transcript is written, or a prefix of it
 abbrev pub PlaysSchedule : Schedule → Sinks → Status → Type 0
 PlaysSchedule s sink status = Ends (λ answer text. (answer ≡ Done) × (text ≡ transcript_of s)) (λ text. (n : ℕ) × (text ≡ take n (transcript_of s))) sink status
 
--- ---- what nothing stands in the way of
+-- ---- what nothing prevents
 
--- no count of faults rose in this run, and the shelf tells its files
+-- no count of faults rose in this run, and the shelf's files are visible
 pub record IsWell (shelf : Shelves) (sink : Sinks) : Type 0 where
   pub tells : IsTrue shelf.tells
   pub shelf_is_well : shelf.faults_after ≡ shelf.faults_before
   pub sink_is_well : sink.faults_after ≡ sink.faults_before
 
--- the bytes are a log in which every parent stands before its child
+-- the bytes are a log in which every parent precedes its child
 pub record IsWholeLog (bytes : List ℕ) : Type 0 where
   pub updates : List Update
   pub log : IsLog bytes updates
@@ -374,7 +378,8 @@ AreTraceFiles shelf names ts = AreHanded true shelf.file names ts × AllByRecurs
 abbrev pub AreOfRoster : List RosterEntry → List Trace → Type 0
 AreOfRoster listed ts = AllByRecursion (λ t. has_node listed t.node ≡ true) ts × AreDistinct (nodes_of ts)
 
--- what such a run comes to, where its files are there and in their grammars; Memory may stand in place of each status. Of `node` it is said beside its runs.
+-- the outcome of such a run, if its files are there and in their grammars; `Memory` may replace each status. For `node`
+-- it is given with its runs.
 abbrev pub CommandCompletes : Shelves → Option Invocation → Status → Type 0
 CommandCompletes shelf None status = (status ≡ Words) ⊎ (status ≡ Memory)
 CommandCompletes shelf (Some (asked.Scan log key)) status = HasFile shelf log IsWholeLog → (status ≡ Done) ⊎ (status ≡ Memory)

@@ -1,4 +1,4 @@
--- What `serve` makes of the disk, the source and the sink, and what each command comes to.
+-- What `serve` makes of the disk, the source and the sink, and the outcome of each command.
 use Rattle.std.specs.Prelude.{◌≡◌, ◌<◌, ◌⊎◌, ℕ, List, [], ◌∷◌, ◌++◌, true, IsTrue, Option, Some, None}
 use Rattle.std.specs.List.{flat_map}
 use Rattle.depot_base.specs.Faults.{HasCause}
@@ -32,17 +32,18 @@ use Rattle.depot_cli.specs.declared.invocation.ServerWords.{ServerWords}
 use Rattle.depot_cli.specs.declared.status.Status.{Status}
 use Rattle.depot_cli.specs.declared.status.Status.TheVariants.{Done, Input, Memory, Shelf}
 
--- what the bodies of messages come to at the node of these words
+-- the outcome of the bodies of messages at the node of these words
 abbrev pub serves_by : List RosterEntry → ServerWords → ServesBody
 serves_by listed n = serves_at (node_at listed n.id) (winternitz_signature n.seed n.height)
 
 -- A node of this roster was served.
 --
--- Images: what a stop at any moment of the run leaves on the disk it left before, or it is a lawful journal that begins with the one that was
--- there; where the run ended by its input or its source, all that it leaves afterwards is one such journal. Requests, replies and journal: the node is
--- refused, which is said, and nothing of the source was read; or it starts, which is said, and what is given is served from its journal on. Over a
--- lawful journal of this node, or none, that is the journal. Where the roster hasn't its key the disk isn't touched. Of what the source tells nothing
--- is lost. A fault of the sink or the source is answered exactly where it came, one of the disk only there.
+-- Images: each crash image was possible before the run, or is a lawful journal that extends the old one; if the run
+-- ended by its input or its source, all later crash images are one such journal. Requests, replies and journal: the
+-- node is refused, which is written, and nothing of the source was read; or it starts, which is written, and the input
+-- is served from its journal on. Over a lawful journal of this node, or none, that is the journal. If the roster lacks
+-- its key the disk isn't touched. No visible input is lost. A fault of the sink or the source is answered exactly when
+-- it came, one of the disk only then.
 pub record RunsServer (listed : List RosterEntry) (n : ServerWords) (disk : Disks) (input : Inputs) (sink : Sinks) (same_disk unread : Type 0) (ends : ServerEnding) : Type 0 where
   pub images : IsTrue disk.tells → KeepsFile (node_at listed n.id) disk
   pub stable : IsTrue disk.tells → EndsByInput ends → Settles (node_at listed n.id) disk
@@ -55,7 +56,7 @@ pub record RunsServer (listed : List RosterEntry) (n : ServerWords) (disk : Disk
   pub sink_cause : HasCause sink.faults_before sink.faults_after (ends ≡ ending.Sink)
   pub source_cause : HasCause input.faults_before input.faults_after (ends ≡ ending.Source)
 
--- A node was served, and the run ended with this status. Of the shelf its roster was loaded, and nothing else was asked.
+-- A node was served, and the run ended with this status. The shelf was asked for its roster alone.
 pub record ServesNode (n : ServerWords) (disk : Disks) (shelf : Shelves) (loads : Loads) (input : Inputs) (sink : Sinks) (same_disk same_files unread : Type 0) (status : Status) : Type 0 where
   pub files : same_files
   pub loaded : HasLoaded loads (n.roster ∷ [])
@@ -65,7 +66,8 @@ pub record ServesNode (n : ServerWords) (disk : Disks) (shelf : Shelves) (loads 
   pub status_is : status ≡ status_of_server ends
   pub runs : RunsServer listed n disk input sink same_disk unread ends
 
--- What the node of a roster comes to: memory ran out before it was looked for, and nothing has changed; or it was served.
+-- The outcome of the node of a roster: memory ran out before it was looked for, and nothing has changed; or it was
+-- served.
 abbrev pub ServesRoster : List RosterEntry → ServerWords → Disks → Inputs → Sinks → (same_disk unread : Type 0) → Status → Type 0
 ServesRoster listed n disk input sink same_disk unread status =
     ((status ≡ Memory) × (same_disk × (unread × Wrote sink []))) ⊎
@@ -77,20 +79,21 @@ RosterInputs shelf loads roster status text =
     (HasLoaded loads (roster ∷ []) × ((status ≡ Shelf) × (LacksFile shelf roster × (text ≡ shelf_line roster)))) ⊎
     (HasLoaded loads (roster ∷ []) × ((status ≡ Input) × WhereTold shelf (HasFile shelf roster (IsNoRoster roster text))))
 
--- What `serve` comes to. Its roster can't be had or is none, which is told, or memory ran out before the node was looked for; then disk, files and
--- source are as they were. Or the node was served.
+-- The outcome of `serve`. Its roster can't be had or is none, which is printed, or memory ran out before the node was
+-- looked for; then disk, files and source are as they were. Or the node was served.
 abbrev pub ServeResults : ServerWords → Disks → Shelves → Loads → Inputs → Sinks → (same_disk same_files unread : Type 0) → Status → Type 0
 ServeResults n disk shelf loads input sink same_disk same_files unread status =
     ((same_disk × (same_files × unread)) × Ends (RosterInputs shelf loads n.roster) (λ text. LoadsAtMost loads n.roster × (text ≡ [])) sink status) ⊎
     ServesNode n disk shelf loads input sink same_disk same_files unread status
 
--- What words come to: those of `serve` serve its node. Any others are a command, or none, that reads nothing of the source.
+-- The outcome of words: those of `serve` serve its node. Any others are a command, or none, that reads nothing of the
+-- source.
 abbrev pub AllResults : Option ServerWords → Option Invocation → Disks → Shelves → Loads → Asked → Inputs → Sinks → (same_disk same_files unread : Type 0) → Status → Type 0
 AllResults (Some n) command disk shelf loads calls input sink same_disk same_files unread status = ServeResults n disk shelf loads input sink same_disk same_files unread status
 AllResults None command disk shelf loads calls input sink same_disk same_files unread status = unread × Results command disk shelf loads calls sink same_disk same_files status
 
--- A run that finds a disk, a shelf, a source and a sink as these, and leaves them as those, ends with this status: of what they tell of it, and of
--- whether disk, files and source are as they were, this holds.
+-- A run that finds this disk, shelf, source and sink, and leaves those, ends with this status: this holds of what is
+-- visible of them, and of whether disk, files and source are as they were.
 abbrev pub BetweenAll : {F D I S : Type 0} → (Disks → Shelves → Loads → Asked → Inputs → Sinks → (same_disk same_files unread : Type 0) → Status → Type 0)
     → shelf_of.Ghosts F → F → F → disk_of.Ghosts D → D → D → source_of.Ghosts I → I → I → sink_of.Ghosts S → S → S → Status → Type 0
 BetweenAll P f shelf shelf_then d disk disk_then i input input_then s out out_then status =
@@ -99,24 +102,24 @@ BetweenAll P f shelf shelf_then d disk disk_then i input input_then s out out_th
 
 -- ---- where nothing fails
 
--- what words come to that aren't those of `serve`
+-- the outcome of words that aren't those of `serve`
 abbrev pub CompletesOffline : Option ServerWords → Shelves → Option Invocation → Status → Type 0
 CompletesOffline (Some n) shelf command status = Unit {0}
 CompletesOffline None shelf command status = CommandCompletes shelf command status
 
--- no count of faults rose in this run, the source tells what is to come, and where its end was found nothing is
+-- no count of faults rose in this run, the coming input is visible, and at its end nothing comes
 pub record IsWellSource (input : Inputs) : Type 0 where
   pub tells : IsTrue input.tells
   pub is_well : input.faults_after ≡ input.faults_before
   pub ends : input.over ≡ true → input.rest_after ≡ []
 
--- what `serve` comes to over a lawful journal of its node, or none, where what the source gives is requests; Memory may stand in its place
+-- the outcome of `serve` over a lawful journal of its node, or none, if the input is requests; `Memory` may replace it
 abbrev pub CompletesServe : Disks → Shelves → Inputs → Option ServerWords → Status → Type 0
 CompletesServe disk shelf input (Some n) status = (listed : List RosterEntry) (J : List Record) (requests : List Message) → HasFile shelf n.roster (λ bytes. IsRosterText bytes listed)
     → key_of listed n.id ≡ Some (key_of_seed n.seed n.height) → IsLawful (node_at listed n.id) J → HasRecords J disk.file
     → AreAsking requests → input.rest ≡ flat_map text_of_message requests → (status ≡ Done) ⊎ (status ≡ Memory)
 CompletesServe disk shelf input None status = Unit {0}
 
--- Where no count of faults rises, the roster is there, and what the source gives to its end is requests, `serve` does what it says.
+-- If no count of faults rises, the roster is there, and the input is requests to its end, `serve` does what it says.
 abbrev pub ServeCompletes : Disks → Shelves → Inputs → Sinks → Option ServerWords → Status → Type 0
 ServeCompletes disk shelf input sink words status = IsWell shelf sink → IsWellDisk disk → IsWellSource input → CompletesServe disk shelf input words status

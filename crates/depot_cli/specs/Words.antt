@@ -89,7 +89,7 @@ abbrev pub command_of : List (List ℕ) → Option Invocation
 command_of (verb ∷ roster ∷ traces) = if bytes_eq verb (codes "audit") then audit_command roster traces else command_by_number (verb ∷ roster ∷ traces)
 command_of words = None
 
--- what is asked for by `serve ROSTER SEED HEIGHT ID`, if the words are that
+-- what `serve ROSTER SEED HEIGHT ID` asks for, if the words are that
 unfoldable pub served_words : List (List ℕ) → Option ServerWords
 served_words (verb ∷ a ∷ b ∷ c ∷ d ∷ []) = if bytes_eq verb (codes "serve") then server_words a b c d else None
 served_words words = None

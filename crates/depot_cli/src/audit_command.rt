@@ -64,7 +64,7 @@ fn audited(alloc: Global, roster: &Roster, traces: &Traces) -> Result<CommandOut
     found_or_none(alloc, audit_traces(alloc, roster, &WinterScheme, traces))
 }
 
-/// The file of that name isn't in its grammar from this offset on, printed.
+/// The line of the file of that name, which isn't in its grammar from this offset on.
 fn ill_formed(alloc: Global, name: &str, at: u64) -> Result<CommandOutcome, Memory>
     ensures { IfOk result (λ o. o ≡ record { status = Status.Input; text = codes "input " ++ name.now ++ codes " at " ++ decimal at ++ codes "\n" }) }
 {
@@ -72,7 +72,7 @@ fn ill_formed(alloc: Global, name: &str, at: u64) -> Result<CommandOutcome, Memo
     CommandOutcome::of_line(alloc, Status::Input, line.as_str())
 }
 
-/// The file of that name has the trace of a node of which a file before it has one, printed.
+/// The line of the file of that name, which has the trace of a node of which an earlier file has one.
 fn twice(alloc: Global, name: &str, node: NodeId) -> Result<CommandOutcome, Memory>
     ensures { IfOk result (λ o. o ≡ record { status = Status.Input; text = codes "input " ++ name.now ++ codes " twice " ++ decimal node ++ codes "\n" }) }
 {
@@ -93,7 +93,7 @@ fn refused(alloc: Global, name: &str, why: TraceRefusal) -> Result<CommandOutcom
     }
 }
 
-/// What the trace files of these names come to under a roster. They are loaded one by one, up to the first that is refused.
+/// Loads the trace files of these names one by one, up to the first that is refused, and audits them under a roster.
 fn audit_files<F: Shelf>(
     alloc: Global,
     shelf: &mut F,
@@ -114,7 +114,7 @@ fn audit_files<F: Shelf>(
     }
 }
 
-/// What an audit of the traces of these names under the roster of another comes to. The roster is loaded and parsed first.
+/// Audits the traces of these names under the roster of another. The roster is loaded and parsed first.
 pub fn audit<F: Shelf>(
     alloc: Global,
     shelf: &mut F,

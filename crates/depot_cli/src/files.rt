@@ -6,7 +6,7 @@ ghost use Rattle.depot_cli.specs.Runs.{IsFileLoaded};
 use depot_base::{Bytes, Memory};
 use depot_outside::{OutError, Shelf};
 
-/// The bytes of the file of that name, or None where it can't be had: it isn't on the shelf, or the shelf failed.
+/// The bytes of the file of that name, or `None` if it can't be had: it isn't on the shelf, or the shelf failed.
 pub fn load<F: Shelf>(shelf: &mut F, name: &str) -> Result<Option<Bytes>, Memory>
     ensures loaded { IfOk result (IsFileLoaded (shelves F.Shelf shelf.old shelf.new) name.now) }
     ensures loads { F.loads shelf.new ≡ F.loads shelf.old ++ name.now ∷ [] }

@@ -17,7 +17,7 @@ use std::alloc::Global;
 /// What the words ask for.
 #[derive(Debug, Drop)]
 pub enum Invocation {
-    /// `scan LOG KEY`: the latest writes of a key in a log. The name of the log, and the key.
+    /// `scan LOG KEY`: prints the latest writes of a key in a log. The name of the log, and the key.
     Scan(Word, Key),
     /// `key SEED HEIGHT`: the root of a Winternitz key.
     Key(Hash32, Height),
@@ -25,15 +25,15 @@ pub enum Invocation {
     Judge(Word, Word),
     /// `replay SCHEDULE`: the transcript of a schedule. The name of the schedule.
     Replay(Word),
-    /// `load NUMBER`: what is summed up of the replay of a long schedule. The number that makes it.
+    /// `load NUMBER`: sums up the replay of a long schedule. The number that makes it.
     Load(u32),
-    /// `node ROSTER SEED HEIGHT ID SCRIPT`: what a script makes of a node over the disk.
+    /// `node ROSTER SEED HEIGHT ID SCRIPT`: runs a script on a node over the disk.
     Node(NodeWords),
     /// `audit ROSTER TRACE..`: whether what nodes did keeps the headline. The name of the roster, and those of 1 to 32 traces.
     Audit(Word, TraceNames),
 }
 
-/// What `node` is asked for: the names of the roster and of the script, and the node's seed, height and number.
+/// What `node` is given: the names of the roster and of the script, and the node's seed, height and number.
 #[derive(Debug, Drop)]
 pub struct NodeWords {
     pub roster: Word,
@@ -43,7 +43,7 @@ pub struct NodeWords {
     pub script: Word,
 }
 
-/// What `serve` is asked for: the name of the roster, and the node's seed, height and number.
+/// What `serve` is given: the name of the roster, and the node's seed, height and number.
 #[derive(Debug, Drop)]
 pub struct ServerWords {
     pub roster: Word,
@@ -300,7 +300,7 @@ fn server_words(
     }))
 }
 
-/// What the words ask for of `serve`, or None where they aren't `serve ROSTER SEED HEIGHT ID`.
+/// What the words give `serve`, or `None` if they aren't `serve ROSTER SEED HEIGHT ID`.
 #[tactic(auto, unfolding(crate::specs::Words::served_words))]
 pub fn parse_served(alloc: Global, words: &[Word]) -> Result<Option<ServerWords>, Memory>
     ensures { IfOk result (λ n. n ≡ served_words words.now) }

@@ -76,7 +76,7 @@ fn judge_bytes(alloc: Global, roster: &Roster, proof: &[u8]) -> Result<CommandOu
     }
 }
 
-/// What judging the proof of that name comes to.
+/// The outcome of judging the proof of that name.
 fn judge_proof<F: Shelf>(
     alloc: Global,
     shelf: &mut F,
@@ -95,7 +95,7 @@ fn judge_proof<F: Shelf>(
     }
 }
 
-/// What judging the proof of one name under the roster of another comes to. The roster is loaded and parsed first.
+/// Judges the proof of one name under the roster of another. The roster is loaded and parsed first.
 pub fn judge<F: Shelf>(
     alloc: Global,
     shelf: &mut F,

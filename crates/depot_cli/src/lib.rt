@@ -1,13 +1,13 @@
-//! The commands of the program: [`depot`] reads words, does what they ask for over a shelf, a disk and a sink, and says how the run
-//! ended.
+//! The commands of the program: [`depot`] reads words, does what they ask for over a shelf, a disk and a sink, and
+//! returns how the run ended.
 //!
-//! All that the program does is said by the contract of `depot` in `top.rt`, over any shelf, disk and sink; `depot_tool` gives it the
-//! real ones. `specs/Words.antt` says which words are a command, `Runs.antt` and `Nodes.antt` what each command answers and prints,
-//! and `Statuses.antt` the exit statuses.
+//! The contract of `depot` in `top.rt` covers all that the program does, over any shelf, disk and sink; `depot_tool`
+//! gives it the real ones. `specs/Words.antt` says which words are a command, `Runs.antt` and `Nodes.antt` what each
+//! command answers and prints, and `Statuses.antt` the exit statuses.
 //!
-//! `scan_command`, `key_command`, `judge_command`, `replay_command`, `load_command`, `node_command` and `audit_command` do a command
-//! each. `word`, `given_words`, `trace_names`, `height` and `invocation` read words; `files` loads a file, and `outcome` and `status`
-//! say what came of a run.
+//! `scan_command`, `key_command`, `judge_command`, `replay_command`, `load_command`, `node_command` and `audit_command`
+//! do one command each. `word`, `given_words`, `trace_names`, `height` and `invocation` read words; `files` loads a
+//! file, and `outcome` and `status` have how a run ends.
 //!
 //! Nothing here decides what a log, a proof, a schedule or a script means.
 #![tactic(auto)]

@@ -1,4 +1,4 @@
-//! `load NUMBER`: what is summed up of the replay of a long schedule, its nodes over disks in memory.
+//! `load NUMBER`: sums up the replay of a long schedule, its nodes over disks in memory.
 ghost use Rattle.std.specs.Prelude.{◌≡◌, IfOk};
 ghost use Rattle.depot_cli.specs.Runs.{PrintsLoad};
 ghost use Rattle.depot_load.specs.Loads.{load_of};
@@ -31,7 +31,7 @@ fn line(alloc: Global, number: u32) -> Result<Bytes, Memory>
     summary(alloc, number, sink.bytes())
 }
 
-/// A sink in memory with the transcript of the load of this number. None of its writes is told to fail.
+/// A sink in memory with the transcript of the load of this number. None of its writes is set to fail.
 fn replayed(alloc: Global, number: u32) -> Result<MemSink, Memory>
     ensures { IfOk result (λ sink. ⟦<MemSink as Sink>⟧.written sink ≡ transcript_of (load_of number)) }
 {

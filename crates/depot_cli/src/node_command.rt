@@ -1,4 +1,4 @@
-//! `node ROSTER SEED HEIGHT ID SCRIPT`: a script is run on a node over the disk.
+//! `node ROSTER SEED HEIGHT ID SCRIPT`: runs a script on a node over the disk.
 ghost use Rattle.std.specs.Prelude.{◌≡◌, ◌<◌, ◌⊎◌, Some};
 ghost use Rattle.depot_outside.specs.Told.{shelves};
 ghost use Rattle.depot_cli.specs.Nodes.{Between, Results, RunsBytes, RunsFile};
@@ -18,7 +18,7 @@ use depot_sign::Roster;
 use depot_winter::{WinterScheme, WinterSigner};
 use std::alloc::Global;
 
-/// Runs the script of these bytes on a node of a roster, or prints where they are none, and says how the run ended.
+/// Runs the script of these bytes on a node of a roster, or prints that they are none, and returns how the run ended.
 fn run_bytes<F: Shelf, D: Disk, S: Sink>(
     alloc: Global,
     words: &NodeWords,
@@ -57,7 +57,7 @@ fn run_bytes<F: Shelf, D: Disk, S: Sink>(
     ))
 }
 
-/// Runs the script of the words on a node of a roster, and says how the run ended.
+/// Runs the script of the words on a node of a roster, and returns how the run ended.
 fn run_file<F: Shelf, D: Disk, S: Sink>(
     alloc: Global,
     words: &NodeWords,
@@ -78,8 +78,8 @@ fn run_file<F: Shelf, D: Disk, S: Sink>(
     }
 }
 
-/// Runs the node of the words, and says how the run ended. The roster is loaded and parsed first, and then the script; the disk is touched
-/// after that.
+/// Runs the node of the words, and returns how the run ended. The roster is loaded and parsed first, then the script;
+/// the disk is touched after that.
 pub fn node<F: Shelf, D: Disk, S: Sink>(
     alloc: Global,
     words: &NodeWords,

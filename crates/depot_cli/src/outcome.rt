@@ -1,4 +1,4 @@
-//! What a command came to, and how it is written.
+//! The outcome of a command, and how it is written.
 ghost use Rattle.std.specs.Prelude.{◌≡◌, ◌<◌, ◌++◌, IfOk, codes};
 ghost use Rattle.depot_outside.specs.Told.{sinks};
 ghost use Rattle.depot_answers.specs.AnswerTexts.{text_of_faulty_line};
@@ -10,7 +10,7 @@ use depot_lines::LineFault;
 use depot_outside::{OutError, Sink};
 use std::alloc::Global;
 
-/// What a command came to: the status, and the whole text that it prints.
+/// The outcome of a command: the status, and the whole text that it prints.
 #[derive(Debug, Drop)]
 pub struct CommandOutcome {
     pub status: Status,
@@ -35,7 +35,7 @@ impl CommandOutcome {
         CommandOutcome::of_line(alloc, Status::Words, "words\n")
     }
 
-    /// The text of that name has a faulty line, the first of this number from 1, and this is its first fault.
+    /// The line of a text of that name with a faulty line, the first of this number from 1, and its first fault.
     #[tactic(auto, using(depot_base::proofs::Writing::texts))]
     pub fn faulty_line(
         alloc: Global,
@@ -64,7 +64,7 @@ impl CommandOutcome {
     }
 }
 
-/// Writes the text that a command came to, where memory was found for it, and says how the run ended.
+/// Writes the text of a command, if memory was found for it, and returns how the run ended.
 pub fn finish<S: Sink>(found: Result<CommandOutcome, Memory>, out: &mut S) -> Status
     ensures finishes { Finishes found (sinks S.Sink out.old out.new) result }
     ensures sink_fault { S.faults out.old < S.faults out.new → result ≡ Status.Sink }

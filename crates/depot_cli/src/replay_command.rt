@@ -1,4 +1,4 @@
-//! `replay SCHEDULE`: a schedule is played, and its transcript is printed line by line.
+//! `replay SCHEDULE`: plays a schedule, and prints its transcript line by line.
 ghost use Rattle.std.specs.Prelude.{◌≡◌, ◌<◌, ◌⊎◌, Some, IfOk};
 ghost use Rattle.depot_lines.specs.LineReading.{Parses};
 ghost use Rattle.depot_schedule.specs.Schedules.{IsSchedule, IsTextOfSchedule, schedule_of};
@@ -18,7 +18,7 @@ use depot_schedule_parser::parse_schedule;
 use depot_world::worlds_of_schedules_are_causal;
 use std::alloc::Global;
 
-/// Plays a schedule, writing its transcript line by line, and says how the run ended.
+/// Plays a schedule, writing its transcript line by line, and returns how the run ended.
 fn play<S: Sink>(alloc: Global, schedule: Schedule, out: &mut S) -> Status
     requires { IsSchedule schedule }
     ensures plays { PlaysSchedule schedule (sinks S.Sink out.old out.new) result }
@@ -31,7 +31,7 @@ fn play<S: Sink>(alloc: Global, schedule: Schedule, out: &mut S) -> Status
     }
 }
 
-/// The schedule of these bytes, which are given up, or the first fault in them.
+/// The schedule of these bytes, which are dropped, or the first fault in them.
 fn parsed(alloc: Global, bytes: Bytes) -> Result<Schedule, TextError>
     ensures parses { Parses result (schedule_of bytes) }
     ensures found { IfOk result (IsTextOfSchedule bytes) }
@@ -39,8 +39,8 @@ fn parsed(alloc: Global, bytes: Bytes) -> Result<Schedule, TextError>
     parse_schedule(alloc, bytes.as_slice())
 }
 
-/// Plays the schedule of these bytes, or prints where they are none; `name` is the file's. What holds of the world that
-/// a transcript tells of is a law.
+/// Plays the schedule of these bytes, or prints that they are none; `name` is the file's. A law says what holds of the
+/// world in a transcript.
 fn replay_bytes<S: Sink>(alloc: Global, bytes: Bytes, name: &str, out: &mut S) -> Status
     ensures ends { Ends (ReplayOf name.now bytes) (IsFrontOf (λ text. IsReplayed text bytes)) (sinks S.Sink out.old out.new) result }
     ensures sink_fault { S.faults out.old < S.faults out.new → result ≡ Status.Sink }

@@ -20,7 +20,7 @@ fn no_log(alloc: Global, name: &str, at: usize) -> Result<CommandOutcome, Memory
     CommandOutcome::of_line(alloc, Status::Input, line.as_str())
 }
 
-/// A body's parent doesn't stand before it, printed.
+/// A body's parent doesn't precede it, printed.
 fn no_parent(alloc: Global, place: usize) -> Result<CommandOutcome, Memory>
     ensures { IfOk result (λ o. o ≡ record { status = Status.NotLawful; text = codes "not lawful " ++ decimal place ++ codes " 5 Missing\n" }) }
 {
@@ -28,7 +28,7 @@ fn no_parent(alloc: Global, place: usize) -> Result<CommandOutcome, Memory>
     CommandOutcome::of_line(alloc, Status::NotLawful, line.as_str())
 }
 
-/// What a scan of these bytes comes to; `name` is the log's.
+/// The outcome of a scan of these bytes; `name` is the log's.
 fn scan_bytes(alloc: Global, log: &[u8], name: &str, key: &Key) -> Result<CommandOutcome, Memory>
     ensures { IfOk result (λ o. ScanOf name.now key.now log.now o.status o.text) }
 {
@@ -42,7 +42,7 @@ fn scan_bytes(alloc: Global, log: &[u8], name: &str, key: &Key) -> Result<Comman
     }
 }
 
-/// What a scan of the log of that name comes to.
+/// Scans the log of that name.
 pub fn scan<F: Shelf>(
     alloc: Global,
     shelf: &mut F,

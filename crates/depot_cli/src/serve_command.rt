@@ -18,7 +18,7 @@ use depot_source::Source;
 use depot_winter::{WinterScheme, WinterSigner};
 use std::alloc::Global;
 
-/// Serves the node of the words in a roster, and says how the run ended.
+/// Serves the node of the words in a roster, and returns how the run ended.
 fn serve_of<D: Disk, I: Source, S: Sink>(
     alloc: Global,
     words: &ServerWords,
@@ -47,7 +47,8 @@ fn serve_of<D: Disk, I: Source, S: Sink>(
     ))
 }
 
-/// Serves the node of the words, and says how the run ended. The roster is loaded and parsed first; the disk and the source are touched after that.
+/// Serves the node of the words, and returns how the run ended. The roster is loaded and parsed first; the disk and the
+/// source are touched after that.
 pub fn serve<F: Shelf, D: Disk, I: Source, S: Sink>(
     alloc: Global,
     words: &ServerWords,

@@ -12,8 +12,8 @@ pub enum Status {
     Done,
     /// The words are no command.
     Words,
-    /// A file that the words name, or one that a script opens, signs, trims by or takes, isn't in its grammar; or what came over the source is no
-    /// request.
+    /// A file that the words name, or one that a script opens, signs, trims by or takes, isn't in its grammar; or the
+    /// input is no request.
     Input,
     /// A file isn't on the shelf, or the shelf failed.
     Shelf,
@@ -29,7 +29,7 @@ pub enum Status {
     Limit,
     /// A log or journal isn't lawful.
     NotLawful,
-    /// The node, its key or a roster is another, that of a script's hello or checkpoint too.
+    /// The node, its key or a roster is another one; so is that of a script's hello or checkpoint.
     Identity,
     /// What nodes did doesn't keep the headline: an audit found what fails first.
     Broken,

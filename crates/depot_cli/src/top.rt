@@ -75,12 +75,12 @@ fn offline<F: Shelf, D: Disk, S: Sink>(
     }
 }
 
-/// Runs the program: does what the words ask for, writes its text to `out`, and says how the run ended. The first
+/// Runs the program: does what the words ask for, writes its text to `out`, and returns how the run ended. The first
 /// fault ends the run.
 ///
-/// The commands are `scan LOG KEY`, `key SEED HEIGHT`, `judge ROSTER PROOF`, `replay SCHEDULE`, `load NUMBER`,
-/// `node ROSTER SEED HEIGHT ID SCRIPT`, `audit ROSTER TRACE..` and `serve ROSTER SEED HEIGHT ID`; other words are refused as Words.
-/// `docs/FORMATS.md` has each text that is printed, and `docs/PROMISES.md` the clauses in plain words.
+/// The commands are `scan LOG KEY`, `key SEED HEIGHT`, `judge ROSTER PROOF`, `replay SCHEDULE`, `load NUMBER`, `node
+/// ROSTER SEED HEIGHT ID SCRIPT`, `audit ROSTER TRACE..` and `serve ROSTER SEED HEIGHT ID`; other words are refused as
+/// Words. `docs/FORMATS.md` has each text that is printed, and `docs/PROMISES.md` explains the clauses.
 pub fn depot<F: Shelf, D: Disk, I: Source, S: Sink>(
     alloc: Global,
     words: &[Word],
@@ -89,17 +89,17 @@ pub fn depot<F: Shelf, D: Disk, I: Source, S: Sink>(
     input: &mut I,
     out: &mut S,
 ) -> Status
-    // The run ends as its command answers, with the whole text written; or for want of memory, with nothing written, or
-    // with a front of the transcript that `replay` writes, and no more loaded than the first of the files that its words
-    // name, further ones only behind a roster; or because the sink failed in this run, with a prefix of the text written.
-    // `node` runs its script over the disk, as its record says: images, lines and journal, what the shelf is asked for,
-    // runs cut short. `serve` serves its node over disk, source and sink, as its record says: images, requests, replies
-    // and journal, runs cut short; of the shelf it asks for its roster alone. Every other command leaves the disk and the
-    // shelf's files as they were, and stores nothing; each but `serve` leaves the source as it was.
+    // The run ends as its command answers, with the whole text written; or on `Memory`, with nothing written, or with a
+    // prefix of the transcript that `replay` writes, and with no more loaded than the first of the files that its words
+    // name, further ones only after a roster; or because the sink failed in this run, with a prefix of the text
+    // written. `node` runs its script over the disk, as its record says: images, lines and journal, what the shelf is
+    // asked for, runs cut short. `serve` serves its node over disk, source and sink, as its record says: images,
+    // requests, replies and journal, runs cut short; of the shelf it loads its roster alone. Every other command leaves
+    // the disk and the shelf's files as they were, and stores nothing; each but `serve` leaves the source as it was.
     ensures results { BetweenAll (AllResults (served_words words.now) (command_of words.now)) F.Shelf shelf.old shelf.new D.Disk disk.old disk.new I.Source input.old input.new S.Sink out.old out.new result }
 
-    // Where no count of faults rises, each file is there and each is in its grammar, the command does what it says, and
-    // `serve` what it says where what comes over the source is requests.
+    // If no count of faults rises, each file is there and each is in its grammar, the command does what it says, and
+    // `serve` does if the input is requests.
     ensures complete { IsWell (shelves F.Shelf shelf.old shelf.new) (sinks S.Sink out.old out.new) → CompletesOffline (served_words words.now) (shelves F.Shelf shelf.old shelf.new) (command_of words.now) result }
     ensures complete_node { NodeCompletes (disks D.Disk disk.old disk.new) (shelves F.Shelf shelf.old shelf.new) (sinks S.Sink out.old out.new) (command_of words.now) result }
     ensures complete_serve { ServeCompletes (disks D.Disk disk.old disk.new) (shelves F.Shelf shelf.old shelf.new) (inputs I.Source input.old input.new) (sinks S.Sink out.old out.new) (served_words words.now) result }
@@ -107,8 +107,8 @@ pub fn depot<F: Shelf, D: Disk, I: Source, S: Sink>(
     // Where the shelf failed, nothing else is answered.
     ensures first_fault { (result ≡ Status.Sink) ⊎ ((result ≡ Status.Memory) ⊎ EndsAtFault (shelves F.Shelf shelf.old shelf.new) result) }
 
-    // Where the sink failed, nothing but Sink is answered, and where the source failed, nothing but Source. Where the disk
-    // failed, nothing but Disk, Sink or Memory is.
+    // If the sink failed, only Sink is answered; if the source failed, only Source; if the disk failed, only Disk, Sink
+    // or Memory.
     ensures sink_fault { S.faults out.old < S.faults out.new → result ≡ Status.Sink }
     ensures source_fault { I.faults input.old < I.faults input.new → result ≡ Status.Source }
     ensures disk_fault { D.faults disk.old < D.faults disk.new → (result ≡ Status.Disk) ⊎ ((result ≡ Status.Sink) ⊎ (result ≡ Status.Memory)) }

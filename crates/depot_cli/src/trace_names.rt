@@ -9,7 +9,7 @@ use std::marker::Model;
 /// Names of files.
 pub type FileNames = Sequence<FileName>;
 
-/// The names of 1 to 32 trace files, seen as a list of them.
+/// The names of 1 to 32 trace files. Contracts see them as a list.
 #[derive(Debug, Drop)]
 pub struct TraceNames(FileNames);
 

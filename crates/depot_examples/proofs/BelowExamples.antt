@@ -1,4 +1,5 @@
--- A worked reader of three puts of a key, of which two were trimmed: which of them a statement stands below, and what the reader keeps.
+-- A worked reader of three puts of a key, two of them trimmed: which of them a statement is below, and what the reader
+-- keeps.
 use Rattle.std.proofs.Common.{◌≡◌, ℕ, List, [], ◌∷◌, ◌++◌, true, Some, None, refl}
 use Rattle.sha2.specs.Sha256.{sha256, first_words, schedule, rounds, compress, hash_after, digest_bytes}
 use Rattle.depot_base.specs.Cursor.{numeral}
@@ -77,12 +78,12 @@ two_trimmed = refl
 abbrev later : List ℕ → List Dep → Signed
 later prev deps = record { statement = statements.Update (record { writer = 1; seq = 4; clock = 9; prev = prev; writes = put_one k zeros 1; deps = deps; history = zeros }); body = []; signature = [] }
 
--- one whose prev was trimmed stands below it
+-- one whose prev was trimmed is below it
 below_its_prev : reader_outcome reader (given_statement (later (id_of_update one) [])) ≡ stands_below (id_of_update one)
 unfolding sha256 first_words schedule rounds compress hash_after digest_bytes numeral number bytes_of list_of dep update_fields voucher_fields statement update_body id_of_update id_of_statement leaves_of put_by_id by_id history_text history_hash has_id named prev_of past precedes_named next_entries next_own is_covered insert_by order_by latest_in is_trimmed names is_known key_of is_signed below_of reader_of reader_outcome
 below_its_prev = refl
 
--- of two trimmed updates that it names, the first in the order of the journal is told
+-- of two trimmed updates that it names, the first in the order of the journal is named
 below_the_first : reader_outcome reader (given_statement (later (id_of_update two) (record { writer = 1; clock = 1; id = id_of_update one } ∷ []))) ≡ stands_below (id_of_update one)
 unfolding sha256 first_words schedule rounds compress hash_after digest_bytes numeral number bytes_of list_of dep update_fields voucher_fields statement update_body id_of_update id_of_statement leaves_of put_by_id by_id history_text history_hash has_id named prev_of past precedes_named next_entries next_own is_covered insert_by order_by latest_in is_trimmed names is_known key_of is_signed below_of reader_of reader_outcome
 below_the_first = refl

@@ -1,4 +1,4 @@
--- Worked examples of journals whose updates are no separate branches, each for one reason alone.
+-- Worked examples of journals whose updates are no separate branches, each for one reason only.
 use Rattle.std.proofs.Common.{◌≡◌, ◌∙◌, ℕ, List, [], ◌∷◌, ◌++◌, length, true, false, refl, sym, ap, subst, arith, inl, inr, length-append}
 use Rattle.std.specs.Prelude.{filter, ◌==◌, Bool, if◌then◌else◌}
 use Rattle.sha2.specs.Sha256.{sha256, first_words, schedule, rounds, compress, hash_after, digest_bytes}

@@ -1,5 +1,5 @@
--- Worked examples of what is told first, where several things are wrong: of two ids without their value, of two unknown leaves, and of
--- what an audit finds.
+-- Worked examples of what is named first if several things are wrong: of two ids without their value, of two unknown
+-- leaves, and of what an audit finds.
 use Rattle.std.proofs.Common.{◌≡◌, ℕ, List, [], ◌∷◌, Some, true, refl}
 use Rattle.sha2.specs.Sha256.{sha256, first_words, schedule, rounds, compress, hash_after, digest_bytes}
 use Rattle.depot_base.specs.Cursor.{numeral}
@@ -36,7 +36,7 @@ told u = Foreign (record { statement = statements.Update u; body = []; signature
 abbrev without : List Record
 without = Birth 3 zeros ∷ told (first_write 1 97) ∷ told (first_write 2 98) ∷ []
 
--- the first of two ids is told, in whatever order they are asked for
+-- the first of two ids is named, in whatever order they are asked for
 record FirstId : Type 0 where
   pub one_way : no_receipt without (id_of_update (first_write 1 97) ∷ id_of_update (first_write 2 98) ∷ []) ≡ Some (lacks_value (id_of_update (first_write 1 97)))
   pub other_way : no_receipt without (id_of_update (first_write 2 98) ∷ id_of_update (first_write 1 97) ∷ []) ≡ Some (lacks_value (id_of_update (first_write 2 98)))
@@ -74,12 +74,12 @@ of_nodes cs = record { verifies = λ key seq body signature. true; listed = []; 
 abbrev convicts_one : Record
 convicts_one = Conviction (Pair SamePrev (record { statement = statements.Update one; body = []; signature = [] }) (record { statement = statements.Update apart; body = []; signature = [] }))
 
--- a wrong read is told, where a conviction names a node too
+-- a wrong read is found, even where a conviction names a node
 wrong_before_named : finding_in (of_nodes (node 1 (Birth 1 zeros ∷ []) [] ∷ node 2 (Birth 2 zeros ∷ told one ∷ convicts_one ∷ []) (seen 2 (97 ∷ []) ∷ []) ∷ [])) ≡ wrong_found 2 0
 unfolding sha256 first_words schedule rounds compress hash_after digest_bytes numeral number bytes_of list_of dep update_fields voucher_fields update_body statement id_of_update kind_of contradicts is_of_kind new_bodies writes_once operations closed observed pair_of circle unordered unseen observed_writes last_writes is_exact wrong breaks_off first_break split_finding named_node finding_in
 wrong_before_named = refl
 
--- of wrong reads of two nodes that of the first node is told, and of two of one node the first
+-- of wrong reads of two nodes that of the first node is found, and of two of one node the first
 first_wrong_read : finding_in (of_nodes (node 2 (Birth 2 zeros ∷ told one ∷ []) (seen 2 (97 ∷ []) ∷ seen 2 (98 ∷ []) ∷ seen 2 (99 ∷ []) ∷ []) ∷ node 3 (Birth 3 zeros ∷ told one ∷ []) (seen 2 (98 ∷ []) ∷ []) ∷ [])) ≡ wrong_found 2 1
 unfolding sha256 first_words schedule rounds compress hash_after digest_bytes numeral number bytes_of list_of dep update_fields voucher_fields update_body statement id_of_update kind_of contradicts is_of_kind new_bodies writes_once operations closed observed pair_of circle unordered unseen observed_writes last_writes is_exact wrong breaks_off first_break split_finding named_node finding_in
 first_wrong_read = refl

@@ -1,5 +1,6 @@
--- A world with a hollow proof, computed: a faulty member vouched for a text that is no update's, a correct node keeps the proof, and the
--- proof was judged. It meets what the laws of worlds ask for, so no proof in it names a correct node.
+-- A world with a hollow proof, computed: a faulty member vouched for a text that is no update's, a correct node keeps
+-- the proof, and the proof was judged. It meets the conditions of the laws of worlds, so no proof in it names a correct
+-- node.
 use Rattle.std.proofs.Common.{◌≡◌, ℕ, List, [], ◌∷◌, ◌++◌, None, refl, sym, ap, subst, ◌∙◌, inl, inr, arith, rules}
 use Rattle.sha2.specs.Sha256.{sha256, digest_bytes, hash_after, compress, rounds, schedule, first_words}
 use Rattle.depot_base.specs.Closed.{rest_of}

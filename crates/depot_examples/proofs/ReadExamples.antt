@@ -1,5 +1,5 @@
--- Worked examples of exact reads of an update that writes several keys: the value of another key, and a deletion that is shown as a
--- value that isn't held. Of each pair the read that is right differs in what it shows alone.
+-- Worked examples of exact reads of an update that writes several keys: the value of another key, and a deletion that
+-- is shown as a value that isn't held. Of each pair the right read differs only in what it shows.
 use Rattle.std.proofs.Common.{◌≡◌, ◌↔◌, ◌∙◌, ℕ, zero, suc, List, [], ◌∷◌, true, Some, None, Option, refl, sym, ap, subst, arith, inl, inr}
 use Rattle.std.specs.Prelude.{map, drop, slice_get}
 use Rattle.sha2.specs.Sha256.{sha256, first_words, schedule, rounds, compress, hash_after, digest_bytes}

@@ -1,4 +1,4 @@
--- A reader shows what the journal showed of which it was made: a latest write isn't trimmed, so its value is kept.
+-- A reader shows what the journal showed from which it was made: a latest write isn't trimmed, so its value is kept.
 use Rattle.std.proofs.Common.{◌≡◌, ℕ, ◌==◌, ◌&&◌, ◌||◌, Bool, true, false, not, cond, List, [], ◌∷◌, ◌++◌, length, Option, Some, None, refl, sym, ap, subst, ◌∙◌}
 use Rattle.std.specs.List.{filter, flat_map, list_any}
 use Rattle.std.specs.Option.{option_and_then, option_map_or}

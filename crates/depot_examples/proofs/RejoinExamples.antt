@@ -48,7 +48,7 @@ sent = signed_with sign (statement_of.Update u)
 abbrev Rejoined : List Record → Feeding → Type 0
 Rejoined J s = HasRejoined two_meet newcomer first_node sign (newborn 2) J s
 
--- a stream that came to its end
+-- a stream that ended
 abbrev ended_with : List Record → Feeding
 ended_with J = record (feeding_from J) { ended = Some false }
 

@@ -1,5 +1,5 @@
--- A settled put, computed: of a roster of two one node is correct. It put an update, gave a receipt for it, and took one of the other. So
--- it has receipts of more nodes than aren't correct, and what `settled_law` asks for is met.
+-- A settled put, computed: in a roster of two, one node is correct. It put an update, gave a receipt for it, and took
+-- one of the other. So it has receipts of more nodes than aren't correct, and the conditions of `settled_law` are met.
 use Rattle.std.proofs.Common.{◌≡◌, ℕ, List, [], ◌∷◌, ◌++◌, length, false, None, refl, sym, ap, subst, ◌∙◌, inl, inr, arith, rules}
 use Rattle.std.specs.Str.{bytes_eq}
 use Rattle.std.proofs.lemmas.Slice.Eq.{bytes_eq-Decides}

@@ -1,5 +1,5 @@
--- A world of a put of several keys, computed: one node gives a key a value and deletes another, and reads both; another node takes the
--- update and reads both. It meets what the law of worlds asks for, and is fork-join-causal.
+-- A world of a put of several keys, computed: one node gives a key a value and deletes another, and reads both; another
+-- node takes the update and reads both. It meets the conditions of the law of worlds, and is fork-join-causal.
 use Rattle.std.proofs.Common.{◌≡◌, ℕ, List, [], ◌∷◌, ◌++◌, length, false, Some, None, refl, sym, ap, subst, ◌∙◌, inl, inr, ◌⊎◌, arith, drop}
 use Rattle.std.specs.Str.{bytes_eq}
 use Rattle.std.proofs.lemmas.Slice.Eq.{bytes_eq-Decides}

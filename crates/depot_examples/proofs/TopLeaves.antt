@@ -1,4 +1,4 @@
--- The top part of a signature of two layers is made of the seed, the key and the number of the bottom tree alone.
+-- The top part of a signature of two layers depends only on the seed, the key and the number of the bottom tree.
 use Rattle.std.proofs.Common.{◌≡◌, ◌<◌, ◌/◌, ◌-◌, ℕ, Bool, true, false, cond, List, ◌++◌, drop, refl, sym, ap, ◌∙◌, arith, append_assoc, nat_le}
 use Rattle.std.specs.Int.{w32}
 use Rattle.std.proofs.lemmas.Bool.{leb-true}
@@ -13,7 +13,7 @@ use Rattle.depot_winter.proofs.Lengths.{digest_of_digest, length-layer_part}
 top_part : (seed root : List ℕ) (top_height q : ℕ) → List ℕ
 top_part seed root top_height q = layer_part Top seed q (digest_of Top root q (bottom_root seed q)) top_height
 
--- behind the leaf's number and the bottom part nothing else stands
+-- after the leaf's number and the bottom part nothing else follows
 behind_both : (seed root : List ℕ) (top_height i : ℕ) (body : List ℕ) → drop 2404 (numeral w32 i ++ both_parts seed root top_height i body) ≡ top_part seed root top_height (i / 256)
 unfolding both_parts top_part
 behind_both seed root top_height i body =

@@ -1,5 +1,5 @@
--- A checkpoint that every node signed, computed: the one node of a roster put twice under a key and then put the checkpoint's text. So
--- what `trim_law` asks for is met, with an update that was trimmed.
+-- A checkpoint that every node signed, computed: the one node of a roster put twice under a key and then put the
+-- checkpoint's text. So the conditions of `trim_law` are met, with an update that was trimmed.
 use Rattle.std.proofs.Common.{◌≡◌, ◌<◌, ℕ, List, [], ◌∷◌, ◌++◌, length, Bool, true, false, not, ◌||◌, None, refl, ap, subst, ◌∙◌, inl, inr, arith, rules, sym}
 use Rattle.std.specs.List.{list_all}
 use Rattle.std.specs.Str.{bytes_eq}
@@ -97,7 +97,7 @@ signs = next_own 1 second (one_change (checkpoint_key text) text)
 abbrev journal : List Record
 journal = second ++ OwnPut signs (text ∷ []) ∷ []
 
--- each of them may stand where it does
+-- each of them may occur where it does
 record IsNext (J : List Record) (u : Update) (value : List ℕ) : Type 0 where
   pub not_zeros : bytes_eq (id_of_update u) zeros ≡ false
   pub new : has_id (accepted J) (id_of_update u) ≡ false
@@ -211,7 +211,7 @@ one_trimmed = refl
 none_names : NoneNamesBelow world
 none_names c d n text ids s t c_on d_on signed s_on absent t_below e = trim world is_world is_authentic (one_text world is_collision_free) c d n text ids s t c_on d_on signed s_on absent t_below e
 
--- so nothing that the node signed stands below for a reader of it
+-- so nothing that the node signed is below for a reader of it
 none_stands : (more : List Record) (s : Signed) → IsIn s.statement (own journal) → below_of here (journal ++ more) (trimmed journal ids) s ≡ None
 none_stands more s on = never_below world is_world is_authentic (one_text world is_collision_free) one_node one_node (length journal) text ids more s (inl refl) (inl refl) all_signed on
 

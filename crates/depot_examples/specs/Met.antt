@@ -1,4 +1,4 @@
--- What laws ask for, all of it, of a world.
+-- The conditions of laws, all of them, in one world.
 use Rattle.std.specs.Prelude.{◌≡◌, ◌<◌, ◌≤◌, ℕ, List, length}
 use Rattle.depot_base.specs.declared.update.Update.{Update}
 use Rattle.depot_model.specs.Lists.{IsIn}

@@ -1,7 +1,8 @@
-//! Worked examples of definitions, each with a yes and a no, and worlds that meet what laws ask for.
+//! Worked examples of definitions, each with a yes and a no, and worlds that meet the conditions of laws.
 //!
-//! A definition that is changed in meaning makes one of them false, and where the premises of a law were asked too much of, no world here
-//! meets them any more. Laws that no code needs stand here too. Nothing stands on this crate.
+//! Changing the meaning of a definition makes one of them false. If a law asked for too much, no world here would meet
+//! its conditions any more. Laws that no code needs are here too. Nothing depends on this crate.
+//! of, no world here meets them any more. Laws that no code needs are here too. Nothing depends on this crate.
 #![tactic(auto)]
 
 mod alike;

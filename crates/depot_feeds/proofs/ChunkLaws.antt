@@ -1,4 +1,4 @@
--- A chunk of a stream is fed as one byte is, where nothing in front of its last byte completes a frame.
+-- A chunk of a stream is fed like single bytes, if nothing before its last byte completes a frame.
 use Rattle.std.proofs.Common.{◌≡◌, ℕ, suc, ◌+◌, ◌-◌, ◌<◌, ◌≤◌, List, [], ◌∷◌, ◌++◌, append_assoc, length, take, Bool, true, false, not, cond, ltb, ◌&&◌, ◌||◌, ◌==◌, is_some, refl, sym, ap, ◌∙◌, arith}
 use Rattle.std.specs.Int.{w32, from_be_bytes}
 use Rattle.std.proofs.lemmas.Bool.{cond-false, cond-true, ltb-true, le-ltb, lt-ltb, and_left}
@@ -11,7 +11,7 @@ use Rattle.depot_model.proofs.FeedLaws.{fed_in_pieces, frame_alike, one_byte}
 use Rattle.depot_laws.proofs.Feeds.{closed_stays}
 use Rattle.depot_frames.specs.FrameHeads.{most_frame, bytes_missing}
 
--- what stands in a buffer stands in bytes that are the same
+-- what is in a buffer is in bytes that are the same
 pub stands_in : (buffer bytes : List ℕ) (at : FrameAt) → buffer ≡ bytes → frame_at buffer ≡ at → frame_at bytes ≡ at
 stands_in buffer bytes at same e = ap frame_at (sym same) ∙ e
 
@@ -78,7 +78,7 @@ still_framed t x y z w r s h other lt =
     ∙ cond-false (ltb (length (x ∷ y ∷ z ∷ w ∷ s)) 4) open_frame _ (le-ltb _ _ (omega arith))
     ∙ cond-true (ltb (length s) (worth_of x y z w)) open_frame _ (lt-ltb _ _ lt)
 
--- where more than one byte is missing, one more leaves the frame open, and one fewer is missing
+-- if more than one byte is missing, one more leaves the frame incomplete, and one fewer is missing
 pub record StaysOpen (b : List ℕ) (v : ℕ) : Type 0 where
   pub told : frame_at (b ++ v ∷ []) ≡ open_frame
   pub left : bytes_missing b ≡ suc (bytes_missing (b ++ v ∷ []))
@@ -134,7 +134,7 @@ fed_at_alike here s p bytes open_frame = refl
 fed_at_alike here s p bytes no_frame = refl
 fed_at_alike here s p bytes (whole_frame f) = frame_alike here (length bytes) f s p
 
--- A chunk of no more than the missing bytes is fed in one go: what stands with its last byte decides.
+-- A chunk of at most the missing bytes is fed in one go: its last byte decides.
 pub chunk_is_fed : (here : Setting) (s : Feeding) (c : List ℕ) → is_some s.closed ≡ false → is_over s ≡ false → frame_at s.begun ≡ open_frame → 0 < length c → length c ≤ bytes_missing s.begun
     → fed here s c ≡ fed_at here s (s.begun ++ c) (frame_at (s.begun ++ c))
 unfolding fed

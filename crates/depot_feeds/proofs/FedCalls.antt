@@ -1,4 +1,4 @@
--- What a node is left as while bytes are fed to it.
+-- What feeding bytes makes of a node.
 use Rattle.std.proofs.Common.{◌≡◌, ◌↔◌, ℕ, true, false, List, [], ◌++◌, append_assoc, Result, Ok, sym, ap, subst, ◌∙◌}
 use Rattle.std.specs.Prelude.{IsErrOf}
 use Rattle.std.proofs.lemmas.List.{append-nil}
@@ -63,7 +63,7 @@ module _ {N : Type 0} (g : Ghosts N) where
               (joined_on g join old mid new a b [] ran (λ f. f) so_far.grown so_far.left (renamed_on g mid new b (λ is. absurd cc, λ f. absurd f) (λ is. absurd cc, λ f. absurd f) call.left));
         }
 
-    -- a chunk fails, and the bytes behind it bring nothing
+    -- a chunk fails, and the bytes after it bring nothing
     pub chunk_fails : {X : Type 0} {result : Result X FeedError} → (s now : Feeding) (bytes rest c behind : List ℕ) → IsUnderWay (g.stands old) s bytes rest now → rest ≡ c ++ behind → IsFeedCall g now c mid new result → IsFeedCall g s bytes old new result
     chunk_fails s now bytes rest c behind u parts call =
         let a = so_far.more in
@@ -71,7 +71,7 @@ module _ {N : Type 0} (g : Ghosts N) where
         let all = chunk_brings (g.stands old) (g.stands mid) s now bytes rest c behind (g.records old) (g.records mid) a b so_far.left.node.same.stands u parts so_far.grown call.brings in
         record { appends = (a ++ b) ++ all.more; brings = all.is; left = joined_on g join old mid new a b all.more ran (λ f. f) so_far.grown so_far.left call.left }
 
-  -- all bytes are behind, and nothing failed
+  -- all bytes are passed, and nothing failed
   pub all_fed : {X : Type 0} {x : X} → (s now : Feeding) (bytes rest : List ℕ) (old new : N) → rest ≡ [] → IsUnderWay (g.stands old) s bytes rest now → now.journal ≡ g.records new → IsLeftWith old new → IsFeedCall g s bytes old new (Ok x)
   all_fed s now bytes rest old new none u same l = record {
     appends = l.more;

@@ -48,7 +48,7 @@ given_brings here J f le = by_end (f.tag == 4) (other f.tag le) where
 pub taken_brings : (here : Setting) (s now : Feeding) (bytes : List ℕ) (n : ℕ) (f : Frame) (J : List Record) → fed here s bytes ≡ fed_frame here n f now → now.journal ≡ J → (fed here s bytes).journal ≡ J ++ brought_by here J f
 taken_brings here s now bytes n f J takes same = ap (λ (x : Feeding). x.journal) takes ∙ frame_brings here n f now ∙ ap (λ (K : List Record). K ++ brought_by here K f) same
 
--- bytes bring what was brought before a chunk, what the chunk brings, and what the bytes behind it would bring
+-- bytes bring what was brought before a chunk, what the chunk brings, and what the bytes after it would bring
 pub record Brings (here : Setting) (s : Feeding) (bytes : List ℕ) (J a b : List Record) : Type 0 where
   pub more : List Record
   pub is : (fed here s bytes).journal ≡ J ++ ((a ++ b) ++ more)

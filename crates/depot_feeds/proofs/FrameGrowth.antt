@@ -1,4 +1,4 @@
--- What a frame brings a journal, all of which or a front of which was appended.
+-- What a frame brings a journal, appended in full or as a prefix.
 use Rattle.std.proofs.Common.{◌≡◌, ◌↔◌, ◌≤◌, ℕ, List, [], ◌++◌, false, Option, Some, None, Result, Ok, Err, refl, sym, ap, subst, ◌∙◌}
 use Rattle.std.specs.Prelude.{IsErrOf}
 use Rattle.std.proofs.lemmas.List.{append-nil}
@@ -62,7 +62,7 @@ frame_puts_none : (here : Setting) (J : List Record) (f : Frame) → puts_of (ap
 unfolding take_frame
 frame_puts_none here J f = outcome_puts_none here J (given_by f)
 
--- ---- it was appended, or a front of it
+-- ---- it was appended, or a prefix of it
 
 -- what is appended where this is the outcome, and memory sufficed
 outcome_part : (o : Outcome) (J then : List Record) (r : Result Taken TakeError) → (IsErrOf r refused.Stopped → ⊥) → (IsErrOf r refused.Memory → ⊥) → AnswersForOutcome o J (as_feed_answer r) then → IsPart J (appended_by o) then (IsErrOf (as_feed_answer r) error.Disk)
@@ -123,7 +123,7 @@ module _ {N : Type 0} (g : Ghosts N) (f : Frame) (old new : N) (given : f.tag �
     lasts = lasts;
   }
 
-  -- a frame was given: it was to bring what it brings, or, where memory was wanting, nothing
+  -- a frame was given: it was to bring what it brings or, without memory, nothing
   given_in : (r : Result Taken TakeError) → (IsErrOf r refused.Stopped → ⊥) → AnswersForOutcome (take_frame (g.stands old) (g.records old) f) (g.records old) (as_feed_answer r) (g.records new)
       → Lasts (journal_of g) old new (brought_by (g.stands old) (g.records old) f) → (IsErrOf r refused.Memory → Lasts (journal_of g) old new []) → LastsIn g (IsErrOf (as_feed_answer r) error.Disk) old new
   given_in (Ok taken) runs answers lasts idle = brought_in (Ok taken) runs answers (λ e. cc) lasts

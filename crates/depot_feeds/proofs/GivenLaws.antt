@@ -1,4 +1,4 @@
--- What a node answers to the payload of a frame is what a feed counts.
+-- A node's answer to the payload of a frame is what a feed counts.
 use Rattle.std.proofs.Common.{◌≡◌, ℕ, ◌≤◌, List, [], Bool, true, false, cond, ◌==◌, Some, Result, Ok, Err, refl, sym, ap, ◌∙◌, arith}
 use Rattle.std.proofs.lemmas.Bool.Decides.{nat_tests}
 use Rattle.depot_base.specs.declared.record.Record.{Record}
@@ -68,7 +68,7 @@ given_is_fed here n f s le = by_test (f.tag == 4) (other f.tag le) where
   by_test true e = absurd cc
   by_test false e = refl
 
--- an answer is counted, and the frame is behind
+-- an answer is counted, and the frame is passed
 pub counted_is_fed : (here : Setting) (n : ℕ) (f : Frame) (s now : Feeding) (answer : Result Taken Check) (then : List Record)
     → f.tag ≤ 3 → (told : IsTold (take_frame here s.journal f) s.journal answer then) → now ≡ passed n (counted answer told.new s) → now ≡ fed_frame here n f s
 counted_is_fed here n f s now answer then le told is = is ∙ sym (given_is_fed here n f s le ∙ ap (after_outcome n s) told.is)

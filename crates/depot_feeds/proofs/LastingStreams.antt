@@ -1,4 +1,4 @@
--- What a stop leaves of calls on a node, one after another.
+-- The crash images of calls on a node, one after another.
 use Rattle.std.proofs.Common.{◌≡◌, ℕ, ◌+◌, false, List, [], ◌++◌, append_assoc, length, take, refl, sym, ap, subst, ◌∙◌, arith}
 use Rattle.std.proofs.lemmas.List.{append-nil, take_all}
 use Rattle.depot_base.specs.declared.record.Record.{Record}
@@ -12,9 +12,9 @@ use Rattle.depot_model.specs.declared.node_state.NodeState.{Ghosts}
 use Rattle.depot_feeds.specs.Lasting.{IsToAppend, LastsIn}
 use Rattle.depot_model.proofs.StopLaws.{idle_lasts, lasts_joined, so_many_more}
 
--- ---- all or a front
+-- ---- all or a prefix
 
--- these were appended, or, where the call failed, a front of them
+-- these were appended, or, where the call failed, a prefix of them
 pub record IsPart (J new then : List Record) (failed : Type 0) : Type 0 where
   pub count : ℕ
   pub front : then ≡ J ++ take count new

@@ -1,4 +1,4 @@
--- What calls on a node leave, one after another.
+-- What several calls on a node, one after another, append.
 use Rattle.std.proofs.Common.{◌≡◌, ◌↔◌, ℕ, true, false, List, [], ◌++◌, refl, ◌∙◌}
 use Rattle.depot_base.specs.Calls.{Made}
 use Rattle.depot_base.specs.declared.record.Record.{Record}

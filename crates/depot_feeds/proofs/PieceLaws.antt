@@ -1,4 +1,4 @@
--- What chunks make of a feed, one after another, is what the bytes together make of it.
+-- Chunks, one after another, make of a feed what their bytes together make of it.
 use Rattle.std.proofs.Common.{◌≡◌, ℕ, ◌<◌, ◌≤◌, List, [], ◌∷◌, ◌++◌, append_assoc, length, true, false, is_some, Option, Some, None, Result, Ok, Err, refl, sym, ap, subst, ◌∙◌, arith}
 use Rattle.std.specs.Prelude.{IsErrOf}
 use Rattle.std.proofs.lemmas.List.{append-nil, length-append}
@@ -22,7 +22,7 @@ use Rattle.depot_feeds.proofs.ChunkLaws.{stays_open, chunk_is_fed, closed_before
 some_closed : (o : Option Closing) (why : Closing) → o ≡ Some why → is_some o ≡ true
 some_closed o why e = ap (λ (x : Option Closing). is_some x) e
 
--- an error in front stands, whatever comes behind it
+-- an earlier error stands, whatever comes after it
 pub feeds_more : (here : Setting) (s : Feeding) (a b : List ℕ) (e : FeedError) (S : Stream) (J : List Record) → Feeds here s a (Err e) S J → Feeds here s (a ++ b) (Err e) S J
 feeds_more here s a b (error.IllFormed at) S J f =
     let same = closed_before here s a b (some_closed (fed here s a).closed (ill_formed at) f.0) in
@@ -48,7 +48,7 @@ feeds_more here s a b error.Disk S J f = record {
 }
 feeds_more here s a b error.Stopped S J f = f
 
--- what comes behind bytes that were fed
+-- what comes after bytes that were fed
 pub feeds_behind : (here : Setting) (s : Feeding) (a b : List ℕ) (r : Result (Unit {0}) FeedError) (S : Stream) (J : List Record) → (IsErrOf r error.Stopped → ⊥) → Feeds here (fed here s a) b r S J → Feeds here s (a ++ b) r S J
 feeds_behind here s a b (Ok done) S J runs f =
     let same = sym (fed_in_pieces here s a b) in
@@ -228,7 +228,7 @@ under_way_fails here there s bytes rest c behind now e S J stays u parts runs f 
     let all = feeds_behind here s u.done (c ++ behind) (Err e) S J runs at in
     subst (λ (x : List ℕ). Feeds here s x (Err e) S J) (sym (u.parts ∙ ap (λ (x : List ℕ). u.done ++ x) parts)) all
 
--- a piece behind another one
+-- a piece after another one
 pub pieces_join : (here : Setting) (s : Feeding) (a b : List ℕ) (r : Result (Unit {0}) FeedError) (S T : Stream) (J K : List Record)
     → Feeds here s a (Ok tt) S J → (IsErrOf r error.Stopped → ⊥) → Feeds here (at_work S J) b r T K → Feeds here s (a ++ b) r T K
 pieces_join here s a b r S T J K first runs second =

@@ -1,4 +1,4 @@
--- What the calls on a node within a piece answer, and what they leave of the node.
+-- What the node calls within a piece answer, and what they make of the node.
 use Rattle.std.specs.Prelude.{◌≡◌, ℕ, ◌+◌, ◌*◌, ◌≤◌, List, [], ◌++◌, Bool, true, false, Result, Ok, Err, IsErrOf}
 use Rattle.depot_base.specs.Tags.{frame_byte}
 use Rattle.depot_base.specs.declared.limits.TheConstants.{MOST_FRAMES}
@@ -23,7 +23,7 @@ use Rattle.depot_feeds.specs.Pieces.{Stream, at_work, brought_by}
 
 -- ---- a tally as a stream
 
--- what a feed keeps, from its tally and the bytes that stand open
+-- what a feed keeps, from its tally and the bytes that are open
 abbrev pub stream_by : Tally → List ℕ → Bool → Stream
 stream_by t begun closed = record { frames = t.frames; begun = begun; start = t.start; ended = t.ended; accepted = t.accepted; known = t.known; refused = t.refused.items; closed = closed }
 
@@ -31,7 +31,7 @@ stream_by t begun closed = record { frames = t.frames; begun = begun; start = t.
 abbrev pub feeding_by : Tally → List ℕ → List Record → Feeding
 feeding_by t begun J = at_work (stream_by t begun false) J
 
--- what is kept behind a call: one that answers an error closes the feed
+-- what is kept after a call: an error closes the feed
 abbrev pub stream_after : {X : Type 0} → Result X FeedError → Tally → List ℕ → Stream
 stream_after (Ok x) t begun = stream_by t begun false
 stream_after (Err e) t begun = stream_by t [] true
@@ -44,7 +44,7 @@ pub record IsTally (t : Tally) : Type 0 where
 
 -- ---- an answer
 
--- what a feed makes of an answer: one that is counted, or an error that closes it
+-- what a feed makes of an answer: a counted one, or an error that closes it
 abbrev pub as_feed_answer : Result Taken TakeError → Result (Result Taken Check) FeedError
 as_feed_answer (Ok taken) = Ok (Ok taken)
 as_feed_answer (Err (refused.Refused c)) = Ok (Err c)
@@ -79,14 +79,14 @@ frame_of tag payload = record { tag = frame_byte tag; payload = payload }
 
 -- ---- the node
 
--- the call gave the node a frame, which was to bring what it brings, and answered so
+-- the call gave the node a frame, was to append what it brings, and answered this
 abbrev pub IsFrameCall : {N X : Type 0} → Ghosts N → Frame → N → N → Result X FeedError → Type 0
 IsFrameCall g f old new result =
     IsLawfulCall g old new (brought_by (g.stands old) (g.records old) f)
     (IsErrOf result error.Stopped) (IsErrOf result error.Disk)
 
--- What a call that feeds bytes to a feed at work leaves of a node: it was to append all the records that the bytes bring where nothing
--- fails.
+-- What a call that feeds bytes to an open feed makes of a node: it was to append all the records that the bytes bring
+-- where nothing fails.
 pub record IsFeedCall {N X : Type 0} (g : Ghosts N) (s : Feeding) (bytes : List ℕ) (old new : N) (result : Result X FeedError) : Type 0 where
   pub appends : List Record
   pub brings : (fed (g.stands old) s bytes).journal ≡ g.records old ++ appends

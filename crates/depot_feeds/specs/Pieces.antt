@@ -14,7 +14,8 @@ use Rattle.depot_model.specs.Feeding.{Feeding, ill_formed, out_of_room, is_over,
 use Rattle.depot_feeds.specs.declared.feed_error.FeedError.{FeedError}
 use Rattle.depot_feeds.specs.declared.feed_error.FeedError.TheVariants as error
 
--- What a feed keeps: all of a feed at work but the journal, which the node has, and why it is closed, which the call told.
+-- What a feed keeps: all of a feed at work, except the journal, which the node has, and why it is closed, which the
+-- call reported.
 pub record Stream : Type 0 where
   -- how many frames were taken, End among them
   pub frames : ℕ
@@ -38,11 +39,11 @@ no_stream = record { frames = 0; begun = []; start = 0; ended = None; accepted =
 abbrev pub stream_of : Feeding → Stream
 stream_of s = record { frames = s.frames; begun = s.begun; start = s.start; ended = s.ended; accepted = s.accepted; known = s.known; refused = s.refused; closed = is_some s.closed }
 
--- the feed at work, as long as it isn't closed, with the journal of the node
+-- the feed at work, with the journal of the node, as long as it isn't closed
 abbrev pub at_work : Stream → List Record → Feeding
 at_work s J = record { journal = J; frames = s.frames; begun = s.begun; start = s.start; ended = s.ended; accepted = s.accepted; known = s.known; refused = s.refused; closed = None }
 
--- closed, and without the bytes of the frame at hand
+-- closed, and without the bytes of the current frame
 abbrev pub shut : Stream → Stream
 shut s = record s { begun = []; closed = true }
 
@@ -52,7 +53,7 @@ report_of_stream s = record { accepted = s.accepted; known = s.known; refused = 
 
 -- ---- a piece
 
--- what a frame brings a journal where nothing fails: End nothing, each other what is appended for it
+-- what a frame brings a journal where nothing fails: End nothing, any other the records that are appended for it
 abbrev pub brought_by : Setting → List Record → Frame → List Record
 brought_by here J f = if f.tag == 4 then [] else appended_by (take_frame here J f)
 
@@ -61,7 +62,7 @@ pub record AreOf (s : Feeding) (S : Stream) (J : List Record) : Type 0 where
   pub stream : S ≡ stream_of s
   pub journal : J ≡ s.journal
 
--- A front of the bytes was fed, and nothing of what comes behind it: the frame at hand is dropped, the feed is closed.
+-- A prefix of the bytes was fed, and nothing after it: the current frame is dropped, and the feed is closed.
 pub record IsDropped (here : Setting) (s : Feeding) (bytes : List ℕ) (S : Stream) (J : List Record) : Type 0 where
   pub front : List ℕ
   pub rest : List ℕ
@@ -70,8 +71,8 @@ pub record IsDropped (here : Setting) (s : Feeding) (bytes : List ℕ) (S : Stre
   pub stream : S ≡ shut (stream_of (fed here s front))
   pub journal : J ≡ (fed here s front).journal
 
--- A front of the bytes was fed, and the next byte makes a whole frame. The disk cut short what the journal was to grow by for
--- this frame, and the feed is closed without it.
+-- A prefix of the bytes was fed, and the next byte completes a frame. The disk failed while the journal grew for this
+-- frame; the feed is closed without it.
 pub record IsBrokenOff (here : Setting) (s : Feeding) (bytes : List ℕ) (S : Stream) (J : List Record) : Type 0 where
   pub front : List ℕ
   pub byte : ℕ
@@ -87,8 +88,8 @@ pub record IsBrokenOff (here : Setting) (s : Feeding) (bytes : List ℕ) (S : St
   pub cut : IsCutShort (fed here s front).journal new J
   pub stream : S ≡ shut (stream_of (fed here s front))
 
--- What a piece makes of a feed at work, and the stream and the journal after it. Every error closes the feed. Memory and Disk may
--- stand in place of each answer but Stopped, and then a front of the bytes was fed.
+-- What a piece makes of an open feed, and the stream and the journal after it. Every error closes the feed. `Memory`
+-- and `Disk` may replace each answer but `Stopped`; then a prefix of the bytes was fed.
 abbrev pub Feeds : Setting → Feeding → List ℕ → Result (Unit {0}) FeedError → Stream → List Record → Type 0
 Feeds here s bytes (Ok done) S J = ((fed here s bytes).closed ≡ None) × AreOf (fed here s bytes) S J
 Feeds here s bytes (Err (error.IllFormed at)) S J = ((fed here s bytes).closed ≡ Some (ill_formed at)) × AreOf (fed here s bytes) S J
@@ -97,7 +98,7 @@ Feeds here s bytes (Err error.Memory) S J = IsDropped here s bytes S J
 Feeds here s bytes (Err error.Disk) S J = IsBrokenOff here s bytes S J
 Feeds here s bytes (Err error.Stopped) S J = (S ≡ shut (stream_of s)) × (J ≡ s.journal)
 
--- Two pieces were fed, one after the other and with nothing between. The first was taken, and the second was answered so, but not Stopped.
+-- Two pieces were fed, one right after the other. The first was taken; the second answered this, but not `Stopped`.
 pub record FeedsBoth (here : Setting) (s : Feeding) (first second : List ℕ) (result : Result (Unit {0}) FeedError) (S : Stream) (J : List Record) : Type 0 where
   pub stream : Stream
   pub journal : List Record

@@ -20,8 +20,8 @@ use std::marker::Model;
 /// The most bytes of a frame: its tag, its length and its payload.
 const MOST_FRAME: usize = 5 + MOST_PAYLOAD as usize;
 
-/// A stream of frames that is fed to a node, in pieces of any lengths. Each frame is taken with its last byte; until then the feed
-/// keeps its bytes, and no others.
+/// A stream of frames that is fed to a node in pieces of any length. Each frame is taken with its last byte. Until then
+/// the feed keeps the frame's bytes, and no others.
 #[derive(Drop)]
 pub struct Feed {
     tally: Tally,
@@ -42,7 +42,7 @@ impl Model for Feed {
     ghost invariant = { λ f. IsTally f.tally × (frame_at f.begun.items ≡ open_frame) };
 }
 
-/// Feeds bytes of which only the last may end a frame, or show that none stands there.
+/// Feeds bytes of which only the last may complete a frame, or show that there is none.
 fn feed_chunk<R: Replica>(
     tally: &mut Tally,
     begun: &mut Vec<u8>,
@@ -101,7 +101,7 @@ fn feed_piece<R: Replica>(
 }
 
 impl Feed {
-    /// A feed of which nothing came yet. It asks at once for the memory that the longest frame takes.
+    /// Makes a feed for a new stream. It reserves at once the memory of the longest frame.
     pub fn new(alloc: Global) -> Result<Feed, Memory>
         ensures { IfOk result (λ feed. feed ≡ no_stream) }
     {
@@ -119,7 +119,7 @@ impl Feed {
         self.closed
     }
 
-    /// How many bytes of a frame stand open, at most 131,076. It takes no memory.
+    /// How many bytes of an incomplete frame are kept, at most 131,076. It takes no memory.
     pub fn open_bytes(&self) -> u32
         ensures count { result ≡ length self.now.begun }
         ensures most { result < 5 + MOST_PAYLOAD }
@@ -127,12 +127,13 @@ impl Feed {
         self.begun.len() as u32
     }
 
-    /// Feeds the next bytes of the stream to a node, of any number. Each frame is given to the node with its last byte, and counted.
-    /// Every error closes the feed; the frames before it stay taken, and the frame at hand isn't. `IllFormed` comes exactly where the
-    /// stream so far has no frame at that offset, and `Full` exactly where there is no room for what a frame would add, unless
-    /// Memory or Disk come first. `Stopped` comes exactly where the node was stopped, whatever the bytes are. A stop at any moment
-    /// leaves the records from before and a front of those that the frames bring. On the node's disk the piece makes the calls that
-    /// append what the journal grows by, and no other; where one of them fails, it is the last.
+    /// Feeds the next bytes of the stream, any number, to a node. It gives the node each frame with its last byte, and
+    /// counts it. Every error closes the feed: the frames before it stay taken, the current one isn't. `IllFormed` is
+    /// returned exactly when the stream so far has no frame at that offset, and `Full` exactly when there is no room
+    /// for what a frame would add, unless `Memory` or `Disk` come first. `Stopped` is returned exactly when the node
+    /// was stopped, whatever the bytes are. Every crash image has the records from before and a prefix of those that
+    /// the frames bring. The piece makes only the disk calls that append what the journal grows by; one that fails is
+    /// the last.
     pub fn piece<R: Replica>(&mut self, node: &mut R, bytes: &[u8]) -> Result<(), FeedError>
         requires { self.old.closed ≡ false }
         ensures feeds { Feeds (R.stands node.old) (at_work self.old (R.records node.old)) bytes.now result self.new (R.records node.new) }

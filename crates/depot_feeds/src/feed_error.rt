@@ -7,7 +7,7 @@ use depot_base::Full;
 use std::alloc::AllocError;
 use thiserror::Error;
 
-/// Why a feed takes no more. Every one closes it; the frames before it stay taken, and the frame at hand isn't.
+/// Why a feed takes no more. Each error closes it: the frames before it stay taken, the current one isn't.
 #[derive(Clone, Copy, Debug, Drop, PartialEq, Eq, Error)]
 pub enum FeedError {
     /// No memory was found.
@@ -19,7 +19,7 @@ pub enum FeedError {
     /// The disk failed in an earlier call.
     #[error("an earlier call failed on the disk")]
     Stopped,
-    /// There is no room for what the frame at hand would add.
+    /// There is no room for what the current frame would add.
     #[error("the journal is full")]
     Full(Full),
     /// The stream has no frame at this offset in bytes, from its beginning.

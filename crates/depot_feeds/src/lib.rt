@@ -1,12 +1,11 @@
-//! Streams of frames, which are fed to a node in pieces.
+//! Streams of frames, fed to a node in pieces.
 //!
-//! A feed takes a stream in pieces, of any lengths, and gives each frame to the node with its last byte: feed and journal are then
-//! those of the definition, which goes byte by byte, so that it doesn't matter how the stream was cut. A feed is seen as what it
-//! keeps: the bytes of the open frame, and the counts of the frames behind it.
+//! A feed takes a stream in pieces of any length and gives each frame to the node with its last byte. Feed and journal
+//! are then those of the definition, which goes byte by byte: how the stream was cut doesn't matter.
 //!
-//! What a stop leaves of calls on a node, one after another, is said here too (`specs/Lasting.antt`).
-//!
-//! All of it goes by the trait `Replica` alone. Nothing here asks whether what a frame gives is believed, or keeps a record.
+//! - Contracts see a feed as what it keeps: the bytes of the incomplete frame, and the counts of the frames before it.
+//! - The crash images of several calls on a node, one after another, are defined here too (`specs/Lasting.antt`).
+//! - All of it uses the trait `Replica` alone. Nothing here checks what a frame gives, or keeps a record.
 #![tactic(auto)]
 
 mod feed;

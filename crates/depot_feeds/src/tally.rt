@@ -100,7 +100,7 @@ impl Tally {
         self.ended.is_some() || self.frames == MOST_FRAMES
     }
 
-    /// Counts an answer to the frame at hand.
+    /// Counts an answer to the current frame.
     fn count(&mut self, answer: Result<Taken, Check>)
         requires tally { IsTally self.old }
         requires room { vec_len self.old.refused < vec_capacity self.old.refused }
@@ -118,7 +118,7 @@ impl Tally {
         }
     }
 
-    /// Goes behind a frame of so many bytes.
+    /// Moves past a frame of so many bytes.
     fn pass(&mut self, count: usize)
         requires few { self.old.frames < MOST_FRAMES }
         requires short { count ≤ most_frame }
@@ -143,8 +143,8 @@ impl Tally {
         self.pass(count);
     }
 
-    /// Takes a whole frame of so many bytes: End by itself, each other by giving it to the node. After an error the tally is as
-    /// before.
+    /// Takes a complete frame of so many bytes: End by itself, any other by giving it to the node. On an error the
+    /// tally is unchanged.
     pub(crate) fn take<R: Replica>(
         &mut self,
         node: &mut R,

@@ -1,4 +1,4 @@
--- The ids that a bundle makes vouchers for are apart, and each is that of an accepted update of another.
+-- The ids that a bundle makes vouchers for are distinct, and each is that of an accepted update of another writer.
 use Rattle.std.proofs.Common.{◌≡◌, ℕ, List, [], ◌∷◌, ◌++◌, map, Bool, true, false, not, cond, eqb, ◌&&◌, sym, ap, subst, ◌∙◌, inl, inr}
 use Rattle.std.specs.List.{AllByRecursion, filter, flat_map}
 use Rattle.std.specs.Str.{bytes_eq}
@@ -27,7 +27,7 @@ use Rattle.depot_laws.proofs.Causes.{lawful_is_causal}
 use Rattle.depot_laws.proofs.Worlds.{giver_in}
 use Rattle.depot_laws.proofs.Parcels.{IsFront, candidates_for, told_of_parcels}
 
--- ---- lists of which no element stands twice
+-- ---- lists of which no element occurs twice
 
 apart_filter : {X : Type 0} (test : X → Bool) (xs : List X) → AreApart xs → AreApart (filter test xs)
 apart_filter test [] a = tt
@@ -81,7 +81,7 @@ ids_apart ids (u ∷ us) c =
     let behind = causal_behind ids u us c in
     (λ on. let m = from_map id_of_update (id_of_update u) us on in fresh (id_of_update u ∷ ids) us m.0 behind m.1.0 (inl (sym m.1.1)), ids_apart (id_of_update u ∷ ids) us behind)
 
--- what is sent stands in front of what the candidates accept
+-- what is sent precedes what the candidates accept
 sent_front : (sign : Signs) (J : List Record) (h : Hello) (xs : List Parcel) → IsFront (parcels sign J h) xs → (more : List Update) × (accepted (candidates_for J h) ≡ updates_of xs ++ more)
 sent_front sign J h xs f =
     (updates_of f.left, sym (told_of_parcels sign J h) ∙ ap updates_of f.is ∙ flat_map-append (λ (x : Parcel). flat_map (λ (s : Signed). update_in s.statement) x.told) xs f.left)

@@ -1,4 +1,4 @@
--- What is answered to the text of a hello, before any voucher is made.
+-- The answer to the text of a hello, before any voucher is made.
 use Rattle.std.proofs.Common.{◌≡◌, ℕ, List, Bool, true, false, not, cond, Result, Ok, Err, refl, ap, ◌∙◌, arith}
 use Rattle.std.specs.List.{filter}
 use Rattle.std.specs.Str.{bytes_eq}

@@ -95,7 +95,7 @@ read_at here J place r text l at e =
 
 -- ---- a candidate's statement
 
--- a record that accepts an update is told by one signed statement, which is the update
+-- a record that accepts an update is sent as one signed statement, which is the update
 pub record IsTold (sign : Signs) (r : Record) (u : Update) : Type 0 where
   pub told : Signed
   pub tells : signed_by sign r ≡ told ∷ []
@@ -139,7 +139,7 @@ told_is_short here sign J r text l short on e = by_told (signed_by sign r) refl 
       subst (λ (t : List ℕ). length t ≤ 55979) same (signed_is_short s (told_fits here sign J r s l short on is))
   by_told (s ∷ t ∷ ss) is one = absurd cc
 
--- What is told of a place: one signed statement, with this text, that of the update which the record there accepts.
+-- What is sent of a place: one signed statement, with this text, of the update that the record there accepts.
 pub record IsToldAt (sign : Signs) (J : List Record) (place : ℕ) (text : List ℕ) : Type 0 where
   pub item : Record
   pub told : Signed
@@ -164,7 +164,7 @@ told_at here sign J place text l short t texts =
       accepts = t.accepts ∙ sym told.is;
     }
 
--- the record of a place is the one that is told of
+-- the record of a place is the one that is reported of
 pub is_item : (sign : Signs) (J : List Record) (place : ℕ) (text : List ℕ) (t : IsToldAt sign J place text) (r : Record) → slice_get J place ≡ Some r → t.item ≡ r
 is_item sign J place text t r at = let both : Some t.item ≡ Some r = sym t.at ∙ at in cc
 
@@ -172,13 +172,13 @@ is_item sign J place text t r at = let both : Some t.item ≡ Some r = sym t.at 
 pub accepts_at : (J : List Record) (place : ℕ) (t : HasUpdateAt J place) → accepted_at J place ≡ t.update ∷ []
 accepts_at J place t = ap (λ (o : Option Record). flat_map accepted_by (option_to_list o)) t.at ∙ append-nil (accepted_by t.item) ∙ t.accepts
 
--- and it is that of the statement which tells of it
+-- and it is that of the statement sent for it
 pub told_update : {sign : Signs} {text : List ℕ} (J : List Record) (place : ℕ) (t : HasUpdateAt J place) (told : IsToldAt sign J place text) (u : Update) → u ∷ [] ≡ accepted_at J place → update_in told.told.statement ≡ u ∷ []
 told_update J place t told u one =
     let same : told.item ≡ t.item = let both : Some told.item ≡ Some t.item = sym told.at ∙ t.at in cc in
     sym told.accepts ∙ ap accepted_by same ∙ t.accepts ∙ sym (accepts_at J place t) ∙ sym one
 
--- the ids of the updates of others in what tells of a record
+-- the ids of the updates of others in what is sent for a record
 pub foreign_are : (me : ℕ) (x : Parcel) (s : Signed) → x.told ≡ s ∷ [] → foreign_ids me (update_in s.statement) ≡ sent_foreign me (x ∷ [])
 unfolding sent_foreign
 foreign_are me x s told =
@@ -186,7 +186,7 @@ foreign_are me x s told =
     sym (ap (λ (ss : List Signed). map id_of_update (filter other (flat_map (λ (t : Signed). update_in t.statement) ss ++ []))) told
     ∙ ap (λ (us : List Update). map id_of_update (filter other us)) (append-nil (update_in s.statement ++ []) ∙ append-nil (update_in s.statement)))
 
--- the values of its parcel are those that were found behind its update
+-- the values of its parcel are those that were found after its update
 pub parcel_values : (sign : Signs) (J : List Record) (place : ℕ) (keys : List (List ℕ)) (r : Record) (u : Update) (found new : List (List ℕ)) → slice_get J place ≡ Some r → accepted_at J place ≡ u ∷ []
     → Finds J keys (values_named u) found new → (candidate_parcel sign J keys r).values ≡ found
 parcel_values sign J place keys r u found new at accepts f =
@@ -199,7 +199,7 @@ hashes_added old more new (Ok true) t = t
 hashes_added old more new (Ok false) t = tt
 hashes_added old more new (Err e) t = tt
 
--- ---- the values behind a candidate
+-- ---- the values after a candidate
 
 pub candidate_alike : (sign : Signs) (J : List Record) (a b : List (List ℕ)) (r : Record) → AreAlike a b → candidate_parcel sign J a r ≡ candidate_parcel sign J b r
 candidate_alike sign J a b r alike = ap (λ (vs : List (List ℕ)). record { told = signed_by sign r; values = vs }) (behind_alike J a b (flat_map values_named (accepted_by r)) alike)
@@ -210,7 +210,7 @@ held_is_short here J h v l e = value_fits here J v l (held_is_brought J v (value
 
 -- ---- one candidate after another
 
--- candidates behind others: the hashes that are sent before them are those of the parcels of the others
+-- candidates after others: the hashes that are sent before them are those of the parcels of the others
 record Behind (sign : Signs) (J : List Record) (sent : List (List ℕ)) (rs qs : List Record) : Type 0 where
   pub hashes : List (List ℕ)
   pub is : candidate_parcels sign J sent (rs ++ qs) ≡ candidate_parcels sign J sent rs ++ candidate_parcels sign J hashes qs
@@ -232,7 +232,7 @@ behind sign J sent (r ∷ rs) qs =
           ∙ ap (λ (c : Bool). c || is_among h sent) (sym (among-append h (map sha256 x.values) rest));
     }
 
--- the parcels in front
+-- the preceding parcels
 pub parcels_front : (sign : Signs) (J : List Record) (rs qs : List Record) → (more : List Parcel) × (candidate_parcels sign J [] (rs ++ qs) ≡ candidate_parcels sign J [] rs ++ more)
 parcels_front sign J rs qs = let b = behind sign J [] rs qs in (candidate_parcels sign J b.hashes qs, b.is)
 
@@ -252,7 +252,7 @@ alike_push keys new xs x alike too h =
 
 -- ---- the step from one place to the next
 
--- the record of a place that tells
+-- the record of a place that is sent
 pub record IsNext (J : List Record) (places : List ℕ) (i : ℕ) : Type 0 where
   pub place : HasUpdateAt J (get_or places i 0)
   pub records : records_at J (take (i + 1) places) ≡ records_at J (take i places) ++ place.item ∷ []

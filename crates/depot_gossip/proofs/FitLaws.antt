@@ -1,4 +1,4 @@
--- What is chosen for a bundle is the longest front of all that there is to send that fits.
+-- A bundle takes the longest prefix of all there is to send that fits.
 use Rattle.std.proofs.Common.{◌≡◌, ℕ, suc, ◌+◌, ◌-◌, ◌≤◌, List, [], ◌∷◌, ◌++◌, length, map, sum_by, Bool, true, false, not, cond, ◌&&◌, leb, ltb, eqb, Result, Ok, Err, refl, sym, ap, subst, ◌∙◌, arith, length-append, append_assoc}
 use Rattle.std.specs.List.{filter, flat_map}
 use Rattle.std.proofs.lemmas.Bool.{cond-true, and_parts, and_from, leb-true, le-leb, le-ltb, lt-ltb}
@@ -34,7 +34,7 @@ bytes_more x xs = bytes_both (frames_of x) (flat_map frames_of xs)
 count_more : (x : Parcel) (xs : List Parcel) → count_in (x ∷ xs) ≡ length (frames_of x) + count_in xs
 count_more x xs = length-append (frames_of x) (flat_map frames_of xs)
 
--- ---- the longest front
+-- ---- the longest prefix
 
 abbrev has_room : ℕ → ℕ → Parcel → Bool
 has_room b f x = leb (bytes_of_frames (frames_of x)) b && leb (length (frames_of x)) f
@@ -69,7 +69,7 @@ front_fits b f (x ∷ xs) y left p q over =
     ∙ ap (λ (ys : List Parcel). x ∷ ys) (front_fits (b - bytes_of_frames (frames_of x)) (f - length (frames_of x)) xs y left (omega (arith, bytes_more x xs, p)) (omega (arith, count_more x xs, q))
     (λ u v. over (omega (arith, bytes_more x xs, bytes_more x (xs ++ y ∷ []), p, u)) (omega (arith, count_more x xs, count_more x (xs ++ y ∷ []), q, v))))
 
--- What is chosen of all parcels is what a bundle sends, and whether there is more is told.
+-- What is chosen of all parcels is what a bundle sends, and the flag says whether there is more.
 pub record IsChosen (me : ℕ) (sign : Signs) (J : List Record) (h : Hello) (s : Sending) (all : Bool) : Type 0 where
   pub holds : Holds me (sent_for sign J h) s
   pub more : not all ≡ ltb (length (sent_for sign J h)) (length (parcels sign J h))
@@ -188,6 +188,6 @@ value_adds me xs v s t (Ok true) h a = added me xs (record { told = []; values =
 value_adds me xs v s t (Ok false) h a = subst (λ (q : Sending). IsCutAt me (xs ++ record { told = []; values = v ∷ [] } ∷ []) q) (sym a.0) (not_added me xs (record { told = []; values = v ∷ [] }) s [] (v ∷ []) h (record { told = refl; values = refl }) a.1)
 value_adds me xs v s t (Err e) h a = tt
 
--- what is told of the rest doesn't matter
+-- what is reported of the rest doesn't matter
 pub with_more : (me : ℕ) (xs : List Parcel) (s : Sending) (more : Bool) → Holds me xs s → Holds me xs (record s { more = more })
 with_more me xs s more h = record { frames = h.frames; updates = h.updates; values = h.values; ids = h.ids; fit = h.fit }

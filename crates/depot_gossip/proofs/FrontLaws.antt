@@ -1,4 +1,4 @@
--- The proofs and own vouchers in front of a bundle, by the places of their records, and the stream behind them.
+-- The proofs and own vouchers that begin a bundle, by the places of their records, and the stream after them.
 use Rattle.std.proofs.Common.{◌≡◌, ℕ, ◌+◌, ◌-◌, ◌<◌, ◌≤◌, ◌==◌, List, [], ◌∷◌, ◌++◌, length, map, take, drop, get_or, Bool, true, false, not, cond, ◌||◌, Option, Some, refl, sym, ap, subst, ◌∙◌, arith, add-one, length-append, append_assoc}
 use Rattle.std.specs.Prelude.{option_to_list, slice_get}
 use Rattle.std.specs.List.{AllByRecursion, filter, flat_map, list_any}
@@ -36,7 +36,7 @@ proof_behind : (p : Proof) → text_of_record (Conviction p) ≡ 5 ∷ text_of_p
 unfolding record_text tagged number numeral
 proof_behind p = refl
 
--- behind the tag stands the proof
+-- the proof follows the tag
 pub rest_is_proof : (p : Proof) (text : List ℕ) → text ≡ text_of_record (Conviction p) → take (length text - 1) (drop 1 text) ≡ text_of_proof p
 rest_is_proof p text e = ap (λ (bytes : List ℕ). take (length bytes - 1) (drop 1 bytes)) (e ∙ proof_behind p) ∙ take_all (length (5 ∷ text_of_proof p) - 1) (text_of_proof p) (omega arith)
 
@@ -46,7 +46,7 @@ some_text p text e lt = omega (arith, ap length (e ∙ proof_behind p), lt)
 
 -- ---- the records of some places
 
--- a record that passes the test stands at this place
+-- a record that passes the test is at this place
 pub record PassesAt (test : Record → Bool) (J : List Record) (place : ℕ) : Type 0 where
   pub item : Record
   pub at : slice_get J place ≡ Some item
@@ -137,7 +137,7 @@ convicts_is listed (OwnVoucher v) e = absurd cc
 convicts_is listed (Foreign s) e = absurd cc
 convicts_is listed (Held value) e = absurd cc
 
--- at each of these places stands a conviction
+-- at each of these places is a conviction
 pub proof_at : (J : List Record) (listed places : List ℕ) (i place : ℕ) → places ≡ proof_places J listed → i < length places → place ≡ get_or places i 0 → (p : Proof) × (slice_get J place ≡ Some (Conviction p))
 proof_at J listed places i place are low is =
     let all = subst (λ (ns : List ℕ). AllByRecursion (PassesAt (convicts_other listed) J) ns) (sym are) (passing (convicts_other listed) J).all in
@@ -178,7 +178,7 @@ vouches_is ids (Foreign s) e = absurd cc
 vouches_is ids (Conviction p) e = absurd cc
 vouches_is ids (Held value) e = absurd cc
 
--- at each of these places stands an own voucher
+-- at each of these places is an own voucher
 pub voucher_at : (J : List Record) (ids : List (List ℕ)) (places : List ℕ) (i place : ℕ) → places ≡ voucher_places J ids → i < length places → place ≡ get_or places i 0 → (v : Voucher) × (slice_get J place ≡ Some (OwnVoucher v))
 voucher_at J ids places i place are low is =
     let all = subst (λ (ns : List ℕ). AllByRecursion (PassesAt (vouches_for ids) J) ns) (sym are) (passing (vouches_for ids) J).all in
@@ -208,7 +208,7 @@ frame_added fs f old new bytes count are = record {
 
 -- ---- the stream
 
--- the front and what is sent make up the stream
+-- the leading frames and what is sent make up the stream
 pub joined_is_stream : (sign : Signs) (K : List Record) (h : Hello) (s : Sending) (f : BundleFront) (b : Bundled) → IsFront sign K h s.ids f → IsJoined f s b → IsStream sign K h s b
 joined_is_stream sign K h s f b front joined =
     let rest = s.frames ++ text_of_frame (end_frame s.more) in

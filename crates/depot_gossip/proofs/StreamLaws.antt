@@ -50,7 +50,7 @@ bytes_are me sign K h xs s b more holds is stream =
 module _ (here : Setting) (sign : Signs) (J : List Record) (stopped : Bool) (text : List ℕ) where
   -- ---- before any voucher is made
 
-  -- what isn't prepared isn't bundled, and the journal is as before
+  -- what isn't prepared isn't bundled, and the journal is unchanged
   pub not_bundled : (e : BundleError) → Prepares here sign J stopped text (Err e) → Bundles here sign J stopped text (Err e) J
   not_bundled error.Memory p = inl refl
   not_bundled error.Disk p = absurd p
@@ -144,7 +144,7 @@ module _ (here : Setting) (sign : Signs) (J : List Record) (stopped : Bool) (ans
 
 -- ---- faults
 
--- a fault of the vouchers is told as it is
+-- a fault of the vouchers is reported as it is
 pub same_fault : (e : VoucherError) → (IsErrOf {T = Unit {0}} (Err e) refused.Stopped ↔ IsErrOf {T = Bundled} (Err (from_vouching e)) error.Stopped) × (IsErrOf {T = Unit {0}} (Err e) refused.Disk ↔ IsErrOf {T = Bundled} (Err (from_vouching e)) error.Disk)
 same_fault refused.Memory = ((λ e. absurd cc, λ e. absurd cc), (λ e. absurd cc, λ e. absurd cc))
 same_fault refused.Disk = ((λ e. absurd cc, λ e. absurd cc), (λ e. refl, λ e. refl))

@@ -55,14 +55,14 @@ told_more sign J new s (inr other) = inr (flat_left foreign_by s J new other)
 
 -- ---- the statements of parcels
 
--- each parcel of candidates tells what one of their records gives
+-- each parcel of candidates has what one of their records gives
 in_candidate_parcels : (sign : Signs) (J : List Record) (sent : List (List ℕ)) (rs : List Record) (x : Parcel) → IsIn x (candidate_parcels sign J sent rs) → (r : Record) × (IsIn r rs × (x.told ≡ signed_by sign r))
 unfolding candidate_parcels
 in_candidate_parcels sign J sent [] x never = absurd never
 in_candidate_parcels sign J sent (r ∷ rs) x (inl same) = (r, (inl refl, sym (ap (λ (y : Parcel). y.told) same)))
 in_candidate_parcels sign J sent (r ∷ rs) x (inr there) = let m = in_candidate_parcels sign J (map sha256 (candidate_parcel sign J sent r).values ++ sent) rs x there in (m.0, (inr m.1.0, m.1.1))
 
--- a wanted value is told by no statement
+-- a wanted value is reported by no statement
 wanted_tells_none : (J : List Record) (sent : List (List ℕ)) (h : List ℕ) (x : Parcel) → IsIn x (wanted_parcel J sent h) → x.told ≡ []
 wanted_tells_none J sent h x on = by_value (cond (is_among h sent) None (value_with h (held J))) on where
   by_value : (o : Option (List ℕ)) → IsIn x (elim o as (λ p. List Parcel) [ None ↦ [] | Some v ↦ record { told = []; values = v ∷ [] } ∷ [] ]) → x.told ≡ []
@@ -175,7 +175,7 @@ pub bundle_is_lawful : (here : Setting) (sign : Signs) (J : List Record) (h : He
 unfolding bundle_of
 bundle_is_lawful here sign J h l some none = new_are_lawful here J (unvouched here.me J (sent_for sign J h)) l some (foreign_one here sign J h (sent_for sign J h) (sent_in_front sign J h)) none
 
--- each own statement in a bundle stands in the journal with the bundle's vouchers, signed by the signer
+-- each own statement in a bundle is in the journal with the bundle's vouchers, signed by the signer
 pub bundle_tells_own : (here : Setting) (sign : Signs) (J : List Record) (text : List ℕ) (b : Bundle) (s : Signed) → IsLawful here J → is_empty J ≡ false → SignsShort sign → bundle_answer here sign J text ≡ bundled b → IsSigned s → IsIn (statement_frame s) b.frames → writer_of s.statement ≡ here.me
     → IsSignedOwn sign (with_vouchers J b.vouchers) s
 bundle_tells_own here sign J text b s l some short is fits on me =

@@ -1,4 +1,4 @@
--- The values behind the update of a candidate: which are found, how many, and how long they are.
+-- The values after the update of a candidate: which are found, how many, and how long they are.
 use Rattle.std.proofs.Common.{◌≡◌, ℕ, ◌+◌, ◌<◌, ◌≤◌, List, [], ◌∷◌, ◌++◌, length, map, take, get_or, Bool, true, false, cond, ◌||◌, Option, Some, None, refl, sym, ap, subst, ◌∙◌, arith, length-append}
 use Rattle.std.specs.Borrow.{Bor}
 use Rattle.std.specs.List.{flat_map}
@@ -34,7 +34,7 @@ use Rattle.depot_laws.proofs.WantedValues.{value_fits}
 use Rattle.depot_frames.specs.Sendings.{ArePayloads, payloads_of}
 use Rattle.depot_gossip.specs.Choosing.{AreAlike, Finds}
 
--- ---- the values behind names
+-- ---- the values after names
 
 -- the first of a name's value and the rest, where it is to be sent, or what comes else
 abbrev value_first : Bool → Option (List ℕ) → List (List ℕ) → List (List ℕ) → List (List ℕ)
@@ -49,7 +49,7 @@ behind_alike J a b (n ∷ ns) alike =
     ∙ ap (λ (vs : List (List ℕ)). value_first (is_among n.hash b) (held_as J n) vs (values_behind J (n.hash ∷ a) ns)) (behind_alike J a b ns alike)
     ∙ ap (value_first (is_among n.hash b) (held_as J n) (values_behind J b ns)) (behind_alike J (n.hash ∷ a) (n.hash ∷ b) ns (λ h. ap (λ (c : Bool). bytes_eq h n.hash || c) (alike h)))
 
--- behind the names of some come those of others, for which the hashes of the values found stand too
+-- after the names of some come those of others, with the hashes of the found values in the set
 behind_both : (J : List Record) (keys mid : List (List ℕ)) (ns ms : List NamedValue) → AreTogether keys (map sha256 (values_behind J keys ns)) mid → values_behind J keys (ns ++ ms) ≡ values_behind J keys ns ++ values_behind J mid ms
 unfolding values_behind
 behind_both J keys mid [] ms t = behind_alike J keys mid ms (λ h. sym (t h ∙ or-false (is_among h keys)))
@@ -144,7 +144,7 @@ few_names s (statement.Update u) fits is =
     let facts = update_facts u (IsUpdate-from_statement u (subst (λ (x : Statement). IsStatement x) is (IsStatement-from_signed s fits))) in
     omega (arith, ap length (append-nil (values_named u)), few_named u.writes, facts.writes.few)
 
--- behind one statement there are at most as many values as an update has writes
+-- after one statement there are at most as many values as an update has writes
 pub few_found : (J : List Record) (keys : List (List ℕ)) (s : Signed) (u : Update) (found new : List (List ℕ)) → IsSigned s → update_in s.statement ≡ u ∷ [] → Finds J keys (values_named u) found new → length found ≤ 16
 few_found J keys s u found new fits is f =
     let same : flat_map values_named (update_in s.statement) ≡ values_named u = ap (flat_map values_named) is ∙ append-nil (values_named u) in

@@ -1,4 +1,4 @@
--- What the vouchers of a bundle bring a journal, all of which or a front of which was appended, and what making them leaves of a node.
+-- What a bundle's vouchers bring a journal, appended in full or as a prefix, and what making them makes of a node.
 use Rattle.std.proofs.Common.{◌≡◌, ℕ, List, [], ◌++◌, false, Option, None, Result, Ok, Err, refl, sym, ap, subst, ◌∙◌}
 use Rattle.std.specs.Prelude.{IsErrAnd, IsErrOf}
 use Rattle.depot_base.specs.declared.record.Record.{Record}
@@ -53,7 +53,7 @@ module _ {N : Type 0} (g : Ghosts N) (p : Prepared) (old new : N) (lawful : IsLa
   abbrev journaled : List Record
   journaled = journaled_for answer
 
-  -- all of them were appended, or a front of them
+  -- all of them were appended, or a prefix of them
   part_in : (failed : Type 0) → limit_of_vouchers (g.stands old) (g.records old) p.unvouched ≡ None → IsPart (g.records old) vouchers (g.records new) failed → Lasts (journal_of g) old new vouchers → LastsIn g failed old new
   part_in failed none part lasts = record {
     appends = vouchers;

@@ -9,7 +9,7 @@ use Rattle.depot_frames.specs.declared.sending.Sending.{Sending}
 use Rattle.depot_gossip.specs.declared.front.BundleFront.{BundleFront}
 use Rattle.depot_gossip.specs.declared.bundle_stream.Bundled.{Bundled}
 
--- The stream is the proofs, the vouchers, what is sent, and End; and its frames are counted.
+-- The stream has the frames of the proofs, the vouchers, what is sent, and End, and they are counted.
 pub record IsStream (sign : Signs) (J : List Record) (h : Hello) (s : Sending) (b : Bundled) : Type 0 where
   pub bytes : b.bytes ≡ flat_map text_of_frame (map proof_frame (proofs_for J h)) ++ (flat_map text_of_frame (map (voucher_frame sign) (vouchers_for J s.ids)) ++ (s.frames ++ text_of_frame (end_frame s.more)))
   pub proofs : b.counts.proofs ≡ length (proofs_for J h)
@@ -18,7 +18,7 @@ pub record IsStream (sign : Signs) (J : List Record) (h : Hello) (s : Sending) (
   pub values : b.counts.values ≡ s.values
   pub more : b.more ≡ s.more
 
--- The bytes of the front, those of what is sent, and End stand one behind the other, and their numbers beside them.
+-- The bytes of the leading frames, of what is sent, and of End follow one another, and so do their counts.
 pub record IsJoined (f : BundleFront) (s : Sending) (b : Bundled) : Type 0 where
   pub bytes : b.bytes ≡ f.proofs.bytes ++ (f.vouchers.bytes ++ (s.frames ++ text_of_frame (end_frame s.more)))
   pub proofs : b.counts.proofs ≡ f.proofs.count

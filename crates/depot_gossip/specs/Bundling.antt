@@ -37,13 +37,13 @@ pub record HasVouchedPart (answer : BundleAnswer) (J then : List Record) : Type 
   pub is : answer ≡ bundled bundle
   pub cut : IsCutShort J (records_of bundle.vouchers) then
 
--- the records that are journaled for an answer: the own vouchers of its bundle, and none where it is no bundle
+-- the records that are journaled for an answer: the own vouchers of its bundle; none if it is no bundle
 abbrev pub journaled_for : BundleAnswer → List Record
 journaled_for (bundled b) = records_of b.vouchers
 journaled_for other = []
 
--- What a node replies where this is the answer, and the journal after it. A node that is stopped says no more. Memory may stand in
--- place of each other answer, and then all vouchers of the bundle were journaled or none.
+-- What a node replies where this is the answer, and its journal afterwards. A stopped node says no more. `Memory` may
+-- replace each other answer; then all vouchers of the bundle were journaled, or none.
 abbrev pub BundlesBy : Setting → List Record → Bool → BundleAnswer → Result Bundled BundleError → List Record → Type 0
 BundlesBy here J stopped answer (Ok b) then = IsBundled answer J b then
 BundlesBy here J stopped answer (Err error.Memory) then = (then ≡ J) ⊎ HasVouched answer J then
@@ -54,13 +54,13 @@ BundlesBy here J stopped answer (Err (error.OtherRoster given mine)) then = (ans
 BundlesBy here J stopped answer (Err (error.Spent n)) then = (answer ≡ limited (spent n)) × (then ≡ J)
 BundlesBy here J stopped answer (Err (error.Full what)) then = (answer ≡ limited (full what)) × (then ≡ J)
 
--- What a node answers to a text that is given as a hello, and the journal after it.
+-- What a node answers to a text given as a hello, and its journal afterwards.
 abbrev pub Bundles : Setting → Signs → List Record → Bool → List ℕ → Result Bundled BundleError → List Record → Type 0
 Bundles here sign J stopped text result then = BundlesBy here J stopped (bundle_answer here sign J text) result then
 
 -- ---- the node
 
--- the call was to journal the vouchers of the bundle that is the answer, and answered so
+-- the call was to journal the vouchers of this answer's bundle, and answered this
 abbrev pub IsAnswerCall : {N : Type 0} → Ghosts N → N → N → BundleAnswer → Result Bundled BundleError → Type 0
 IsAnswerCall g old new answer result = IsLawfulCall g old new (journaled_for answer) (IsErrOf result error.Stopped) (IsErrOf result error.Disk)
 
@@ -72,7 +72,7 @@ IsBundleCall g old new text result = IsAnswerCall g old new (bundle_answer (g.st
 abbrev pub HasReady : {N : Type 0} → Ghosts N → N → Prepared → Type 0
 HasReady g node p = (answer : BundleAnswer) × ((xs : List Parcel) × IsReady (g.stands node) (g.signature_of node) (g.records node) answer xs p)
 
--- Whatever answer it is ready for, that is what the node replies; and the call was to journal its vouchers.
+-- For each answer that it is ready for: the node replies that, and the call was to journal its vouchers.
 pub record SendsReady {N : Type 0} (g : Ghosts N) (old new : N) (p : Prepared) (result : Result Bundled BundleError) (answer : BundleAnswer) : Type 0 where
   pub bundles : BundlesBy (g.stands old) (g.records old) (g.stopped old) answer result (g.records new)
   pub call : IsAnswerCall g old new answer result

@@ -1,4 +1,4 @@
--- What a bundle sends of updates and values, as far as it is chosen.
+-- The updates and values that are chosen for a bundle.
 use Rattle.std.specs.Prelude.{◌≡◌, ℕ, ◌+◌, List, [], ◌∷◌, ◌++◌, length, map, filter, Bool, true, false, nat_lt, not, ◌==◌, Option, Some, None, option_to_list, slice_get, Result, Ok, Err}
 use Rattle.std.specs.List.{flat_map}
 use Rattle.sha2.specs.Sha256.{sha256}
@@ -17,7 +17,7 @@ use Rattle.depot_frames.specs.Sendings.{DoFit, Holds, parcel_frames, IsShort, Ha
 
 -- ---- parcels that are chosen
 
--- Of all these parcels a front is chosen, and with the next one it wouldn't fit.
+-- A prefix of all these parcels is chosen, and the next one wouldn't fit.
 pub record IsCutAt (me : ℕ) (all : List Parcel) (s : Sending) : Type 0 where
   pub sent : List Parcel
   pub next : Parcel
@@ -36,7 +36,7 @@ abbrev pub AddsTo : {E : Type 0} → ℕ → List Parcel → Sending → Result 
 AddsTo me all s (Ok fits) = Carries me all s fits
 AddsTo me all s (Err e) = Unit {0}
 
--- Whatever parcels were chosen before, with these behind them all are chosen or cut.
+-- Whatever parcels were chosen before: with these appended, all are chosen or cut.
 abbrev pub AddsBehind : {E : Type 0} → ℕ → Sending → List Parcel → Sending → Result Bool E → Type 0
 AddsBehind me s more t result = (xs : List Parcel) → Holds me xs s → AddsTo me (xs ++ more) t result
 
@@ -46,7 +46,7 @@ leaves_out sign J h = nat_lt (length (sent_for sign J h)) (length (parcels sign 
 
 -- ---- one parcel more
 
--- the frames of a candidate and the ids of its updates of others stand behind those before them
+-- the frames of a candidate, and the ids of its updates by others, are appended
 pub record HasAddedFound (s t : Sending) (statements behind more : List (List ℕ)) : Type 0 where
   pub frames : t.frames ≡ s.frames ++ flat_map text_of_frame (parcel_frames statements behind)
   pub updates : t.updates ≡ s.updates + length statements
@@ -73,7 +73,7 @@ pub record HasUpdateAt (J : List Record) (place : ℕ) : Type 0 where
 abbrev pub records_at : List Record → List ℕ → List Record
 records_at J places = flat_map (λ place. option_to_list (slice_get J place)) places
 
--- This holds of the parcel of the record of a place; these hashes are those of the values before it.
+-- This holds for the parcel of the record at a place, where values of these hashes come before it.
 abbrev pub ForParcelAt : {N : Type 0} → Ghosts N → N → ℕ → List (List ℕ) → (Parcel → Type 0) → Type 0
 ForParcelAt g node place keys P = (r : Record) → slice_get (g.records node) place ≡ Some r → P (candidate_parcel (g.signature_of node) (g.records node) keys r)
 
@@ -81,15 +81,15 @@ ForParcelAt g node place keys P = (r : Record) → slice_get (g.records node) pl
 abbrev pub parcels_at : {N : Type 0} → Ghosts N → N → List ℕ → List Parcel
 parcels_at g node places = candidate_parcels (g.signature_of node) (g.records node) [] (records_at (g.records node) places)
 
--- the same, and then the wanted values that are held and that none of them has
+-- the same, then the wanted values that are held and that none of the parcels has
 abbrev pub parcels_with : {N : Type 0} → Ghosts N → N → List ℕ → List (List ℕ) → List Parcel
 parcels_with g node places wanted = parcels_at g node places ++ flat_map (wanted_parcel (g.records node) (hashes_of (parcels_at g node places))) wanted
 
--- the ids of those of these updates that are of another node than this
+-- the ids of those of these updates that another node wrote
 abbrev pub foreign_ids : ℕ → List Update → List (List ℕ)
 foreign_ids me us = map id_of_update (filter (λ u. not (u.writer == me)) us)
 
--- These are the held values of the names that have none of these hashes, each hash once; and with theirs the hashes are the new ones.
+-- These are the held values of the names with none of these hashes, each hash once; adding theirs gives the new hashes.
 pub record Finds (J : List Record) (keys : List (List ℕ)) (names : List NamedValue) (found new : List (List ℕ)) : Type 0 where
   pub values : found ≡ values_behind J keys names
   pub hashes : AreTogether keys (map sha256 found) new

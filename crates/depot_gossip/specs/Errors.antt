@@ -1,4 +1,4 @@
--- What a fault of a callee is as the reason why no bundle is made.
+-- An error of a callee, as the reason why no bundle is made.
 use Rattle.depot_base.specs.declared.fault.DecodeError.{DecodeError}
 use Rattle.depot_base.specs.declared.fault.DecodeError.TheVariants as decode
 use Rattle.depot_model.specs.declared.bundle.VoucherError.{VoucherError}

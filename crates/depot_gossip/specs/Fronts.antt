@@ -1,4 +1,4 @@
--- What stands in front of the updates and values of a bundle.
+-- What precedes the updates and values of a bundle.
 use Rattle.std.specs.Prelude.{◌≡◌, ◌++◌, ◌∷◌, [], ℕ, List, OnOk, Result, length, map}
 use Rattle.std.specs.List.{flat_map}
 use Rattle.depot_base.specs.declared.record.Record.{Record}
@@ -13,7 +13,7 @@ pub record AreFrames (fs : List Frame) (made : FrontFrames) : Type 0 where
   pub bytes : made.bytes ≡ flat_map text_of_frame fs
   pub count : made.count ≡ length fs
 
--- whatever frames stood there, after Ok this one stands behind them
+-- after `Ok` this frame follows whatever frames were there
 abbrev pub AddsFrame : {A E : Type 0} → FrontFrames → Frame → FrontFrames → Result A E → Type 0
 AddsFrame old f new result = (fs : List Frame) → AreFrames fs old → OnOk result (AreFrames (fs ++ f ∷ []) new)
 

@@ -20,7 +20,7 @@ pub record IsSignedOwn (sign : Signs) (J : List Record) (s : Signed) : Type 0 wh
   pub on : IsIn s.statement (own J)
   pub signature : s.signature ≡ sign (seq_of s.statement) s.body
 
--- A node of this journal, which is lawful and has begun, answers some text with this bundle.
+-- A node answers some text with this bundle; its journal is this one, lawful and not empty.
 pub record AnswersBundle (here : Setting) (sign : Signs) (J : List Record) (b : Bundle) : Type 0 where
   pub text : List ℕ
   pub lawful : IsLawful here J
@@ -28,7 +28,7 @@ pub record AnswersBundle (here : Setting) (sign : Signs) (J : List Record) (b : 
   pub short : SignsShort sign
   pub is : bundle_answer here sign J text ≡ bundled b
 
--- In the bytes of the bundle stands this signed statement, which is the node's own.
+-- The bundle's bytes contain this signed statement, which is the node's own.
 pub record HasOwnStatement (here : Setting) (b : Bundle) (s : Signed) : Type 0 where
   pub fits : IsSigned s
   pub on : IsIn (statement_frame s) b.frames

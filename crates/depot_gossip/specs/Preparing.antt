@@ -22,7 +22,8 @@ use Rattle.depot_gossip.specs.declared.bundle_error.BundleError.TheVariants as e
 abbrev pub IsHeard : Setting → Signs → List Record → List ℕ → Hello → Type 0
 IsHeard here sign J text h = bundle_answer here sign J text ≡ bundled_within (limit_of_vouchers here J (unvouched here.me J (sent_for sign J h))) (bundle_of here.me sign J h)
 
--- The answer to what was read of a text, where this is the answer to a hello: its roster is the node's, which has its node.
+-- The answer to what was read of a text, if this is the answer to a hello of the node's roster, which has the hello's
+-- node.
 abbrev pub answer_as_read : Setting → (Hello → BundleAnswer) → Result Hello ℕ → BundleAnswer
 answer_as_read here answer (Err at) = bad_hello at
 answer_as_read here answer (Ok h) =
@@ -54,8 +55,8 @@ bundle_with me sign J h xs more =
 abbrev pub answer_with : Setting → Signs → List Record → Hello → List Parcel → Bool → BundleAnswer
 answer_with here sign J h xs more = bundled_within (limit_of_vouchers here J (unvouched here.me J xs)) (bundle_with here.me sign J h xs more)
 
--- What is prepared is ready to be sent: it holds these parcels and the ids that are to be vouched for first, each once and each that of an accepted
--- update of another; and their bundle is the answer.
+-- What is prepared is ready to be sent: it holds these parcels, and the ids to vouch for first, each once, each of an
+-- accepted update of another writer; and their bundle is the answer.
 pub record IsReady (here : Setting) (sign : Signs) (J : List Record) (answer : BundleAnswer) (xs : List Parcel) (p : Prepared) : Type 0 where
   pub is : answer ≡ answer_with here sign J p.hello xs p.sending.more
   pub holds : Holds here.me xs p.sending
@@ -63,7 +64,7 @@ pub record IsReady (here : Setting) (sign : Signs) (J : List Record) (answer : B
   pub apart : AreApart (unvouched here.me J xs)
   pub foreign : (h : List ℕ) → IsIn h (unvouched here.me J xs) → is_foreign here.me (accepted J) h ≡ true
 
--- What is chosen for a hello, and the ids that are to be vouched for before it is sent.
+-- What is chosen for a hello, and the ids to vouch for before it is sent.
 pub record IsPrepared (here : Setting) (sign : Signs) (J : List Record) (stopped : Bool) (text : List ℕ) (p : Prepared) : Type 0 where
   pub runs : stopped ≡ false
   pub heard : IsHeard here sign J text p.hello

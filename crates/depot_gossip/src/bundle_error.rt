@@ -20,7 +20,8 @@ pub enum BundleError {
     /// The disk failed in an earlier call.
     #[error("an earlier call failed on the disk")]
     Stopped,
-    /// The text is no hello's: its first fault starts at this offset in bytes. At 2 it may be that the roster lacks its node.
+    /// The text is no hello's: its first fault starts at this offset in bytes. Offset 2 may also mean that the roster
+    /// lacks its node.
     #[error("no hello: the fault is at offset {0}")]
     IllFormed(u32),
     /// The hello's roster is another one than the node's.
@@ -31,7 +32,7 @@ pub enum BundleError {
         /// SHA-256 of the node's.
         mine: Hash32,
     },
-    /// The node has made so many statements, and has too few leaves left to sign the vouchers.
+    /// The node has made so many statements and has too few unused leaves to sign the vouchers.
     #[error("{0} statements are made, and too few leaves are left")]
     Spent(u32),
     /// There is no room for the vouchers.

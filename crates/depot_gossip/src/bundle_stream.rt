@@ -1,4 +1,5 @@
-//! The stream of a bundle. It stands in the buffer of what was chosen: the chosen frames are moved behind the front there, not copied.
+//! The stream of a bundle. It reuses the buffer of the chosen frames: they are moved after the leading frames, not
+//! copied.
 ghost use Rattle.std.specs.Prelude.{◌≡◌, ◌++◌, false, OnOk, IfOk, if◌then◌else◌};
 ghost use Rattle.depot_gossip.specs.BundleStreams.{IsJoined, IsStream};
 
@@ -15,7 +16,7 @@ pub struct Bundled {
     pub bytes: Bytes,
     /// How many frames of each sort there are, beside End.
     pub counts: Counts,
-    /// Whether something that the reader lacks had no room. The End frame says the same.
+    /// Whether something that the reader lacks didn't fit. The End frame says the same.
     pub more: bool,
 }
 
@@ -29,7 +30,8 @@ fn flag_of(more: bool) -> u8
 /// How many bytes the frame End has.
 const END_BYTES: usize = 6;
 
-/// Puts the frames of a front before what is sent, in the same buffer. It grows by them and by what End takes, and no more.
+/// Puts the leading frames before what is sent, in the same buffer. The buffer grows by them and by what End takes, and
+/// no more.
 fn put_in_front(sent: &mut Vec<u8>, front: &BundleFront) -> Result<(), Memory>
     ensures { OnOk result (sent.new.items ≡ front.now.proofs.bytes ++ (front.now.vouchers.bytes ++ sent.old.items)) }
 {
@@ -44,7 +46,7 @@ fn put_in_front(sent: &mut Vec<u8>, front: &BundleFront) -> Result<(), Memory>
     Ok(())
 }
 
-/// The stream: the frames in front, what is sent, and End. It stands in the buffer of what is sent.
+/// The stream: the leading frames, what is sent, and End, in the buffer of what is sent.
 #[tactic(auto, using(depot_base::proofs::Writing::texts))]
 fn stream_of(front: &BundleFront, sending: Sending) -> Result<Bundled, Memory>
     ensures { IfOk result (λ b. IsJoined front.now sending b) }
@@ -65,7 +67,8 @@ fn stream_of(front: &BundleFront, sending: Sending) -> Result<Bundled, Memory>
     })
 }
 
-/// The bundle of what was chosen for a hello, the vouchers standing in the journal. What was chosen isn't copied: it gives its buffer.
+/// Makes the bundle of what was chosen for a hello, once its vouchers are in the journal. It takes over the buffer of
+/// what was chosen, and copies none of it.
 pub fn bundle_for<R: Peer>(
     alloc: Global,
     node: &R,

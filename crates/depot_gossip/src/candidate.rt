@@ -11,7 +11,7 @@ use depot_base::{Hash32, Memory, NamedValue, NodeId, Update, Write};
 use depot_model::Peer;
 use std::alloc::Global;
 
-/// The id of an update, if it is one of another node than this.
+/// The id of an update, if another node wrote it.
 pub(crate) fn foreign_id(update: &Update, id: &Hash32, me: NodeId) -> Option<Hash32>
     requires { id.now ≡ id_of_update update.now }
     ensures { option_to_list result ≡ foreign_ids me (update.now ∷ []) }
@@ -19,7 +19,7 @@ pub(crate) fn foreign_id(update: &Update, id: &Hash32, me: NodeId) -> Option<Has
     if update.writer == me { None } else { Some(*id) }
 }
 
-/// The held value of a name. None exactly where no value of its hash and its length is held.
+/// The held value of a name. `None` exactly when no value of its hash and its length is held.
 fn held_as<'n, R: Peer>(node: &'n R, name: &NamedValue) -> Option<&'n [u8]>
     requires { R.stopped node.now ≡ false }
     ensures { option_copied result ≡ held_as (R.records node.now) name.now }
@@ -32,7 +32,7 @@ fn held_as<'n, R: Peer>(node: &'n R, name: &NamedValue) -> Option<&'n [u8]>
     }
 }
 
-/// The held value of a name, unless its hash is among these. Where there is one, its hash is then among these.
+/// The held value of a name, unless its hash is in the set. Adds the hash of a value that it returns.
 fn value_behind<'n, R: Peer>(
     node: &'n R,
     hashes: &mut Hashes,
@@ -51,8 +51,8 @@ fn value_behind<'n, R: Peer>(
     Ok(Some(value))
 }
 
-/// The values that these writes name, in their order, as far as they are held and none of these hashes is theirs. Their hashes are
-/// then among these, so that a value that two writes name comes once.
+/// The held values that these writes name, in their order, without those whose hashes are in the set. Adds their
+/// hashes, so that a value that two writes name comes once.
 pub(crate) fn values_behind<'n, R: Peer>(
     alloc: Global,
     node: &'n R,

@@ -35,8 +35,8 @@ fn push_id(ids: &mut Ids, id: Option<Hash32>) -> Result<(), Memory>
     }
 }
 
-/// Chooses a candidate: its signed statement, with this text, and the values that were found behind it; and its id, if it is to be
-/// vouched for. Says whether it has room.
+/// Chooses a candidate: its signed statement with this text, its values, and its id if a voucher is needed. Returns
+/// whether it fits.
 fn add_found(
     sending: &mut Sending,
     statement: &[u8],
@@ -56,8 +56,8 @@ fn add_found(
     Ok(true)
 }
 
-/// Chooses the candidate of a place, with the held values that it names, but for those whose hashes are among these. Says whether
-/// it has room.
+/// Chooses the candidate of a place with the held values that it names, except those whose hashes are in the set.
+/// Returns whether it fits.
 pub fn add_candidate<R: Peer>(
     alloc: Global,
     sending: &mut Sending,
@@ -83,7 +83,7 @@ pub fn add_candidate<R: Peer>(
     add_found(sending, statement.as_slice(), found.as_slice(), foreign)
 }
 
-/// Chooses the candidates of these places, as long as there is room. Says whether all have room.
+/// Chooses the candidates of these places, as long as they fit. Returns whether all fit.
 fn add_candidates<R: Peer>(
     alloc: Global,
     sending: &mut Sending,
@@ -117,7 +117,7 @@ fn wanted_value<'n, R: Peer>(node: &'n R, hashes: &Hashes, hash: &Hash32) -> Opt
     node.held(hash)
 }
 
-/// Chooses the value of a wanted hash, if it is held and its hash isn't among these. Says whether it has room.
+/// Chooses the value of a wanted hash, if it is held and its hash isn't in the set. Returns whether it fits.
 pub fn add_wanted_value<R: Peer>(
     sending: &mut Sending,
     hashes: &Hashes,
@@ -134,7 +134,8 @@ pub fn add_wanted_value<R: Peer>(
     }
 }
 
-/// Chooses the wanted values that are held and whose hashes aren't among these, as long as there is room. Says whether all have room.
+/// Chooses the wanted values that are held and whose hashes aren't in the set, as long as they fit. Returns whether all
+/// fit.
 fn add_wanted<R: Peer>(
     sending: &mut Sending,
     hashes: &Hashes,
@@ -153,7 +154,7 @@ fn add_wanted<R: Peer>(
     Ok(true)
 }
 
-/// Chooses the candidates of these places, and then the wanted values. Says whether all have room.
+/// Chooses the candidates of these places, then the wanted values. Returns whether all fit.
 fn add_all<R: Peer>(
     alloc: Global,
     sending: &mut Sending,

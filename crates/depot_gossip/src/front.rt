@@ -1,4 +1,4 @@
-//! What stands in front of the updates and values of a bundle: proofs, and own vouchers.
+//! What precedes the updates and values of a bundle: proofs, and own vouchers.
 ghost use Rattle.std.specs.Prelude.{◌≡◌, ◌<◌, ◌≤◌, ◌+◌, [], false, length, map, Some, OnOk, IfOk, slice_get};
 ghost use Rattle.depot_base.specs.Tags.{frame_byte};
 ghost use Rattle.depot_base.specs.declared.limits.TheConstants.{MOST_PAYLOAD, MOST_RECORDS};
@@ -14,7 +14,7 @@ use depot_frames::put_frame;
 use depot_model::{Hello, Peer};
 use std::alloc::Global;
 
-/// The frames in front of the updates and values of a bundle.
+/// The frames before the updates and values of a bundle.
 #[derive(Drop)]
 pub(crate) struct BundleFront {
     /// Those of the proofs.
@@ -23,7 +23,7 @@ pub(crate) struct BundleFront {
     pub vouchers: FrontFrames,
 }
 
-/// Frames one behind the other, and how many there are.
+/// Frames one after the other, and how many there are.
 #[derive(Drop)]
 pub(crate) struct FrontFrames {
     /// Their bytes.
@@ -55,7 +55,7 @@ impl FrontFrames {
         Ok(())
     }
 
-    /// Adds the frame of the proof of a place. Its text stands behind the record's tag: nothing is decoded.
+    /// Adds the frame of the proof at a place. Its text follows the record's tag: nothing is decoded.
     fn put_proof<R: Peer>(&mut self, node: &R, place: u32) -> Result<(), Memory>
         requires at { (p : Proof) × (slice_get (R.records node.now) place ≡ Some (Conviction p)) }
         requires few { self.old.count < MOST_RECORDS }
@@ -117,7 +117,8 @@ fn voucher_frames<R: Peer>(alloc: Global, node: &R, ids: &Ids) -> Result<FrontFr
 }
 
 impl BundleFront {
-    /// The frames of the proofs for a hello and of the own vouchers that name one of these ids. No other record is looked at.
+    /// The frames of the proofs for a hello, and of the own vouchers that name one of these ids. It reads no other
+    /// record.
     pub(crate) fn of<R: Peer>(
         alloc: Global,
         node: &R,

@@ -5,7 +5,7 @@ ghost use Rattle.depot_model.specs.Lists.{is_among, AreTogether};
 use depot_base::{Hash32, Memory};
 use indexmap::IndexSet;
 
-/// A set of digests. Each that is put in is SHA-256 of something, so nobody can choose ones that fall together.
+/// A set of digests. Each member is the SHA-256 of something, so nobody can choose members that collide in the table.
 pub type Hashes = IndexSet<Hash32>;
 
 /// Whether the set has a digest. It takes no memory.

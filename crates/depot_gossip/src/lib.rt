@@ -1,16 +1,19 @@
-//! Bundles, and with them all that nodes send one another.
+//! Hellos and bundles: all that nodes send one another.
 //!
-//! A node's hello is that of its journal (`own_hello`); for it the node is read alone, and stays as it is. A bundle is the stream that
-//! a node sends for a hello (`own_bundle`). What is sent is chosen first, candidate by candidate, as long as there is room (`choose`,
-//! `candidate`), and is then a `Sending`, which holds the parcels of the definition; beside it stand the ids that are to be vouched for
-//! before it goes out (`preparing`). The vouchers for these are journaled; and only then is what stands in front, proofs and own
-//! vouchers, made up from the journal (`front`), for the ids of a set (`hashes`), and with it the stream of the bundle
-//! (`bundle_stream`).
+//! A node's hello says what it has; making one changes nothing (`own_hello`). A bundle is the stream that a node sends
+//! in answer (`own_bundle`). It is made in four steps:
 //!
-//! Texts of hellos and frames are those of `depot_frames`, and a stream is taken in pieces by a `Feed` of `depot_feeds`: what one who
-//! sends and takes needs of these crates is passed on here.
+//! - `choose` and `candidate` choose what is sent, one candidate after another, as long as there is room. The result is
+//!   a `Sending`, which holds the definition's parcels.
+//! - `preparing` keeps it with the ids that the node has to vouch for before it sends. To vouch for updates, so that
+//!   they are taken from a convicted writer too, is as in the article by Mahajan et al., "Depot: Cloud Storage with
+//!   Minimal Trust".
+//! - The vouchers are journaled.
+//! - `front` then makes the leading frames, proofs and own vouchers, from the journal, and `bundle_stream` the whole
+//!   stream. `hashes` has the sets of ids that they use.
 //!
-//! All of it goes by the trait `Peer` alone.
+//! The texts of hellos and frames are those of `depot_frames`, and a `Feed` of `depot_feeds` takes a stream in pieces;
+//! what a sender and receiver needs of these crates is reexported here. All of it uses the trait `Peer` alone.
 #![tactic(auto)]
 
 mod bundle_error;

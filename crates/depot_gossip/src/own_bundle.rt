@@ -8,15 +8,17 @@ use crate::preparing::{Prepared, prepare};
 use depot_model::Peer;
 use std::alloc::Global;
 
-/// The bundle that a node sends for the text of a hello: the proofs that the reader lacks, the node's vouchers for the updates of
-/// others that it sends, these updates and its own with the values behind them, the values that the reader wants, and End
-/// (docs/FORMATS.md). The vouchers that it hasn't made yet are journaled before a byte is handed out.
+/// Makes the bundle that a node sends for the text of a hello: the proofs that the reader lacks, the node's vouchers
+/// for the updates of others that it sends, these updates and its own with their values, the values that the reader
+/// wants, and End (docs/FORMATS.md). Missing vouchers are journaled before a byte is handed out.
 ///
-/// The errors come in this order: `Stopped` where the node was stopped; `IllFormed` where the text is no hello's, with the offset of
-/// its first fault; `OtherRoster`; `IllFormed(2)` where the roster lacks the hello's node; `Spent` and `Full` where the vouchers meet
-/// that limit. After these the node is as before. After `Memory` it is as before or has all the vouchers; after `Disk` it is stopped
-/// and has the vouchers before the failing one. A stop at any moment leaves the records from before and a front of the vouchers. On
-/// the node's disk it makes the calls that append the vouchers, and no other; where one of them fails, it is the last.
+/// The errors come in this order: `Stopped` if the node was stopped; `IllFormed` if the text is no hello's, with the
+/// offset of its first fault; `OtherRoster`; `IllFormed(2)` if the roster lacks the hello's node; `Spent` and `Full` if
+/// the vouchers meet that limit. After these the node is unchanged. On `Memory` it is unchanged or has all the
+/// vouchers; after `Disk` it is stopped and has the vouchers before the failing one. Every crash image has the records
+/// from before and a prefix of the vouchers. It makes only the disk calls that append the vouchers; one that fails is
+/// the last.
+/// and no other; where one of them fails, it is the last.
 pub fn bundle<R: Peer>(alloc: Global, node: &mut R, hello: &[u8]) -> Result<Bundled, BundleError>
     ensures bundles { Bundles (R.stands node.old) (R.signature_of node.old) (R.records node.old) (R.stopped node.old) hello.now result (R.records node.new) }
     ensures call { IsBundleCall R.NodeState node.old node.new hello.now result }
@@ -25,8 +27,8 @@ pub fn bundle<R: Peer>(alloc: Global, node: &mut R, hello: &[u8]) -> Result<Bund
     send_prepared(alloc, node, chosen)
 }
 
-/// The bundle of what was prepared, once its vouchers are journaled. The errors are those that a bundle has for its vouchers, and what they leave is
-/// what `bundle` says.
+/// Makes the bundle of what was prepared, once its vouchers are journaled. The errors, and their effects, are those of
+/// `bundle` for its vouchers.
 pub fn send_prepared<R: Peer>(
     alloc: Global,
     node: &mut R,

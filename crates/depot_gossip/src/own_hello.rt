@@ -7,8 +7,8 @@ use depot_frames::encode_hello;
 use depot_model::{Hello, Peer};
 use std::alloc::Global;
 
-/// The node's hello: who it is, whom it convicted, all leaves of what it accepted, and the first 1,024 values that it lacks
-/// (docs/FORMATS.md).
+/// The node's hello: its number, whom it convicted, all leaves of what it accepted, and the first 1,024 values that it
+/// lacks (docs/FORMATS.md).
 pub fn node_hello<R: Peer>(node: &R) -> Result<Hello, Memory>
     requires { R.stopped node.now ≡ false }
     ensures told { IfOk result (λ hello. hello ≡ hello_of (R.stands node.now) (R.records node.now)) }

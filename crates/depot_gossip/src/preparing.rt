@@ -66,8 +66,8 @@ pub fn unvouched_of<R: Peer>(alloc: Global, node: &R, ids: &Ids) -> Result<Ids, 
     Ok(left)
 }
 
-/// What is chosen for the hello of a text, and the ids that are to be vouched for first. The errors are those of a bundle that come
-/// before any voucher is made, in their order.
+/// Chooses what is sent for the hello of a text, and the ids to vouch for first. The errors are those of a bundle that
+/// come before any voucher is made, in their order.
 pub fn prepare<R: Peer>(alloc: Global, node: &R, text: &[u8]) -> Result<Prepared, BundleError>
     ensures prepares { Prepares (R.stands node.now) (R.signature_of node.now) (R.records node.now) (R.stopped node.now) text.now result }
     ensures stable { IsStable (journal_of R.NodeState) node.now }

@@ -1,4 +1,4 @@
--- Words of writes are lawful, and what is read of them are changes that a node may be asked for.
+-- Words of writes are lawful, and they are read as changes that a node may be asked for.
 use Rattle.std.proofs.Common.{◌≡◌, ℕ, ◌<◌, ◌≤◌, ◌⊎◌, Bool, true, false, not, cond, eqb, leb, ltb, ◌&&◌, ◌||◌, List, [], ◌∷◌, ◌++◌, length, Option, Some, None, is_some, Result, Ok, Err, refl, sym, ap, subst, ◌∙◌, arith, inl, inr, length-append}
 use Rattle.std.specs.List.{list_all, AllByRecursion}
 use Rattle.std.specs.Option.{option_to_list}
@@ -60,7 +60,7 @@ pub value_is : (v : List ℕ) → (value {C = Unit {0}}).fits nothing v → IsVa
 value_is [] fits = omega arith
 value_is (b ∷ bs) fits = (within_is 65536 (length (b ∷ bs)) fits.0).1
 
--- ---- bytes that don't stand in their words
+-- ---- bytes that don't occur in their words
 
 differs : (b c : ℕ) → is_lower_digit b ≡ true → is_lower_digit c ≡ false → not (eqb b c) ≡ true
 differs b c lower apart = rw (ne_eqb b c (λ e. no (sym lower ∙ ap is_lower_digit e ∙ apart))) refl where
@@ -128,7 +128,7 @@ behind_lacks : (v : Option (List ℕ)) → FitsOption ((value {C = Unit {0}}).fi
 behind_lacks None fits = refl
 behind_lacks (Some v) fits = value_lacks 44 refl refl v fits
 
--- no comma stands in a change
+-- no comma is in a change
 change_lacks : (by : Keys) (c : Change) → FitsChange by c → lacks 44 (text_of_change c) ≡ true
 change_lacks by c fits = all_append (λ b. not (eqb b 44)) (encode_lower c.key) (text_behind_key c.value) (hex_lacks 44 refl c.key (key_is by c.key fits.0).1) (behind_lacks c.value fits.1)
 

@@ -28,7 +28,7 @@ pub reads_next : (word : List ℕ) (i value : ℕ) → i < length word → value
 unfolding value_behind
 reads_next word i value lt = rw (add-one, drop-cons word i 0) refl
 
--- behind the last digit stands the value
+-- after the last digit comes the value
 pub reads_all : (word : List ℕ) (i value : ℕ) → length word ≤ i → value_behind value (drop i word) ≡ value
 unfolding value_behind
 reads_all word i value le = rw (drop_all i word le) refl

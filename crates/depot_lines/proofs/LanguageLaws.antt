@@ -1,4 +1,4 @@
--- What holds of a kind of word and of a kind of line, and that each way to describe one keeps it.
+-- The laws of a kind of word and of a kind of line; each way to describe one keeps them.
 use Rattle.std.proofs.Common.{◌≡◌, ℕ, suc, ◌≤◌, ◌⊎◌, Bool, true, false, cond, eqb, List, [], ◌∷◌, length, Option, Some, None, Result, Ok, Err, refl, sym, ap, subst, ◌∙◌, arith, inl, inr}
 use Rattle.std.specs.List.{list_all}
 use Rattle.std.specs.Str.{bytes_eq}
@@ -209,7 +209,7 @@ counted_lawful low high f l = record {
 
 -- ---- lines whose values are what their parts make
 
--- a word is a part of what is made of it, and of the words behind it
+-- a word is a part of what is made of it, and of the words after it
 pub word_line : {C A E : Type 0} (first : Word C A) (part : E → A) (more : A → Words C E) (remade : A → E → E) (low high : ℕ) → LawfulWord first → ((a : A) (e : E) → part (remade a e) ≡ a) → ((a : A) → LawfulLine (more a) low high (remade a))
     → LawfulLine (word first part more) (suc low) (suc high) (λ e. remade (part e) e)
 word_line first part more remade low high fl is_part rest = record {

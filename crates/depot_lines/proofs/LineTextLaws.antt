@@ -1,4 +1,4 @@
--- Lines are read back from a text of lines, and what an answer that is the reading of a text says of that text.
+-- Lines are read back from a text of lines; and what an answer that reads a text says of that text.
 use Rattle.std.proofs.Common.{◌≡◌, ℕ, ◌<◌, ◌≤◌, Bool, true, false, not, cond, ltb, eqb, ◌||◌, List, [], ◌∷◌, ◌++◌, length, map, Some, Result, Ok, Err, refl, sym, ap, subst, ◌∙◌, arith, inl, inr, append_assoc, ◌⊎◌}
 use Rattle.std.specs.List.{list_all, flat_map, find}
 use Rattle.std.proofs.lemmas.Bool.{ltb-false, le-ltb, and_parts, or_parts, not-false, not-true}

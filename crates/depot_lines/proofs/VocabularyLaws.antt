@@ -1,4 +1,4 @@
--- The words for which nothing matters that stands before them are lawful.
+-- The words that don't depend on what precedes them are lawful.
 use Rattle.std.proofs.Common.{◌≡◌, ℕ, ◌^◌, ◌<◌, ◌≤◌, Bool, true, not, ltb, leb, eqb, ◌&&◌, List, [], ◌∷◌, length, map, Some, None, Result, Ok, Err, codes, refl, sym, ap, subst, ◌∙◌, arith, inl, inr}
 use Rattle.std.specs.List.{list_all}
 use Rattle.std.specs.Fmt.{decimal}

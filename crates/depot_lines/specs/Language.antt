@@ -1,8 +1,9 @@
 -- A language for lines of words: which values have a line, which words that line has, and what is wrong with other words.
 --
--- Each kind of line is described once, by its words from left to right. The ways to describe one are below; that its words are
--- read back, and that any other words are refused with their first fault, is proved once for each way. What may stand in a line
--- can depend on what stands before it: the context C, which is the schedule so far for a line of a schedule.
+-- Each kind of line is described once, by its words from left to right. The ways to describe one are below. For each
+-- way it is proved once that a line's words are read back, and that all other words are refused with their first fault.
+-- What may occur in a line can depend on what precedes it: the context C. For a line of a schedule this is the schedule
+-- so far.
 use Rattle.std.specs.Prelude.{◌≡◌, ℕ, ◌<◌, Bool, true, List, [], ◌∷◌, length, map, Option, Some, None, Result, Ok, Err, nat_le, ◌==◌, if◌then◌else◌}
 use Rattle.std.specs.List.{slice_split, join_with_byte}
 use Rattle.std.specs.Str.{bytes_eq}
@@ -36,7 +37,7 @@ pub record Word (C A : Type 0) : Type 1 where
   -- the value of a word, or what is first wrong with it
   pub read : C → List ℕ → Result A LineFault
 
--- the context of a word for which nothing matters that stands before it
+-- the context of a word for which nothing matters that precedes it
 abbrev pub nothing : Unit {0}
 nothing = tt
 
@@ -102,7 +103,7 @@ rank_of is.Label = 8
 abbrev pub earlier : LineFault → LineFault → LineFault
 earlier f g = if nat_le (rank_of f) (rank_of g) then f else g
 
--- a part and those behind it; of two faults the one that is looked for first
+-- a part and those after it; of two faults the one that is looked for first
 abbrev pub with_parts : {A : Type 0} → Result A LineFault → Result (List A) LineFault → Result (List A) LineFault
 with_parts (Ok a) (Ok rest) = Ok (a ∷ rest)
 with_parts (Ok a) (Err g) = Err g
@@ -135,12 +136,12 @@ pub record Words (C E : Type 0) : Type 1 where
   -- the value of some words, or what is first wrong with them
   pub read : C → List (List ℕ) → Result E LineFault
 
--- the value of the next word, and the words behind it
+-- the value of the next word, and the words after it
 abbrev pub next : {A : Type 0} → (List ℕ → Result A LineFault) → List (List ℕ) → Result (A × List (List ℕ)) LineFault
 next read [] = Err is.Fields
 next read (word ∷ words) = read word >>= λ a. Ok (a, words)
 
--- a word, whose value is a part of that of the line, and then the words that it calls for
+-- a word whose value is a part of the line's value, then the words that this calls for
 abbrev pub word : {C A E : Type 0} → Word C A → (E → A) → (A → Words C E) → Words C E
 word first part more = record {
   fits = λ c e. first.fits c (part e) × (more (part e)).fits c e;
@@ -165,7 +166,7 @@ abbrev pub last : {A : Type 0} → (List ℕ → Result A LineFault) → List (L
 last read [] = Ok None
 last read (word ∷ words) = read word >>= λ a. if length words == 0 then Ok (Some a) else Err is.Fields
 
--- the end of a line at which one word more may stand
+-- the end of a line, at which one more word may come
 abbrev pub optional : {C A E : Type 0} → Word C A → (E → Option A) → (Option A → E) → Words C E
 optional first part make = record {
   fits = λ c e. FitsOption (first.fits c) (part e) × (e ≡ make (part e));
@@ -173,7 +174,7 @@ optional first part make = record {
   read = λ c words. last (first.read c) words >>= λ a. Ok (make a);
 }
 
--- a line of low to high words: how many they are is looked at before any word is
+-- a line of low to high words: their number is checked before any word is
 abbrev pub counted_words : {C E : Type 0} → ℕ → ℕ → Words C E → Words C E
 counted_words low high line = record {
   fits = line.fits;

@@ -1,4 +1,4 @@
--- What the readers of words, of lines and of texts of lines answer, and what the writers of words write.
+-- What the readers of words, lines and texts answer, and what the writers of words write.
 use Rattle.std.specs.Prelude.{◌≡◌, ℕ, List, [], ◌∷◌, ◌++◌, Option, Some, None, Result, Ok, Err, length, Bool, true, false, ◌≤◌, ◌<◌, ◌⊎◌}
 use Rattle.std.specs.List.{flat_map}
 use Rattle.std.specs.Borrow.{Bor}
@@ -56,7 +56,7 @@ abbrev pub first_fault : Option LineFault → LineFault → Option LineFault
 first_fault None g = Some g
 first_fault (Some f) g = Some (earlier f g)
 
--- what the parts so far, and those behind them, come to
+-- the result of the parts so far and those after them
 abbrev pub gathered : {A : Type 0} → Option LineFault → List A → Result (List A) LineFault → Result (List A) LineFault
 gathered None front (Ok rest) = Ok (front ++ rest)
 gathered None front (Err g) = Err g
@@ -89,7 +89,8 @@ InLine n (Err (In f)) result = result ≡ Err (error.Line n f)
 
 -- ---- whole texts
 
--- What parsing a text, or a line of one, answers: this reading, or the first faulty line and its first fault, unless memory ran out.
+-- What parsing a text, or a line of one, answers: this reading, or the first faulty line and its first fault, unless
+-- memory ran out.
 abbrev pub Parses : {A : Type 0} → Result A TextError → Result A (ℕ × LineFault) → Type 0
 Parses (Ok a) reading = reading ≡ Ok a
 Parses (Err error.Memory) reading = Unit {0}
@@ -97,6 +98,6 @@ Parses (Err (error.Line n f)) reading = reading ≡ Err (n, f)
 
 -- ---- writing
 
--- words, each behind a space (32)
+-- words, each preceded by a space (32)
 abbrev pub behind_spaces : List (List ℕ) → List ℕ
 behind_spaces words = flat_map (λ word. 32 ∷ word) words

@@ -19,7 +19,7 @@ pub record Line : Type 0 where
   pub text : List ℕ
   pub ended : Bool
 
--- what stands behind the last LF, as a line without one; nothing is no line
+-- what follows the last LF, as a line without one; nothing is no line
 abbrev pub last_line : List ℕ → List Line
 last_line [] = []
 last_line (b ∷ bs) = record { text = b ∷ bs; ended = false } ∷ []
@@ -34,7 +34,7 @@ lines_of_parts (part ∷ next ∷ parts) = record { text = part; ended = true } 
 abbrev pub lines_of_text : List ℕ → List Line
 lines_of_text text = lines_of_parts (split 10 text)
 
--- the first word of a line: what stands before its first space
+-- the first word of a line: what precedes its first space
 abbrev pub first_word : List (List ℕ) → List ℕ
 first_word [] = []
 first_word (word ∷ words) = word
@@ -43,7 +43,7 @@ abbrev pub is_empty_word : List ℕ → Bool
 is_empty_word [] = true
 is_empty_word (b ∷ bs) = false
 
--- whether one space stands between each two words, and none first or last
+-- whether one space is between each two words, and none first or last
 abbrev pub are_words : List (List ℕ) → Bool
 are_words words = list_all (λ word. not (is_empty_word word)) words
 
@@ -54,7 +54,7 @@ abbrev pub in_line : {A : Type 0} → ℕ → Result A LineFault → Result A (�
 in_line n (Ok a) = Ok a
 in_line n (Err f) = Err (n, f)
 
--- the line of this number: that it ends, and isn't one too many, is looked at before its words are
+-- the line of this number: that it ends, and isn't one too many, is checked before its words are
 abbrev pub checked : {A : Type 0} → ℕ → Line → (List (List ℕ) → Result A LineFault) → Result A (ℕ × LineFault)
 checked n line read =
     if not line.ended then Err (n, is.End) else

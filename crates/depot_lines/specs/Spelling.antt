@@ -26,7 +26,7 @@ is_within low high n = nat_le low n && nat_le n high
 abbrev pub is_digit : ℕ → Bool
 is_digit b = is_within 48 57 b
 
--- the number that decimal digits stand for, where those before them stand for n
+-- the number that decimal digits denote, where those before them denote n
 unfoldable pub value_behind : ℕ → List ℕ → ℕ
 value_behind n [] = n
 value_behind n (b ∷ bs) = value_behind (n * 10 + (b - 48)) bs

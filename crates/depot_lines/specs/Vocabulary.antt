@@ -1,4 +1,4 @@
--- The kinds of words for which nothing matters that stands before them.
+-- The kinds of words for which nothing matters that precedes them.
 use Rattle.std.specs.Prelude.{◌≡◌, ℕ, ◌≤◌, Bool, true, not, ◌&&◌, ◌||◌, List, [], ◌∷◌, ◌++◌, length, Option, Some, None, is_some, Result, Ok, Err, nat_le, codes, if◌then◌else◌}
 use Rattle.std.specs.Fmt.{decimal}
 use Rattle.std.specs.Str.{bytes_eq}
@@ -108,7 +108,7 @@ kind = record {
 
 -- ---- writes
 
--- the keys that may stand here
+-- the keys that may occur here
 abbrev pub key_by : {C : Type 0} → Keys → Word C (List ℕ)
 key_by keys.Any = key
 key_by keys.Put = put_key
@@ -116,7 +116,7 @@ key_by keys.Put = put_key
 abbrev pub FitsChange : Keys → Change → Type 0
 FitsChange by c = (key_by {C = Unit {0}} by).fits nothing c.key × FitsOption ((value {C = Unit {0}}).fits nothing) c.value
 
--- what stands behind a key: `=` (61) and the value, or `!` (33) where it is deleted
+-- what follows a key: `=` (61) and the value, or `!` (33) where it is deleted
 abbrev pub text_behind_key : Option (List ℕ) → List ℕ
 text_behind_key None = 33 ∷ []
 text_behind_key (Some v) = 61 ∷ (value {C = Unit {0}}).text v
@@ -128,7 +128,7 @@ text_of_change c = encode_lower c.key ++ text_behind_key c.value
 abbrev pub put_of : Keys → List ℕ → List ℕ → Result Change LineFault
 put_of by key_word value_word = (key_by by).read nothing key_word >>= λ k. value.read nothing value_word >>= λ v. Ok (record { key = k; value = Some v })
 
--- the deletion that the parts round an exclamation mark are: nothing stands behind it
+-- the deletion that the parts round an exclamation mark are: nothing follows it
 abbrev pub deletion_of : Keys → List (List ℕ) → Result Change LineFault
 deletion_of by [] = Err is.Hex
 deletion_of by (key_word ∷ []) = Err is.Hex

@@ -30,7 +30,7 @@ fn behind_equals(alloc: Global, out: &mut Bytes, value: &Value) -> Result<(), Me
     }
 }
 
-/// What stands behind the key of a change.
+/// What follows the key of a change.
 fn behind_key(alloc: Global, out: &mut Bytes, value: &Option<Value>) -> Result<(), Memory>
     ensures { OnOk result (out.new ≡ out.old ++ text_behind_key value.now) }
 {
@@ -49,7 +49,7 @@ fn bare_change(alloc: Global, out: &mut Bytes, change: &Change) -> Result<(), Me
     behind_key(alloc, out, &change.value)
 }
 
-/// A change behind a space.
+/// A change after a space.
 #[tactic(auto, using(depot_base::proofs::Writing::texts))]
 fn first_change(alloc: Global, out: &mut Bytes, change: &Change) -> Result<(), Memory>
     ensures { OnOk result (out.new ≡ out.old ++ (32 ∷ text_of_change change.now)) }
@@ -58,7 +58,7 @@ fn first_change(alloc: Global, out: &mut Bytes, change: &Change) -> Result<(), M
     bare_change(alloc, out, change)
 }
 
-/// Changes, each behind a comma.
+/// Changes, each preceded by a comma.
 #[tactic(auto, using(depot_base::proofs::Writing::texts))]
 fn behind_commas(alloc: Global, out: &mut Bytes, changes: &[Change]) -> Result<(), Memory>
     ensures { OnOk result (out.new ≡ out.old ++ flat_map (λ c. 44 ∷ text_of_change c) changes.now) }

@@ -11,7 +11,7 @@ use depot_base::limits::MOST_WRITES;
 use depot_base::{Change, Changes, Key, Sequence};
 use std::alloc::Global;
 
-/// Which keys may stand in a word.
+/// Which keys may occur in a word.
 #[derive(Clone, Copy, Debug, PartialEq, Eq)]
 pub enum Keys {
     /// Each key.
@@ -20,7 +20,7 @@ pub enum Keys {
     Put,
 }
 
-/// The key that a word is, of those that may stand.
+/// The key that a word is, of those allowed.
 fn key_by(alloc: Global, word: &[u8], keys: Keys) -> Result<Key, LineError>
     ensures { AnswersReading result ((key_by keys).read nothing word.now) }
 {
@@ -30,7 +30,7 @@ fn key_by(alloc: Global, word: &[u8], keys: Keys) -> Result<Key, LineError>
     }
 }
 
-/// The change that gives a key a value, of the words round an equals sign.
+/// The change that gives a key a value, from the words round an equals sign.
 fn put_of(
     alloc: Global,
     key_word: &[u8],
@@ -85,7 +85,7 @@ fn change_of(alloc: Global, word: &[u8], keys: Keys) -> Result<Change, LineError
     }
 }
 
-/// The changes between the commas of a word. Each of their faults is the same, so the first decides.
+/// The changes between the commas of a word. All their faults are the same, so the first decides.
 fn all_changes(alloc: Global, word: &[u8], keys: Keys) -> Result<Changes, LineError>
     ensures { AnswersReading result (read_parts ((change keys).read nothing) (split 44 word.now)) }
 {

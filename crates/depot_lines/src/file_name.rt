@@ -14,7 +14,7 @@ use depot_base::Memory;
 use std::alloc::Global;
 use std::marker::Model;
 
-/// The name of a file: 1 to 4,096 bytes of UTF-8 without space or LF. It is seen as its bytes.
+/// The name of a file: 1 to 4,096 bytes of UTF-8 without space or LF. Contracts see it as its bytes.
 #[derive(Debug, Drop)]
 pub struct FileName(String);
 
@@ -29,7 +29,7 @@ impl Model for FileName {
     ghost invariant = { λ f. IsTrue (is_file_name (string_bytes f.0)) };
 }
 
-/// The text of these bytes. None exactly where they aren't UTF-8.
+/// The text of these bytes. `None` exactly when they aren't UTF-8.
 #[tactic(auto, using(crate::proofs::FileNameLaws::is_text, crate::proofs::FileNameLaws::is_no_text))]
 fn text_of(bytes: &[u8]) -> Option<&str>
     ensures { MatchOption result (is_utf8 bytes.now ≡ false) (λ text. (is_utf8 bytes.now ≡ true) × (text.now ≡ bytes.now)) }
@@ -41,7 +41,7 @@ fn text_of(bytes: &[u8]) -> Option<&str>
 }
 
 impl FileName {
-    /// The name of these bytes, copied. None exactly where they are no name.
+    /// The name of these bytes, copied. `None` exactly when they are no name.
     pub fn new(alloc: Global, bytes: &[u8]) -> Result<Option<FileName>, Memory>
         ensures { IfOk result (λ name. name ≡ when (is_file_name bytes.now) bytes.now) }
     {

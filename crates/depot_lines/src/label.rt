@@ -7,7 +7,7 @@ ghost use Rattle.depot_lines.specs.Spelling.{is_letter, is_label_byte, is_label}
 use depot_base::Bytes;
 use std::marker::Model;
 
-/// A label: 1 to 32 lower-case letters and digits, the first a letter. It is seen as its bytes.
+/// A label: 1 to 32 lower-case letters and digits, the first a letter. Contracts see it as its bytes.
 #[derive(Debug, Drop)]
 pub struct Label(Bytes);
 
@@ -23,7 +23,7 @@ impl Model for Label {
 }
 
 impl Label {
-    /// The label of these bytes. None exactly where they aren't in a label's form. It takes no memory.
+    /// Makes a label of these bytes, `None` exactly when they aren't in a label's form. It takes no memory.
     pub fn new(bytes: Bytes) -> Option<Label>
         ensures { SomeIff result (IsTrue (is_label bytes)) bytes }
     {

@@ -1,20 +1,22 @@
-//! Texts of lines: their lines, the words of a line, and how single words are spelled (docs/FORMATS.md, "Schedules", "Scripts").
-//! Schedules, scripts, answers and commands are made of these.
+//! Texts of lines: their lines, the words of a line, and how single words are spelled (docs/FORMATS.md, "Schedules",
+//! "Scripts"). Schedules, scripts, answers and commands are made of these.
 //!
-//! Contracts see a text as its bytes, `Parts` as the list of what is left between separators, a `Label` and a `FileName` as their bytes,
-//! and a number as that number.
+//! Contracts see a text as its bytes, `Parts` as the list of the parts that are left, a `Label` and a `FileName` as
+//! their bytes, and a number as that number.
 //!
-//! Each value that fits a kind of word or of line has one word or line, and is read back from it. Any other words are refused with their
-//! first fault (`LineFault`), in the order of its variants, and a text with the number of its first faulty line (`TextError`).
+//! - Each value that fits a kind of word or line has one word or line, and is read back from it.
+//! - Any other words are refused with their first fault (`LineFault`), in the order of its variants, and a text with
+//!   the number of its first faulty line (`TextError`).
 //!
-//! `specs/Language.antt` has the language in which each kind of word and of line is described once; `Spelling` and `Vocabulary` have the
-//! words for which nothing matters that stands before them, `FileNames` the names of files, `LineTexts` the lines of a text, and
-//! `LineReading` what readers answer. `proofs/` has what holds of every kind of word and of line that is described so.
+//! `specs/Language.antt` has the language that describes each kind of word and line once, `proofs/` the laws of
+//! whatever it describes. `Spelling` and `Vocabulary` have the words that don't depend on what precedes them,
+//! `FileNames` the names of files, `LineTexts` the lines of a text, and `LineReading` what readers answer.
 //!
-//! `Parts` takes words and lines from a text, `line` has what is asked of each line; `spelling` has tests and values of single words,
-//! `word_readers`, `changes` and `file_name` read the next word of a line, `word_writers` and `change_writers` write one.
+//! `Parts` takes words and lines from a text, `line` checks a line as a whole; `spelling` tests and converts single
+//! words; `word_readers`, `changes` and `file_name` read the next word of a line; `word_writers` and `change_writers`
+//! write one.
 //!
-//! Nothing here knows an event, a command or an answer: a word that only one of these texts has stands with it.
+//! Nothing here knows an event, a command or an answer: a word that only one of these texts has is defined with it.
 #![tactic(auto)]
 
 mod change_writers;

@@ -59,7 +59,7 @@ pub fn is_empty_word(word: &[u8]) -> bool
     }
 }
 
-/// Whether one space stands between each two words of a line, and none first or last.
+/// Whether single spaces separate the words of a line, with none first or last.
 pub fn are_words(line: &[u8]) -> bool
     ensures { result ≡ are_words (split 32 line.now) }
 {
@@ -72,7 +72,7 @@ pub fn are_words(line: &[u8]) -> bool
     true
 }
 
-/// What stands before the first space of a line.
+/// What precedes the first space of a line.
 pub fn first_word(line: &[u8]) -> &[u8]
     ensures { result.now ≡ first_word (split 32 line.now) }
 {

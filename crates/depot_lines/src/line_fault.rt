@@ -7,16 +7,16 @@ ghost use Rattle.depot_lines.specs.declared.line_fault.TextError.TheVariants as 
 use depot_base::Memory;
 use std::alloc::{AllocError, AllocFailed};
 
-/// What is wrong with a line, in the order in which it is looked for.
+/// What is wrong with a line, in the order of the checks.
 #[derive(Clone, Copy, Debug, PartialEq, Eq)]
 pub enum LineFault {
     /// It is the last line and has no LF.
     End,
     /// Its number is over 100,000.
     Long,
-    /// A line of the header isn't in its form or place, declares a node twice or one too many, or is absent.
+    /// A line of the header isn't in its form or place, declares a node twice or one too many, or is missing.
     Header,
-    /// It isn't words apart by one space, or its first word names no event or command.
+    /// Its words aren't separated by single spaces, or its first word names no event or command.
     Word,
     /// It has too few or too many words.
     Fields,
@@ -27,8 +27,9 @@ pub enum LineFault {
     Hex,
     /// A number is that of no declared node of the kind that the event needs.
     Node,
-    /// A label isn't in its form, is made twice, isn't made before or isn't of the kind needed; a name is no kind of contradiction of two
-    /// statements; an image isn't 0, 1 or 2; or there are too many references. In a script the name of a file isn't in its form.
+    /// A label isn't in its form, is made twice, isn't made before or is of the wrong kind; a name is no kind of
+    /// contradiction of two statements; an image isn't 0, 1 or 2; or there are too many references. In a script: the
+    /// name of a file isn't in its form.
     Label,
 }
 
@@ -93,7 +94,7 @@ impl<T: Drop> From<AllocFailed<T>> for LineError {
     }
 }
 
-/// What a reader of a text of lines answers for one that it gives no value for.
+/// What a reader of a text of lines answers if it returns no value.
 #[derive(Clone, Copy, Debug, PartialEq, Eq)]
 pub enum TextError {
     /// No memory was found.

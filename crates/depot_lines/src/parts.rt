@@ -8,7 +8,7 @@ ghost use Rattle.depot_lines.specs.LineReading.{parts_left, TakesNextPart, Takes
 use crate::line_fault::{LineError, LineFault};
 use std::marker::Model;
 
-/// The parts of a text that are left, as the words of a line. No call takes memory.
+/// The remaining parts of a text, as the words of a line. No call takes memory.
 #[derive(Debug, Drop)]
 pub struct Parts<'a> {
     rest: Option<&'a [u8]>,
@@ -39,7 +39,7 @@ fn count_of(text: &[u8], byte: u8) -> usize
     text.iter().filter(|b| **b == byte).count()
 }
 
-/// The first part of a text, and what is behind its separator.
+/// The first part of a text, and what follows its separator.
 fn cut(text: &[u8], separator: u8) -> (&[u8], Option<&[u8]>)
     ensures { split separator text.now ≡ result.0.now ∷ parts_left separator result.1 }
 {
@@ -71,7 +71,7 @@ impl<'a> Parts<'a> {
         }
     }
 
-    /// Takes the next part, lent from the text. None exactly where none is left.
+    /// Takes the next part, borrowed from the text. `None` exactly when none is left.
     pub fn next(&mut self) -> Option<&'a [u8]>
         ensures { TakesNextPart self.old (option_copied result) self.new }
     {
@@ -83,7 +83,7 @@ impl<'a> Parts<'a> {
         Some(part)
     }
 
-    /// Whether no part is left. A text that is left has a part, be it empty, so none is counted.
+    /// Whether no part is left. A remaining text has a part, which may be empty, so nothing has to be counted.
     #[tactic(auto, using(crate::proofs::PartSteps::some_left))]
     pub fn is_done(&self) -> bool
         ensures { result ≡ (length self.now == 0) }
@@ -104,7 +104,7 @@ impl<'a> Parts<'a> {
         }
     }
 
-    /// Takes the next word of a line, or says that the line has too few.
+    /// Takes the next word of a line. Fails if the line has too few.
     pub fn word(&mut self) -> Result<&'a [u8], LineError>
         ensures { TakesWord self.old result self.new }
     {

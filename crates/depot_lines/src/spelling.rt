@@ -1,5 +1,5 @@
-//! How single words are spelled: numbers in decimal, bytes in hexadecimal, names of files, the names of kinds of contradictions, and
-//! the keys that receipts and checkpoints alone write.
+//! How single words are spelled: decimal numbers, hexadecimal bytes, names of files, the names of kinds of
+//! contradictions, and the keys reserved for receipts and checkpoints.
 ghost use Rattle.std.specs.Prelude.{◌≡◌, ◌≤◌, length, is_some, IsTrue, IfSome, IfOk};
 ghost use Rattle.std.specs.List.{list_all};
 ghost use Rattle.std.specs.Str.{bytes_eq};
@@ -58,7 +58,7 @@ fn is_number(bytes: &[u8]) -> bool
     has_length(bytes, 1, 19) && are_digits(bytes) && has_no_leading_zero(bytes)
 }
 
-/// The number that at most 19 decimal digits stand for.
+/// The number that at most 19 decimal digits denote.
 fn value_of(digits: &[u8]) -> u64
     requires { IsTrue (is_number digits.now) }
     ensures { result ≡ value_behind 0 digits.now }
@@ -70,8 +70,8 @@ fn value_of(digits: &[u8]) -> u64
     value
 }
 
-/// The number from low to high, of at most 19 digits, that a word is in decimal without leading zeros. None exactly where it
-/// is none.
+/// The number from low to high, of at most 19 digits, that a word is in decimal without leading zeros; `None` exactly
+/// when it is no such number.
 pub fn number_word(word: &[u8], low: u64, high: u64) -> Option<u64>
     ensures value { result ≡ number_word low high word.now }
     ensures range { IfSome result (λ n. (low ≤ n) × (n ≤ high)) }
@@ -101,7 +101,7 @@ fn are_lower_digits(bytes: &[u8]) -> bool
     bytes.iter().all(|b| is_lower_digit(*b))
 }
 
-/// The bytes that a word is in lower-case hexadecimal, two digits a byte. None exactly where it isn't of this form.
+/// The bytes that a word is in lower-case hexadecimal, two digits a byte. `None` exactly when it isn't of this form.
 pub fn hex_word(alloc: Global, word: &[u8]) -> Result<Option<Bytes>, Memory>
     ensures { IfOk result (λ bytes. bytes ≡ hex_word word.now) }
 {

@@ -86,7 +86,7 @@ pub(crate) fn key_of(alloc: Global, word: &[u8]) -> Result<Key, LineError>
     Ok(Key::from_bytes(bytes))
 }
 
-/// The key that a word is, of those that a node may be asked to write: none is that of a receipt or of a checkpoint.
+/// The key that a word is, if a node may be asked to write it: none of a receipt or a checkpoint.
 pub(crate) fn put_key_of(alloc: Global, word: &[u8]) -> Result<Key, LineError>
     ensures { AnswersReading result (put_key.read nothing word.now) }
 {

@@ -1,4 +1,4 @@
--- Labels of a load: each is made once, since they rise in a rank.
+-- Labels of a load: each is made once, since their ranks rise.
 use Rattle.std.proofs.Common.{◌≡◌, ℕ, ◌+◌, ◌*◌, ◌^◌, ◌<◌, ◌≤◌, true, false, cond, eqb, List, [], ◌∷◌, ◌++◌, Option, Some, None, refl, ap, ◌∙◌, arith}
 use Rattle.std.specs.Fmt.{decimal}
 use Rattle.std.specs.Str.{bytes_eq}
@@ -78,6 +78,6 @@ made-now es e label made is bytes =
     let named : if_named label (label_made e) ≡ Some made = rw (is, same) refl in
     rw (named_by-push es e label, named) bytes
 
--- and still behind an event that makes no label
+-- and still after an event that makes no label
 pub made-before : (es : List Event) (e : Event) (label : List ℕ) → label_made e ≡ None → NamesBytes es label → NamesBytes (es ++ e ∷ []) label
 made-before es e label none names = rw (named_by-push es e label, none) names

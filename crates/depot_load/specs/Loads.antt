@@ -1,7 +1,8 @@
 -- Loads: the schedule that a number makes.
 --
--- Numbers are drawn one after the other from a state that the number starts. As they fall, five correct nodes write, read, exchange bundles of which some are lost, start
--- again, and take the updates of a faulty node, for 2,000 rounds. Then each takes a bundle of each other, twice over, reads every key, and says hello.
+-- Numbers are drawn one after the other from a state that the load's number starts. By these, five correct nodes write,
+-- read, exchange bundles of which some are lost, start again, and take the updates of a faulty node, for 2,000 rounds.
+-- Then each takes a bundle of each other, twice over, reads every key, and says hello.
 use Rattle.std.specs.Prelude.{ℕ, zero, suc, ◌+◌, ◌*◌, ◌/◌, ◌%◌, ◌^◌, Bool, true, false, List, [], ◌∷◌, ◌++◌, Some, None, nat_le, nat_lt, ◌==◌, if◌then◌else◌}
 use Rattle.std.specs.Fmt.{decimal}
 use Rattle.std.specs.Int.{w16, w32}
@@ -15,11 +16,11 @@ use Rattle.depot_load.specs.declared.load_draft.LoadDraft.{LoadDraft}
 
 -- ---- drawing numbers
 
--- the state behind a state
+-- the state after a state
 unfoldable pub state_behind : ℕ → ℕ
 state_behind x = (x * 6364136223846793005 + 1442695040888963407) % 2 ^ 64
 
--- the number below m that is drawn where this is the state behind the draw
+-- the number below m that is drawn, given the state after the draw
 unfoldable pub number_at : ℕ → ℕ → ℕ
 number_at m x = (x / 2 ^ 33) % m
 

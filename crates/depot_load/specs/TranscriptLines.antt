@@ -1,4 +1,5 @@
--- What the lines of a transcript say of a load. Each text is read so: a line that is in none of these forms says nothing.
+-- What the lines of a transcript say of a load. Every text is read in this way: a line in none of these forms says
+-- nothing.
 use Rattle.std.specs.Prelude.{ℕ, Bool, false, ◌&&◌, List, [], ◌∷◌, map, Option, None, is_some, option_map, option_and_then, unwrap_or, codes, if◌then◌else◌}
 use Rattle.std.specs.Str.{bytes_eq}
 use Rattle.depot_lines.specs.Language.{split}
@@ -20,7 +21,7 @@ are_two parts = false
 abbrev pub is_pair : List ℕ → Bool
 is_pair word = are_two (split 47 word)
 
--- the number behind this name, where the words begin with both, and the words behind it
+-- the number after this name, if the words begin with both, and the remaining words
 abbrev pub named_number : List ℕ → List (List ℕ) → Option (ℕ × List (List ℕ))
 named_number name [] = None
 named_number name (word ∷ []) = None
@@ -45,7 +46,7 @@ hello_in answer = option_map (λ (c : ℕ × List (List ℕ)). Hello c.0) (named
 
 -- ---- lines
 
--- by the name of the event, the second of its words behind that, and the words of its answer
+-- by the name of the event, the second of its words after that, and the words of its answer
 abbrev pub line_of_event : List ℕ → List ℕ → List (List ℕ) → TranscriptLine
 line_of_event name word answer =
     if bytes_eq name (codes "put") then line_of_put answer else
@@ -61,6 +62,6 @@ line_of_words (name ∷ node ∷ []) = Other
 line_of_words (name ∷ node ∷ word ∷ []) = Other
 line_of_words (name ∷ node ∷ word ∷ arrow ∷ answer) = if bytes_eq arrow (codes "->") then line_of_event name word answer else Other
 
--- line by line: lines stand between LFs (10), words between spaces (32)
+-- line by line: lines are between LFs (10), words between spaces (32)
 unfoldable pub lines_of_transcript : List ℕ → List TranscriptLine
 lines_of_transcript transcript = map (λ line. line_of_words (split 32 line)) (split 10 transcript)

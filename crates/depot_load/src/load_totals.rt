@@ -14,7 +14,7 @@ pub fn puts(lines: &[TranscriptLine]) -> usize
     lines.iter().filter(|line| line.is_put()).count()
 }
 
-/// The sum of a number over all reports. It has room: each is below 2^64, and so is how many there are.
+/// The sum of a number over all reports. It can't overflow: each is below 2^64, and so is their count.
 pub fn total(lines: &[TranscriptLine], which: Count) -> u128
     ensures { result ≡ total which lines.now }
 {
@@ -37,7 +37,7 @@ fn all_convicted(alloc: Global, lines: &[TranscriptLine]) -> Result<Vec<u64>, Me
     )
 }
 
-/// The sum of some numbers. It has room: each is below 2^64, and so is how many there are.
+/// The sum of some numbers. It can't overflow: each is below 2^64, and so is their count.
 #[tactic(auto, using(crate::proofs::Sums::sum_more))]
 fn sum_of(numbers: &[u64]) -> u128
     ensures { result ≡ sum numbers.now }

@@ -62,9 +62,10 @@ fn summary_line(alloc: Global, number: u32, lines: &[TranscriptLine]) -> Result<
     Ok(line)
 }
 
-/// The line that sums up a transcript of the load of this number (docs/FORMATS.md): how many puts were done, how many frames were new, known and refused in all
-/// reports, how many nodes the last five hellos name as convicted, and whether for each key its last five reads show the same. Lines of any other text that aren't
-/// a transcript's count nothing. The sums have room for whatever a text says.
+/// Sums up a transcript of the load of this number in one line (docs/FORMATS.md): how many puts were done, how many
+/// frames were new, known and refused in all reports, how many nodes the last five hellos name as convicted, and
+/// whether for each key its last five reads show the same. In any other text, lines that aren't a transcript's count
+/// nothing. The sums don't overflow, whatever a text says.
 #[tactic(auto, unfolding(crate::specs::Summaries::summary_of))]
 pub fn summary(alloc: Global, number: u32, transcript: &[u8]) -> Result<Bytes, Memory>
     ensures { IfOk result (λ line. line ≡ summary_of number transcript.now) }

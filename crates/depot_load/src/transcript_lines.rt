@@ -23,7 +23,7 @@ pub enum TranscriptLine {
     Read {
         /// The key, as it was written.
         key: Bytes,
-        /// What stands behind the arrow.
+        /// What follows the arrow.
         writes: Bytes,
     },
     /// A stream was taken.
@@ -122,7 +122,7 @@ fn is_pair(word: &[u8]) -> bool
     parts.is_done() && number_word(seq, 0, MOST).is_some() && number_word(clock, 0, MOST).is_some()
 }
 
-/// Takes a name and the number behind it.
+/// Takes a name and the number after it.
 fn named_number(words: &mut Parts<'_>, name: &str) -> Option<u64>
     ensures { MatchOption result (named_number name.now words.old ≡ None) (λ n. named_number name.now words.old ≡ Some (n, words.new)) }
 {
@@ -174,7 +174,7 @@ fn hello_in(answer: &mut Parts<'_>) -> Option<TranscriptLine>
     Some(TranscriptLine::Hello { convicted })
 }
 
-/// The words that are left, each behind a space.
+/// The words that are left, each preceded by a space.
 #[tactic(auto, using(depot_base::proofs::Writing::texts))]
 fn behind_spaces(alloc: Global, words: &mut Parts<'_>) -> Result<Bytes, Memory>
     ensures { IfOk result (λ text. text ≡ behind_spaces words.old) }
@@ -186,7 +186,7 @@ fn behind_spaces(alloc: Global, words: &mut Parts<'_>) -> Result<Bytes, Memory>
     Ok(text)
 }
 
-/// What a line says, by the name of its event, the second word behind that, and its answer.
+/// What a line says, by the name of its event, the second word after that, and its answer.
 fn line_of_event(
     alloc: Global,
     name: &[u8],

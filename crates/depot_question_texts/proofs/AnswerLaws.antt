@@ -189,7 +189,7 @@ update_page_lawful =
     field_lawful _ _ _ 1 0 flag_text_lawful (λ a v f h. ap (λ (x : UpdatePage). x.more) h) λ more_at _.
     made_lawful _
 
--- ---- an answer of a kind is made of its part, which tells the kind
+-- ---- an answer of a kind is made of its part, which determines the kind
 
 is_status : (a : QuestionAnswer) (status : NodeStatus) → status_in a ≡ Some status → a ≡ answer.Status status
 is_status (answer.Status y) status e = let p : y ≡ status = cc in ap (λ (z : NodeStatus). answer.Status z) p

@@ -65,7 +65,7 @@ is_updates : (q : Question) (from : ℕ) → as_updates q ≡ Some from → q �
 is_updates (question.Updates n) from e = let p : n ≡ from = cc in ap (λ (x : ℕ). question.Updates x) p
 is_updates q from e = absurd cc
 
--- ---- what stands behind a kind tells it
+-- ---- what follows a kind determines it
 
 convictions_kind : (fits : ℕ → Type 0) (q : Question) → HasPart fits (as_convictions q) → question_kind q ≡ 17
 convictions_kind fits (question.Convictions from) h = refl

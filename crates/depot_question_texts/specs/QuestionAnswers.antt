@@ -1,4 +1,4 @@
--- The texts of answers: a kind, and what the kind calls for; and the message that has it.
+-- The texts of answers: a kind, and what the kind calls for; and the messages with these texts.
 use Rattle.std.specs.Prelude.{ℕ, List, [], ◌++◌, length, Bool, true, Option, Some, None, ◌==◌}
 use Rattle.std.specs.Int.{w8, w16, w32}
 use Rattle.depot_base.specs.Closed.{Closed, closing, before, closed_variant, closed_choose}
@@ -22,11 +22,11 @@ use Rattle.depot_questions.specs.declared.question_answer.WriteSays.TheVariants 
 use Rattle.depot_request_texts.specs.ChangeTexts.{key_text}
 use Rattle.depot_request_texts.specs.TellingTexts.{any_u32_text, any_u64_text, flag_text}
 
--- entries that may stand in any order
+-- entries that may occur in any order
 abbrev pub in_any_order : {E : Type 0} → Option E → E → Bool
 in_any_order before e = true
 
--- bytes behind their number
+-- bytes preceded by their number
 unfoldable pub long_text : Format (List ℕ)
 long_text =
     field any_u32_text (λ text. length text) λ size.
@@ -76,7 +76,7 @@ key_page_text =
 
 -- ---- the latest writes of a key
 
--- what a write says: 0 of a deletion, 1 and the value, 2 and the name of a value that isn't held
+-- what a write says: 0 for a deletion, 1 and the value, 2 and the name of a value that isn't held
 abbrev pub says_byte : WriteSays → ℕ
 says_byte says.Deleted = 0
 says_byte (says.Value value) = 1
@@ -132,7 +132,7 @@ update_facts_text =
     field (list_of count write write_rises) (λ f. f.writes) λ writes.
     made_of_fields (record { item = item; writer = writer; seq = seq; clock = clock; writes = writes })
 
--- an update that there may be: 0 where there is none, 1 and the update
+-- an optional update: 0 for none, 1 and the update
 abbrev pub found_byte : Option UpdateFacts → ℕ
 found_byte None = 0
 found_byte (Some facts) = 1
@@ -209,7 +209,7 @@ answer_kind (answer.Update facts) = 20
 answer_kind (answer.Accepted flags) = 21
 answer_kind (answer.Updates page) = 22
 
--- what stands behind a kind
+-- what follows a kind
 unfoldable pub answer_behind : ℕ → Closed QuestionAnswer
 answer_behind kind =
     closed_choose (kind == 16) (closed_variant (λ status. answer.Status status) status_in (closing status_text))
@@ -220,13 +220,13 @@ answer_behind kind =
     (closed_choose (kind == 21) (closed_variant (λ flags. answer.Accepted flags) flags_in (closing flags_text))
     (closed_variant (λ page. answer.Updates page) updates_in_answer (closing update_page_text)))))))
 
--- a kind, and what stands behind it
+-- a kind, and what follows it
 unfoldable pub answer_text : Closed QuestionAnswer
 answer_text = before (number w8 16 22) answer_kind answer_behind
 
 -- ---- the message
 
--- The message of an answer: how many bytes its text has, as four bytes, and its text. Each answer has one, whether or not it is in the ranges of its
--- fields.
+-- The message of an answer: the length of its text, as four bytes, and its text. Each answer has one, whether or not it
+-- is in the ranges of its fields.
 abbrev pub text_of_answer : QuestionAnswer → List ℕ
 text_of_answer a = numeral w32 (length (answer_text.text a)) ++ answer_text.text a

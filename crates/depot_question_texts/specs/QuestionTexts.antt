@@ -39,9 +39,9 @@ abbrev pub as_updates : Question → Option ℕ
 as_updates (question.Updates from) = Some from
 as_updates q = None
 
--- ---- the text behind the kind
+-- ---- the text after the kind
 
--- a key behind its length, or none where that is 0
+-- a key preceded by its length, or none where that is 0
 abbrev pub key_behind : Option (List ℕ) → List ℕ
 key_behind None = []
 key_behind (Some key) = key
@@ -61,7 +61,7 @@ question_kind (question.Update id) = 20
 question_kind (question.Accepted ids) = 21
 question_kind (question.Updates from) = 22
 
--- what stands behind a kind
+-- what follows a kind
 unfoldable pub question_behind : ℕ → Closed Question
 question_behind kind =
     closed_choose (kind == 16) (closing (made_of_fields question.Status))
@@ -72,7 +72,7 @@ question_behind kind =
     (closed_choose (kind == 21) (closed_variant (λ ids. question.Accepted ids) as_accepted (closing ids_text))
     (closed_variant (λ from. question.Updates from) as_updates (closing any_u32_text)))))))
 
--- a kind, and what stands behind it
+-- a kind, and what follows it
 unfoldable pub question_text : Closed Question
 question_text = before (number w8 16 22) question_kind question_behind
 

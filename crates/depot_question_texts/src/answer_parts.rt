@@ -15,7 +15,7 @@ use depot_questions::{
 };
 use depot_request_texts::put_flag;
 
-/// A number of entries. Of more than 4,294,967,295 none is written: memory is said to lack for them.
+/// Writes a number of entries. For more than 4,294,967,295 it writes none and returns `Memory`.
 #[tactic(auto, using(depot_base::proofs::Writing::texts))]
 fn put_count(out: &mut Bytes, count: usize) -> Result<(), Memory>
     ensures { OnOk result (out.new ≡ out.old ++ numeral w32 count) }
@@ -26,7 +26,7 @@ fn put_count(out: &mut Bytes, count: usize) -> Result<(), Memory>
     out.push_u32(count)
 }
 
-/// Who a node is, and how much it has. Of more than 65,535 convicted nodes none is written: memory is said to lack for them.
+/// Writes who a node is, and how much it has. For more than 65,535 convicted nodes it writes none and returns `Memory`.
 #[tactic(auto, using(depot_base::proofs::Writing::texts), unfolding(crate::specs::QuestionAnswers::status_text, depot_base::specs::Format::number, depot_base::specs::Format::bytes_of, depot_base::specs::Format::list_of))]
 pub fn put_status(out: &mut Bytes, status: &NodeStatus) -> Result<(), Memory>
     ensures { OnOk result (out.new ≡ out.old ++ status_text.text status.now) }
@@ -47,7 +47,7 @@ pub fn put_status(out: &mut Bytes, status: &NodeStatus) -> Result<(), Memory>
     put_entries(out, convicted)
 }
 
-/// Bytes behind their number.
+/// Bytes preceded by their number.
 #[tactic(auto, using(depot_base::proofs::Writing::texts), unfolding(crate::specs::QuestionAnswers::long_text, depot_base::specs::Format::number, depot_base::specs::Format::bytes_of, depot_base::specs::Format::list_of))]
 fn put_long(out: &mut Bytes, text: &[u8]) -> Result<(), Memory>
     ensures { OnOk result (out.new ≡ out.old ++ long_text.text text.now) }
@@ -66,7 +66,7 @@ fn put_conviction(out: &mut Bytes, conviction: &ConvictionAt) -> Result<(), Memo
     put_long(out, conviction.text.as_slice())
 }
 
-/// Convictions, one behind another.
+/// Convictions, one after another.
 fn put_convictions(out: &mut Bytes, convictions: &[ConvictionAt]) -> Result<(), Memory>
     ensures { OnOk result (out.new ≡ out.old ++ flat_map conviction_at_text.text convictions.now) }
 {
@@ -76,7 +76,7 @@ fn put_convictions(out: &mut Bytes, convictions: &[ConvictionAt]) -> Result<(), 
     Ok(())
 }
 
-/// Convictions behind their count, and whether there are more.
+/// Convictions preceded by their count, and whether there are more.
 #[tactic(auto, using(depot_base::proofs::Writing::texts), unfolding(crate::specs::QuestionAnswers::conviction_page_text, depot_base::specs::Format::number, depot_base::specs::Format::bytes_of, depot_base::specs::Format::list_of))]
 pub fn put_conviction_page(out: &mut Bytes, page: &ConvictionPage) -> Result<(), Memory>
     ensures { OnOk result (out.new ≡ out.old ++ conviction_page_text.text page.now) }
@@ -87,7 +87,7 @@ pub fn put_conviction_page(out: &mut Bytes, page: &ConvictionPage) -> Result<(),
     put_flag(out, page.more)
 }
 
-/// A key behind its length. Of more than 255 bytes none is written: memory is said to lack for them.
+/// Writes a key preceded by its length. For more than 255 bytes it writes none and returns `Memory`.
 #[tactic(auto, using(depot_base::proofs::Writing::texts), unfolding(depot_request_texts::specs::ChangeTexts::key_text, depot_base::specs::Format::number, depot_base::specs::Format::bytes_of, depot_base::specs::Format::list_of))]
 fn put_key(out: &mut Bytes, key: &[u8]) -> Result<(), Memory>
     ensures { OnOk result (out.new ≡ out.old ++ key_text.text key.now) }
@@ -99,7 +99,7 @@ fn put_key(out: &mut Bytes, key: &[u8]) -> Result<(), Memory>
     out.push_all(key)
 }
 
-/// Keys, one behind another.
+/// Keys, one after another.
 fn put_keys(out: &mut Bytes, keys: &[Bytes]) -> Result<(), Memory>
     ensures { OnOk result (out.new ≡ out.old ++ flat_map key_text.text keys.now) }
 {
@@ -109,7 +109,7 @@ fn put_keys(out: &mut Bytes, keys: &[Bytes]) -> Result<(), Memory>
     Ok(())
 }
 
-/// Keys behind their count, and whether there are more.
+/// Keys preceded by their count, and whether there are more.
 #[tactic(auto, using(depot_base::proofs::Writing::texts), unfolding(crate::specs::QuestionAnswers::key_page_text, depot_base::specs::Format::number, depot_base::specs::Format::bytes_of, depot_base::specs::Format::list_of))]
 pub fn put_key_page(out: &mut Bytes, page: &KeyPage) -> Result<(), Memory>
     ensures { OnOk result (out.new ≡ out.old ++ key_page_text.text page.now) }
@@ -159,7 +159,7 @@ fn put_latest(out: &mut Bytes, write: &LatestWrite) -> Result<(), Memory>
     put_says(out, &write.says)
 }
 
-/// Latest writes, one behind another.
+/// Latest writes, one after another.
 fn put_each_latest(out: &mut Bytes, writes: &[LatestWrite]) -> Result<(), Memory>
     ensures { OnOk result (out.new ≡ out.old ++ flat_map latest_write_text.text writes.now) }
 {
@@ -169,7 +169,7 @@ fn put_each_latest(out: &mut Bytes, writes: &[LatestWrite]) -> Result<(), Memory
     Ok(())
 }
 
-/// Latest writes behind their count.
+/// Latest writes preceded by their count.
 #[tactic(auto, using(depot_base::proofs::Writing::texts), unfolding(crate::specs::QuestionAnswers::latest_writes_text, depot_base::specs::Format::number, depot_base::specs::Format::bytes_of, depot_base::specs::Format::list_of))]
 pub fn put_latest_writes(out: &mut Bytes, writes: &[LatestWrite]) -> Result<(), Memory>
     ensures { OnOk result (out.new ≡ out.old ++ latest_writes_text.text writes.now) }
@@ -178,7 +178,7 @@ pub fn put_latest_writes(out: &mut Bytes, writes: &[LatestWrite]) -> Result<(), 
     put_each_latest(out, writes)
 }
 
-/// A number of writes or of keys of an update. Of more than 255 none is written: memory is said to lack for them.
+/// Writes a number of writes or of keys of an update. For more than 255 it writes none and returns `Memory`.
 #[tactic(auto, using(depot_base::proofs::Writing::texts))]
 fn put_few(out: &mut Bytes, count: usize) -> Result<(), Memory>
     ensures { OnOk result (out.new ≡ out.old ++ numeral w8 count) }
@@ -217,7 +217,7 @@ pub fn put_update(out: &mut Bytes, facts: &Option<UpdateFacts>) -> Result<(), Me
     }
 }
 
-/// Bytes of whether, one behind another.
+/// Bytes of whether, one after another.
 fn put_each_flag(out: &mut Bytes, flags: &[bool]) -> Result<(), Memory>
     ensures { OnOk result (out.new ≡ out.old ++ flat_map flag_text.text flags.now) }
 {
@@ -227,7 +227,7 @@ fn put_each_flag(out: &mut Bytes, flags: &[bool]) -> Result<(), Memory>
     Ok(())
 }
 
-/// Bytes of whether, behind their count.
+/// Bytes of whether, preceded by their count.
 #[tactic(auto, using(depot_base::proofs::Writing::texts), unfolding(crate::specs::QuestionAnswers::flags_text, depot_base::specs::Format::number, depot_base::specs::Format::bytes_of, depot_base::specs::Format::list_of))]
 pub fn put_flags(out: &mut Bytes, flags: &[bool]) -> Result<(), Memory>
     ensures { OnOk result (out.new ≡ out.old ++ flags_text.text flags.now) }
@@ -250,7 +250,7 @@ fn put_update_keys(out: &mut Bytes, update: &UpdateKeys) -> Result<(), Memory>
     put_keys(out, keys)
 }
 
-/// Accepted updates, one behind another.
+/// Accepted updates, one after another.
 fn put_updates(out: &mut Bytes, updates: &[UpdateKeys]) -> Result<(), Memory>
     ensures { OnOk result (out.new ≡ out.old ++ flat_map update_keys_text.text updates.now) }
 {
@@ -260,7 +260,7 @@ fn put_updates(out: &mut Bytes, updates: &[UpdateKeys]) -> Result<(), Memory>
     Ok(())
 }
 
-/// Accepted updates behind their count, and whether there are more.
+/// Accepted updates preceded by their count, and whether there are more.
 #[tactic(auto, using(depot_base::proofs::Writing::texts), unfolding(crate::specs::QuestionAnswers::update_page_text, depot_base::specs::Format::number, depot_base::specs::Format::bytes_of, depot_base::specs::Format::list_of))]
 pub fn put_update_page(out: &mut Bytes, page: &UpdatePage) -> Result<(), Memory>
     ensures { OnOk result (out.new ≡ out.old ++ update_page_text.text page.now) }

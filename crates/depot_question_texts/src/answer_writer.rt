@@ -47,7 +47,8 @@ fn put_answer(out: &mut Bytes, answer: &QuestionAnswer) -> Result<(), Memory>
     }
 }
 
-/// The message of an answer: the length of its text in four bytes, and its text. Where that has more than 4,294,967,295 bytes, memory is said to lack.
+/// Encodes the message of an answer: the length of its text in four bytes, and its text. If that has more than
+/// 4,294,967,295 bytes, it returns `Memory`.
 pub fn encode_answer(alloc: Global, answer: &QuestionAnswer) -> Result<Bytes, Memory>
     ensures { IfOk result (λ text. text ≡ text_of_answer answer.now) }
 {

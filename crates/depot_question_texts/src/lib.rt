@@ -1,7 +1,7 @@
 //! The texts of questions and of answers (docs/FORMATS.md, "Requests").
 //!
-//! Each is a byte that says its kind, and the fields that the kind calls for, as those of requests and replies are. The kinds are 16 to 22, in
-//! hexadecimal 10 to 16, which no request has. A text is that of one question, or goes wrong at one place.
+//! Each is a byte for its kind, and the kind's fields, like requests and replies. The kinds are 16 to 22, in
+//! hexadecimal 10 to 16, which no request has. A text is that of one question, or has its first fault at one offset.
 #![tactic(auto)]
 
 mod answer_parts;

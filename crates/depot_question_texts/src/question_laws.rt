@@ -4,7 +4,7 @@ ghost use Rattle.depot_question_texts.specs.QuestionAnswers.{answer_text};
 ghost use Rattle.depot_question_texts.specs.QuestionTexts.{BeginsWithKind, question_text};
 ghost use Rattle.depot_questions.specs.declared.question.Question.{Question};
 
-/// A text is that of one question, or it is no question's and its first fault is at one place. Called for its clause alone.
+/// A text is that of one question, or of none, with its first fault at one offset. Called for its clause alone.
 pub fn questions_are_read_in_one_way()
     ensures { IsClosedReadInOneWay question_text }
 {}
@@ -14,7 +14,7 @@ pub fn question_texts_begin_with_their_kind()
     ensures { (q : Question) → BeginsWithKind q }
 {}
 
-/// A text is that of one answer, or it is no answer's and its first fault is at one place. Called for its clause alone.
+/// A text is that of one answer, or of none, with its first fault at one offset. Called for its clause alone.
 pub fn answers_are_read_in_one_way()
     ensures { IsClosedReadInOneWay answer_text }
 {}

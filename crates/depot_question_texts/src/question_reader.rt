@@ -14,7 +14,7 @@ use depot_questions::Question;
 use depot_request_texts::{whole_ids, whole_key};
 use std::alloc::Global;
 
-/// A number of any size, and nothing behind it.
+/// A number of any size, and nothing after it.
 fn whole_number(fields: &mut Fields<'_>) -> Result<u32, Fault>
     ensures { Gives result (whole any_u32_text fields.old) }
 {
@@ -22,7 +22,7 @@ fn whole_number(fields: &mut Fields<'_>) -> Result<u32, Fault>
     at_end(fields, number)
 }
 
-/// An id, and nothing behind it.
+/// An id, and nothing after it.
 fn whole_id(fields: &mut Fields<'_>) -> Result<Hash32, Fault>
     ensures { Gives result (whole digest fields.old) }
 {
@@ -30,7 +30,7 @@ fn whole_id(fields: &mut Fields<'_>) -> Result<Hash32, Fault>
     at_end(fields, id)
 }
 
-/// A key behind its length, or none where that is 0, and nothing behind it.
+/// A key preceded by its length, or none if that is 0, and nothing after it.
 #[tactic(auto, unfolding(crate::specs::QuestionTexts::start_text))]
 fn whole_start(alloc: Global, fields: &mut Fields<'_>) -> Result<Option<Key>, Fault>
     ensures { Gives result (whole start_text fields.old) }
@@ -43,7 +43,7 @@ fn whole_start(alloc: Global, fields: &mut Fields<'_>) -> Result<Option<Key>, Fa
     at_end(fields, Some(key))
 }
 
-/// What stands behind a kind.
+/// What follows a kind.
 #[tactic(auto, unfolding(crate::specs::QuestionTexts::question_behind))]
 fn question_in(alloc: Global, fields: &mut Fields<'_>, kind: u8) -> Result<Question, Fault>
     requires least { 16 ≤ kind }
@@ -71,8 +71,8 @@ fn question_of(alloc: Global, fields: &mut Fields<'_>) -> Result<Question, Fault
     question_in(alloc, fields, kind)
 }
 
-/// The question whose text this is. `IllFormed` comes exactly where it is no question's text, with the offset of the first fault, 0 of no bytes and of
-/// an unknown kind.
+/// Decodes the text of a question. `IllFormed` is returned exactly when it is no question's text, with the offset of
+/// the first fault, 0 for no bytes and for an unknown kind.
 pub fn decode_question(alloc: Global, body: &[u8]) -> Result<Question, DecodeError>
     ensures decodes { DecodesClosed question_text body.now result }
     ensures finds { FindsQuestion body.now result }

@@ -1,4 +1,4 @@
--- The least of keys, one put after the other.
+-- The least of keys, put one after another.
 use Rattle.std.proofs.Common.{◌≡◌, ℕ, zero, suc, ◌+◌, ◌-◌, ◌<◌, ◌≤◌, Bool, true, false, cond, List, [], ◌∷◌, ◌++◌, length, length-append, length-take, map, filter, take, drop, get_or, nat_lt, Option, None, Some, Bor, refl, sym, ap, ◌∙◌, arith}
 use Rattle.std.proofs.lemmas.List.{drop_all, map-append, take_all, take-append-le, take-map, take-take}
 use Rattle.std.specs.Prelude.{◌↔◌, IfSome, IsSome, min, slice_get}
@@ -64,7 +64,7 @@ pub last_popped : (n : ℕ) (all rest : List (Bor (List ℕ))) (popped : Option 
 last_popped n all rest (Some k) keys parts some past few is = let long : length all ≡ length rest + 1 = ap (λ (x : List (Bor (List ℕ))). length x) parts ∙ length-append rest (k ∷ []) in last_left n all rest k keys parts (omega (arith, long, past, few)) is
 last_popped n all rest None keys parts some past few is = let wrong : IsSome {T = Bor (List ℕ)} None = some.1 (omega (arith, past)) in absurd cc
 
--- ---- a front of the rising keys is enough
+-- ---- a prefix of the rising keys is enough
 
 take_again : {X : Type 0} (n : ℕ) (x : X) (xs : List X) → take n (x ∷ take n xs) ≡ take n (x ∷ xs)
 take_again zero x xs = refl
@@ -90,9 +90,9 @@ key_noted after key keys old new above so_far more =
 pub key_left : (after : Option (List ℕ)) (key : List ℕ) (keys old : List (List ℕ)) → is_key_above after key ≡ false → old ≡ least_of after keys → old ≡ least_of after (key ∷ keys)
 key_left after key keys old above so_far = let same : filter (is_key_above after) (key ∷ keys) ≡ filter (is_key_above after) keys = rw above refl in so_far ∙ sym (ap (λ (x : List (List ℕ)). take 1025 (rising x)) same)
 
--- ---- keys behind those that were noted
+-- ---- keys after those that were noted
 
--- from the least of keys behind them, with these keys in front
+-- from the least of keys after them, with these keys first
 pub record HasNoted (after : Option (List ℕ)) (first now : List (Bor (List ℕ))) (keys : List (List ℕ)) : Type 0 where
   pub few : length now ≤ 1025
   pub put : (behind : List (List ℕ)) → lent first ≡ least_of after behind → lent now ≡ least_of after (keys ++ behind)

@@ -72,7 +72,7 @@ made_of_proof J place node whole text kept who is =
 
 -- ---- the places of such records
 
--- a record that passes the test stands there
+-- a record that passes the test is there
 abbrev pub PassesAt : (Record → Bool) → List Record → ℕ → Type 0
 PassesAt test J place = (r : Record) × ((slice_get J place ≡ Some r) × (test r ≡ true))
 

@@ -1,4 +1,4 @@
--- Updates that are told: whether one has an id, and pages of them.
+-- Questions about updates: whether one has an id, and pages of them.
 use Rattle.std.proofs.Common.{◌≡◌, ℕ, zero, suc, ◌+◌, ◌-◌, ◌<◌, ◌≤◌, Bool, true, false, cond, not, ◌||◌, Option, None, is_some, List, [], ◌∷◌, ◌++◌, length, length-drop, map, take, drop, nat_lt, Some, refl, sym, ap, ◌∙◌, arith, inl, inr, ◌⊎◌}
 use Rattle.std.specs.List.{list_any, position_or_len}
 use Rattle.std.specs.Prelude.{min, slice_get}
@@ -19,7 +19,7 @@ next_of [] i x at = absurd cc
 next_of (y ∷ ys) zero x at = let p : y ≡ x = cc in ap (λ (z : _). z ∷ []) p
 next_of (y ∷ ys) (suc i) x at = ap (λ (zs : List _). y ∷ zs) (next_of ys i x at)
 
--- what stands behind so many
+-- what follows so many
 behind : {X : Type 0} (xs : List X) (n i : ℕ) → slice_get (drop n xs) i ≡ slice_get xs (n + i)
 behind [] zero i = refl
 behind [] (suc n) i = refl

@@ -16,7 +16,8 @@ pub record HasNoSpace (J : List Record) (from place room : ℕ) : Type 0 where
   pub is : convictions_of J from (place ∷ []) ≡ conviction ∷ []
   pub more : room < bytes_of_conviction conviction
 
--- The conviction by the record of a place, if it is from there on, was to be added where there is so much room: so much is left, or there was none.
+-- The conviction by the record of a place, if that is in range, was to be added with so much room: so much is left, or
+-- there wasn't enough.
 abbrev pub AddsConviction : List Record → ℕ → ℕ → List ConvictionAt → ℕ → Result (Option ℕ) Memory → List ConvictionAt → Type 0
 AddsConviction J from place old room (Ok (Some left)) new = (new ≡ old ++ convictions_of J from (place ∷ [])) × (room ≡ left + sum_by bytes_of_conviction (convictions_of J from (place ∷ [])))
 AddsConviction J from place old room (Ok None) new = (new ≡ old) × HasNoSpace J from place room

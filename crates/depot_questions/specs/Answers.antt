@@ -1,4 +1,4 @@
--- What a node answers to questions, by where it stands and its journal.
+-- What a node answers to questions, by its setting and its journal.
 use Rattle.std.specs.Prelude.{ℕ, ◌+◌, ◌-◌, List, [], ◌∷◌, length, map, filter, take, drop, slice_get, Bool, true, nat_le, nat_lt, Option, Some, None, option_map, option_and_then, if◌then◌else◌}
 use Rattle.std.specs.List.{flat_map}
 use Rattle.std.specs.Option.{option_to_list}
@@ -58,7 +58,7 @@ status_told here J = record {
 abbrev pub conviction_by : ℕ → Record → List ConvictionAt
 conviction_by place r = map (λ p. record { place = place; node = accused p; text = text_of_proof p }) (proof_by r)
 
--- the conviction by the record that stands there
+-- the conviction by the record that is there
 abbrev pub conviction_told : List Record → ℕ → List ConvictionAt
 conviction_told J place = flat_map (conviction_by place) (option_to_list (slice_get J place))
 
@@ -99,7 +99,7 @@ key_page keys = record { keys = take MOST_KEYS_TOLD keys; more = nat_lt MOST_KEY
 
 -- ---- the latest writes of a key
 
--- what is said of a key to which a value of this name is given: the value, where it is held
+-- what a key was given by a value of this name: the value, if held
 abbrev pub value_said : NamedValue → Option (List ℕ) → WriteSays
 value_said name (Some value) = says.Value value
 value_said name None = says.NotHeld name
@@ -144,7 +144,7 @@ update_page us from = record {
 
 -- ---- answers
 
--- What a node answers, by where it stands and its journal.
+-- What a node answers, by its setting and its journal.
 unfoldable pub told_of_question : Setting → List Record → Question → QuestionAnswer
 told_of_question here J question.Status = answer.Status (status_told here J)
 told_of_question here J (question.Convictions from) = answer.Convictions (conviction_page (convictions_onward J from))

@@ -13,7 +13,7 @@ use depot_base::Memory;
 use depot_local::LocalNode;
 use std::alloc::Global;
 
-/// Asks a node that runs. The answer is what is defined of the question, by where the node stands and its journal, or no memory was found.
+/// Asks a running node. The answer is the defined one, by the node's setting and its journal; or no memory was found.
 #[tactic(auto, unfolding(crate::specs::Answers::told_of_question))]
 pub fn ask<N: LocalNode>(
     alloc: Global,

@@ -28,7 +28,7 @@ fn accused(alloc: Global, text: &[u8]) -> Result<NodeId, Memory>
     }
 }
 
-/// What stands behind the tag of a record's text.
+/// What follows the tag of a record's text.
 fn behind_tag(text: &[u8]) -> &[u8]
     ensures { result.now ≡ drop 1 text.now }
 {
@@ -52,7 +52,8 @@ fn conviction_at<N: LocalNode>(alloc: Global, node: &N, place: u32) -> Result<Co
     })
 }
 
-/// Adds the conviction by the record of a place, if it is from there on, and gives the room that is left. None where there is no room for it.
+/// Adds the conviction by the record of a place, if that is in range, and returns the room that is left, `None` if
+/// there isn't enough.
 fn add_conviction<N: LocalNode>(
     alloc: Global,
     node: &N,
@@ -76,7 +77,7 @@ fn add_conviction<N: LocalNode>(
     Ok(Some(room - bytes))
 }
 
-/// The page that begins with the convictions by the records of these places from one on.
+/// The page that begins with the convictions by the records of these places, from one on.
 fn page_from<N: LocalNode>(
     alloc: Global,
     node: &N,

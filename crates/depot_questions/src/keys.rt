@@ -26,7 +26,7 @@ fn is_above(after: Option<&Key>, key: &[u8]) -> bool
     }
 }
 
-/// Puts a key among the least ones, in rising order, each once: one more of them than a page has.
+/// Puts a key among the least ones, in rising order, each once: one more of them than fits on a page.
 fn note<'a>(least: &mut BTreeSet<&'a [u8]>, key: &'a [u8]) -> Result<(), Memory>
     requires { length least.old.keys ≤ MOST_KEYS_TOLD + 1 }
     ensures few { OnOk result (length least.new.keys ≤ MOST_KEYS_TOLD + 1) }
@@ -39,7 +39,7 @@ fn note<'a>(least: &mut BTreeSet<&'a [u8]>, key: &'a [u8]) -> Result<(), Memory>
     Ok(())
 }
 
-/// Puts the keys of writes that are above one among the least of those behind them.
+/// Puts the keys of writes that are above one among the least of those after them.
 fn note_each<'a>(
     least: &mut BTreeSet<&'a [u8]>,
     after: Option<&Key>,

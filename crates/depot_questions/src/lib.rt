@@ -1,9 +1,10 @@
-//! What a node knows, told to the program beside it.
+//! What a node knows, answered to the program beside it.
 //!
-//! A `Question` is a value, and so is the `QuestionAnswer`. What is answered is defined once (`specs/Answers.antt`), by where the node stands and its journal
-//! alone. Asking changes nothing: `ask` takes a node that it can't change.
+//! A `Question` is a value, and so is the `QuestionAnswer`. The answer is defined once (`specs/Answers.antt`), by the
+//! node's setting and its journal alone. Asking changes nothing: `ask` borrows the node immutably.
 //!
-//! Answers that could be long come in pages (`limits.rt`): each says whether there is more, and the next question names where it goes on.
+//! Long answers come in pages (`limits.rt`): each says whether there is more, and the next question names where to
+//! continue.
 #![tactic(auto)]
 
 mod asking;

@@ -2,7 +2,7 @@
 
 use depot_base::limits::MOST_PROOF;
 
-/// The most bytes that the texts of a page's proofs have, with ten bytes for each: more than the longest proof takes.
+/// The most bytes of the texts of a page's proofs, with ten bytes added for each: more than the longest proof takes.
 pub const MOST_PROOFS_TOLD: u32 = 1_048_576;
 
 /// A page has room for each proof.

@@ -1,8 +1,8 @@
-//! What is asked of what a node knows.
+//! Questions about what a node knows.
 
 use depot_base::{Hash32, Ids, Key};
 
-/// What a program asks a node beside it to tell. No answer changes the node.
+/// A question of a program to the node beside it. No answer changes the node.
 #[derive(Drop)]
 pub enum Question {
     /// Who it is, and how much it has.

@@ -40,7 +40,7 @@ pub struct ConvictionAt {
 #[derive(Drop)]
 pub struct ConvictionPage {
     pub convictions: Sequence<ConvictionAt>,
-    /// Whether there are more behind them.
+    /// Whether there are more after them.
     pub more: bool,
 }
 
@@ -100,7 +100,7 @@ pub struct UpdateKeys {
 #[derive(Drop)]
 pub struct UpdatePage {
     pub updates: Sequence<UpdateKeys>,
-    /// Whether there are more behind them.
+    /// Whether there are more after them.
     pub more: bool,
 }
 

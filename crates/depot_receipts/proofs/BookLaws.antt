@@ -1,4 +1,4 @@
--- A book that has read one update more.
+-- A book that has read one more update.
 use Rattle.std.proofs.Common.{◌≡◌, ◌∙◌, ◌+◌, ◌≤◌, ℕ, suc, Bool, true, false, cond, List, [], ◌∷◌, ◌++◌, map, take, Some, slice_get, zero, sym, ap, subst, arith, add-one, length-append, append-nil}
 use Rattle.std.specs.List.{filter}
 use Rattle.std.proofs.Math.Seq.{take-append_seam}
@@ -50,6 +50,6 @@ next_read us item u e = ap (λ (n : ℕ). take n us) (add-one item) ∙ one_more
 pub reads_on : (us : List Update) (u : Update) (first old new : Book) → IsBookOf us old → IsBookOf (us ++ u ∷ []) new → first.read ≤ old.read → first.read ≤ new.read
 reads_on us u first old new b m le = let long = length-append us (u ∷ []) in omega (arith, b.count, m.count, long, le)
 
--- what it has read stands in front of whatever goes on from there
+-- what it has read precedes whatever goes on from there
 pub goes_on : (us more : List Update) (book : Book) → IsBookOf us book → IsBookOf (take book.read (us ++ more)) book
 goes_on us more book b = subst (λ (vs : List Update). IsBookOf vs book) (sym (ap (λ (n : ℕ). take n (us ++ more)) b.count ∙ take-append_seam us more)) b

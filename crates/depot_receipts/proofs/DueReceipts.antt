@@ -1,4 +1,4 @@
--- Whether receipts are due: what is found of each id, and of each value that an update names.
+-- Whether receipts are due: what is found for each id, and for each value that an update names.
 use Rattle.std.proofs.Common.{◌≡◌, ◌∙◌, ◌<◌, ◌+◌, ◌&&◌, ℕ, Bool, true, false, cond, not, List, [], ◌∷◌, ◌++◌, length, take, drop, suc, get_or, Option, Some, None, is_some, refl, sym, ap, subst, inl, inr}
 use Rattle.std.specs.Prelude.{find, slice_get}
 use Rattle.std.specs.List.{list_all, list_any}

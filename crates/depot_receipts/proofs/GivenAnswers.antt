@@ -1,4 +1,4 @@
--- What the put of receipts leaves true, and what no refusal of them is.
+-- What the put of receipts keeps true, and what no refusal of them is.
 use Rattle.std.proofs.Common.{◌≡◌, ◌≢◌, ◌↔◌, ◌∙◌, ℕ, List, [], ◌∷◌, ◌++◌, map, take, drop, None, Result, Ok, Err, IsErrOf, IsErrAnd, refl, sym, ap, subst, inl, inr, append_assoc}
 use Rattle.std.proofs.lemmas.List.{take-append-drop}
 use Rattle.depot_base.specs.declared.record.Record.{Record}

@@ -36,7 +36,7 @@ given_to u key h e = by_key (receipt_of key) refl e where
 given_from : (u : Update) (h : List ℕ) → length h ≡ 32 → gives_receipt h u ≡ true → id_given u (receipt_key h) ≡ Some h
 given_from u h long gives = rw (key_read h long, gives) refl
 
--- An id is listed exactly where the update gives a receipt for it.
+-- An id is listed exactly when the update gives a receipt for it.
 pub listed_is_given : (u : Update) (h : List ℕ) → length h ≡ 32 → gives_receipt h u ≡ is_among h (ids_given u)
 listed_is_given u h long = same_test (gives_receipt h u) (is_among h (ids_given u))
     (λ gives.

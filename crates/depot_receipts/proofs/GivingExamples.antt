@@ -1,4 +1,4 @@
--- Worked examples: which receipts an update gives, which a book knows, and what a node answers where it is asked for some.
+-- Worked examples: which receipts an update gives, which a book knows, and what a node answers when asked for some.
 use Rattle.std.proofs.Common.{◌≡◌, ◌∙◌, ℕ, List, [], ◌∷◌, ◌++◌, true, false, Some, None, Ok, Err, refl, sym}
 use Rattle.sha2.specs.Sha256.{sha256, first_words, schedule, rounds, compress, hash_after, digest_bytes}
 use Rattle.depot_base.specs.Closed.{rest_of}

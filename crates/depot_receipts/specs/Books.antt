@@ -9,7 +9,7 @@ use Rattle.depot_receipts.specs.declared.book.Book.{Book}
 abbrev pub items_read : Book → ℕ
 items_read book = book.read
 
--- The book has read these updates: of each id it knows the writers of receipts among them.
+-- The book has read these updates: for each id it knows which of their writers gave a receipt.
 pub record IsBookOf (us : List Update) (book : Book) : Type 0 where
   pub count : book.read ≡ length us
   pub holders : (id : List ℕ) → length id ≡ 32 → holders_of book.holders id ≡ holders_in us id

@@ -1,4 +1,4 @@
--- What a node answers where it is asked for receipts, and what its journal is then.
+-- What a node answers when asked for receipts, and its journal afterwards.
 use Rattle.std.specs.Prelude.{◌≡◌, ◌≢◌, List, ℕ, Some, None, Result, Ok, Err, IsErrOf, IsErrAnd}
 use Rattle.depot_base.specs.declared.write.Change.{Change}
 use Rattle.depot_base.specs.declared.record.Record.{Record}
@@ -17,12 +17,12 @@ use Rattle.depot_receipts.specs.declared.give_error.GiveError.TheVariants as giv
 abbrev pub receipt_records : Setting → List Record → List (List ℕ) → List Record
 receipt_records here J ids = put_records here J (receipt_changes ids)
 
--- nothing speaks against the receipts, and this is what their put comes to
+-- nothing speaks against the receipts, and this is the outcome of their put
 abbrev pub PutsReceipts : Setting → List Record → List (List ℕ) → Result PutDone PutError → List Record → Type 0
 PutsReceipts here J ids answer then = (no_receipt J ids ≡ None) × Puts here J (receipt_changes ids) answer then
 
--- What a node answers where it is asked for receipts for these ids, and the journal after it. Memory may stand in place of each
--- answer, and then nothing is appended; nor is it by a stopped node.
+-- What a node answers when asked for receipts for these ids, and its journal afterwards. `Memory` may replace each
+-- answer; then nothing is appended. A stopped node appends nothing either.
 abbrev pub GivesReceipts : Setting → List Record → List (List ℕ) → Result PutDone GiveError → List Record → Type 0
 GivesReceipts here J ids (Ok done) then = PutsReceipts here J ids (Ok done) then
 GivesReceipts here J ids (Err give.Memory) then = then ≡ J
@@ -35,7 +35,7 @@ GivesReceipts here J ids (Err (give.Tips n)) then = PutsReceipts here J ids (Err
 GivesReceipts here J ids (Err (give.Collides h)) then = PutsReceipts here J ids (Err (put.Collides h)) then
 GivesReceipts here J ids (Err (give.Full what)) then = PutsReceipts here J ids (Err (put.Full what)) then
 
--- the call was to give these receipts, and answered so; after each error but Disk nothing is appended
+-- the call was to give these receipts and answered this; after each error but `Disk` nothing is appended
 abbrev pub IsReceiptCall : {N : Type 0} → Ghosts N → N → N → List (List ℕ) → Result PutDone GiveError → Type 0
 IsReceiptCall g old new ids result =
     IsNodeCall g old new (receipt_records (g.stands old) (g.records old) ids)
@@ -43,7 +43,7 @@ IsReceiptCall g old new ids result =
 
 -- ---- on the way
 
--- what is found before a put: the changes where nothing speaks against the receipts, or what does
+-- what is found before a put: the changes if nothing forbids the receipts, else the refusal
 abbrev pub AreReceiptsDue : List Record → List (List ℕ) → Result (List Change) GiveError → Type 0
 AreReceiptsDue J ids (Ok changes) = (no_receipt J ids ≡ None) × (changes ≡ receipt_changes ids)
 AreReceiptsDue J ids (Err give.Memory) = Unit {0}

@@ -10,7 +10,8 @@ use depot_graph::Graph;
 use depot_model::Past;
 use std::alloc::Global;
 
-/// Who gave receipts for which update, among the updates that it has read: the first so many of a graph, which it doesn't know.
+/// Who gave receipts for which update, among the updates read so far. These are a prefix of a graph that the book
+/// doesn't hold.
 #[derive(Drop)]
 pub struct Book {
     /// How many updates it has read.
@@ -34,8 +35,8 @@ impl Book {
         }
     }
 
-    /// Reads the updates of a graph that it hasn't read yet. The graph begins with those that it has read. After Memory it has
-    /// read some more of them, or none, as `count` tells, and goes on there when it is called again.
+    /// Reads the updates of a graph that it hasn't read yet. The graph has to begin with those it has read. On `Memory`
+    /// it has read some of them, as `count` says; another call continues there.
     pub fn catch_up(&mut self, graph: &Graph) -> Result<(), Memory>
         requires begins { IsBookOf (take (items_read self.old) (⟦<Graph as Past>⟧.updates graph.now)) self.old }
         ensures ok { OnOk result (IsBookOf (⟦<Graph as Past>⟧.updates graph.now) self.new) }
@@ -48,7 +49,8 @@ impl Book {
         Ok(())
     }
 
-    /// Reads one update. The room for all its receipts is found before any of them is noted, so after Memory it hasn't read it.
+    /// Reads one update. It reserves room for all receipts before it notes any of them, so on `Memory` the update isn't
+    /// read.
     fn read(&mut self, update: &Update) -> Result<(), Memory>
         requires { items_read self.old < 4294967295 }
         ensures ok { OnOk result ((us : List Update) → IsBookOf us self.old → IsBookOf (us ++ update.now ∷ []) self.new) }

@@ -4,8 +4,8 @@ ghost use Rattle.depot_base.specs.declared.update.Update.{Update};
 ghost use Rattle.depot_receipts.specs.Books.{IsBookOf, items_read};
 ghost use Rattle.depot_receipts.specs.declared.book.Book.{Book};
 
-/// A book of some updates has read the first of these and of whatever comes behind them: so it may be caught up with each later
-/// graph, since a graph only grows at its end.
+/// A book of some updates has read a prefix of these and of whatever follows them. So it can be caught up with each
+/// later graph, since a graph only grows at its end.
 pub fn books_go_on()
     ensures { (us more : List Update) (book : Book) → IsBookOf us book → IsBookOf (take (items_read book) (us ++ more)) book }
 {}

@@ -13,8 +13,9 @@ use depot_graph::Graph;
 use depot_model::{Past, Peer};
 use std::alloc::Global;
 
-/// The changes that give receipts for these ids. `Unknown` comes exactly where an id isn't that of an accepted update, with the first
-/// such; and else `NoValue` exactly where a value of an update isn't held, with the first such id.
+/// Returns the changes that give receipts for these ids. `Unknown` is returned exactly when an id isn't that of an
+/// accepted update, with the first such id; else `NoValue` exactly when a value of an update isn't held, with the first
+/// such id.
 pub(crate) fn changes_due<P: Peer>(
     alloc: Global,
     node: &P,

@@ -4,7 +4,7 @@ ghost use Rattle.depot_receipts.specs.declared.give_error.GiveError.TheVariants 
 
 use depot_base::{Full, Hash32, Memory};
 
-/// Why a node gives no receipts. It is as before, but after `Disk`.
+/// Why a node gives no receipts. The node is unchanged, except after `Disk`.
 #[derive(Clone, Copy, Debug, PartialEq, Eq)]
 pub enum GiveError {
     /// No memory was found.
@@ -17,7 +17,7 @@ pub enum GiveError {
     Unknown(Hash32),
     /// The update with this id names a value that isn't held.
     NoValue(Hash32),
-    /// The node has made so many statements, and has no leaf left to sign another.
+    /// The node has made so many statements and has no unused leaf to sign another.
     Spent(u32),
     /// The update would have so many entries, more than 1,024.
     Tips(u32),

@@ -13,13 +13,15 @@ use depot_local::LocalNode;
 use depot_model::{PutDone, PutError, Replica};
 use std::alloc::Global;
 
-/// Gives receipts for 1 to 16 ids, rising strictly, by one put of the empty value under the key of each: the node says by signature
-/// that it holds the values of these updates.
+/// Gives receipts for 1 to 16 ids, strictly rising, by one put of the empty value under the key of each. By this
+/// signature the node says that it holds the values of these updates.
 ///
-/// `Stopped` comes exactly where the disk failed in an earlier call. `Unknown` comes exactly where an id isn't that of an accepted
-/// update, with the first such; else `NoValue` exactly where a value that an update names isn't held, with the first such id. Then
-/// come the answers of [`put_all`](LocalNode::put_all). What stands after each is as there: after `Disk` the node is stopped, and where
-/// another error is answered, its journal is as before. Where each receipt that the node gave was true, each is.
+/// `Stopped` is returned exactly when the disk failed in an earlier call. `Unknown` is returned exactly when an id
+/// isn't that of an accepted update, with the first such id; else `NoValue` exactly when a value that an update names
+/// isn't held, with the first such id. Then come the errors of [`put_all`](LocalNode::put_all), with the same effects:
+/// after `Disk` the node is stopped, after any other error its journal is unchanged. If each receipt that the node gave
+/// before was true, each one still is.
+/// each receipt that the node gave was true, each is.
 pub fn give<N: LocalNode>(alloc: Global, node: &mut N, ids: &Ids) -> Result<PutDone, GiveError>
     requires few { (1 ≤ length ids.now) × (length ids.now ≤ MOST_WRITES) }
     requires rising { AllPairsByRecursion (λ g h. is_below g h ≡ true) ids.now }

@@ -10,7 +10,7 @@ use depot_base::{Hash32, Memory, NodeId};
 use std::alloc::Global;
 use std::collections::BTreeMap;
 
-/// Of each id its holders, in a map that keeps the ids in order. Whoever signs a receipt picks its id, so none is hashed: a look-up
+/// The holders of each id, in an ordered map. Whoever signs a receipt picks its id, so ids aren't hashed: a look-up
 /// takes logarithmic time, whatever they are.
 #[derive(Drop)]
 pub(crate) struct Holders {
@@ -54,7 +54,7 @@ impl Holders {
         }
     }
 
-    /// Finds the memory for a node among the holders of an id. The holders stay.
+    /// Reserves room for a node among the holders of an id. The holders are unchanged.
     #[tactic(auto, unfolding(crate::specs::HolderLists::holders_of, crate::specs::HolderLists::has_place))]
     fn reserve(&mut self, id: Hash32, node: NodeId) -> Result<(), Memory>
         ensures same { (other : List ℕ) → holders_of self.new other ≡ holders_of self.old other }
@@ -70,7 +70,7 @@ impl Holders {
         Ok(())
     }
 
-    /// Finds the memory for a node among the holders of each of these ids. The holders stay, also after Memory.
+    /// Reserves room for a node among the holders of each of these ids. The holders are unchanged, also on `Memory`.
     pub(crate) fn reserve_each(&mut self, ids: &[Hash32], node: NodeId) -> Result<(), Memory>
         ensures same { (other : List ℕ) → holders_of self.new other ≡ holders_of self.old other }
         ensures place { OnOk result (AllByRecursion (λ id. has_place self.new id node ≡ true) ids.now) }
@@ -81,7 +81,7 @@ impl Holders {
         Ok(())
     }
 
-    /// Puts a node among the holders of an id, where there is a place for it. It takes no memory.
+    /// Adds a node to the holders of an id, for which there is room. It takes no memory.
     #[tactic(auto, unfolding(crate::specs::HolderLists::holders_of, crate::specs::HolderLists::has_place))]
     fn note(&mut self, id: &Hash32, node: NodeId)
         requires place { has_place self.old id.now node ≡ true }
@@ -94,7 +94,7 @@ impl Holders {
         }
     }
 
-    /// Puts a node among the holders of each of these ids, where there is a place for it. It takes no memory.
+    /// Adds a node to the holders of each of these ids, for which there is room. It takes no memory.
     pub(crate) fn note_each(&mut self, ids: &[Hash32], node: NodeId)
         requires place { AllByRecursion (λ id. has_place self.old id node ≡ true) ids.now }
         ensures noted { (other : List ℕ) → holders_of self.new other ≡ (if is_among other ids.now then put_number node (holders_of self.old other) else holders_of self.old other) }

@@ -5,10 +5,10 @@ ghost use Rattle.depot_model.specs.Receipts.{receipt_key, receipt_of};
 use depot_base::{Bytes, Hash32, Key, Memory};
 use std::alloc::Global;
 
-/// What stands in front of the id.
+/// What precedes the id.
 const FRONT: &[u8; 8] = b"receipt:";
 
-/// The key of a receipt for an id: the 8 bytes `receipt:` and then the 32 bytes of the id.
+/// Returns the key of a receipt for an id: the 8 bytes `receipt:`, then the 32 bytes of the id.
 #[tactic(auto, unfolding(depot_model::specs::Receipts::receipt_key))]
 pub fn receipt_key(alloc: Global, id: &Hash32) -> Result<Key, Memory>
     ensures { IfOk result (λ key. key ≡ receipt_key id.now) }
@@ -18,7 +18,7 @@ pub fn receipt_key(alloc: Global, id: &Hash32) -> Result<Key, Memory>
     Ok(Key::from_bytes(bytes))
 }
 
-/// The id that a key is a receipt for. None exactly where the key has another form. It takes no memory.
+/// Returns the id that a key is a receipt for, `None` exactly when the key has another form. It takes no memory.
 #[tactic(auto, using(crate::proofs::KeyLaws::key_laws))]
 pub fn receipt_of(key: &Key) -> Option<Hash32>
     ensures { result ≡ receipt_of key.now }

@@ -1,17 +1,16 @@
-//! Receipts: what a node says by signature that it holds.
+//! Receipts: signed updates by which a node says that it holds another update and its values.
 //!
-//! The key of a receipt is the eight bytes `receipt:` and an id. Whoever writes it, and doesn't delete it, gave a receipt for the
-//! update with this id; the value is empty, and another one counts as well.
+//! The key of a receipt is the eight bytes `receipt:` and an id. A write of this key that isn't a deletion is a receipt
+//! for the update with that id. The value is empty; another value counts as well.
 //!
-//! `give` lets a node give some, by one put: for updates that it accepted and all of whose values it holds, and for no others. So
-//! each receipt of a node that writes these keys by `give` alone is true. `specs/Giving.antt` says what it answers.
+//! - `give` makes receipts, by one put, only for updates that the node accepted and whose values it all holds. So every
+//!   receipt of a node that writes these keys by `give` alone is true (`specs/Giving.antt`).
+//! - A `Book` has read a prefix of a graph's updates. For each id it knows the holders: the writers of receipts among
+//!   them, each once, in rising order (`specs/Books.antt`). It is caught up with any graph that begins with what it has
+//!   read.
 //!
-//! A `Book` has read the first so many updates of a graph, and of each id it knows the writers of receipts among them, each once
-//! and rising: the holders. It is caught up with a graph that begins with what it has read; which graph that is it doesn't know.
-//! `specs/Books.antt` says what a book of some updates is. It believes whoever signed: it doesn't ask whether a holder holds
-//! anything, nor whether the id is that of an update.
-//!
-//! What receipts say in worlds of correct nodes are the laws of `depot_laws` that are passed on here.
+//! A book believes whoever signed. It doesn't check that a holder holds anything, or that the id is that of an update.
+//! What receipts mean in worlds of correct nodes is stated by laws of `depot_laws`, reexported here.
 #![tactic(auto)]
 
 mod book;

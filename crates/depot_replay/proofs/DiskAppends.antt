@@ -35,12 +35,12 @@ pub synced_rest : (s u : State) → s.fails ≡ [] → Gone syncs s u → IsAtRe
 unfolding done_by
 synced_rest s u none gone = record { synced = gone.unsynced_is ∙ ap synced_as (sym gone.file_is); faultless = gone.fails_are ∙ none }
 
--- what a stop leaves in a write
+-- the crash images in a write
 stopped_write : (s t : State) (at : ℕ) (bytes : List ℕ) → IsAtRest s → (x : StoppedIn (writes_at at bytes) s t) → t.file ≡ left_by x.image (written_at (synced_as s.file) s.file at (length bytes)) (overwritten s.file at bytes)
 unfolding done_before_stop done_by
 stopped_write s t at bytes rest x = x.file_is ∙ ap (λ (m : Moment). left_by x.image (written_at m s.file at (length bytes)) (overwritten s.file at bytes)) rest.synced
 
--- and in the sync behind it
+-- and in the sync after it
 stopped_sync : (s u t : State) (at : ℕ) (bytes : List ℕ) → IsAtRest s → Gone (writes_at at bytes) s u → (x : StoppedIn syncs u t) → t.file ≡ left_by x.image (written_at (synced_as s.file) s.file at (length bytes)) (overwritten s.file at bytes)
 unfolding done_before_stop
 stopped_sync s u t at bytes rest gone x =
@@ -85,13 +85,13 @@ grown_by s t bodies end (text ∷ texts) rest stands led =
     let (u, one, more) = append_led s t end text (calls_to_append_all (end + (5 + length text)) texts) rest.faultless led in
     subst (StandsFor t.file) (append_assoc bodies (text ∷ []) texts) (grown_by u t (bodies ++ text ∷ []) (end + (5 + length text)) texts one.at_rest (one.grown bodies stands) more)
 
--- and their records stand behind those from before
+-- and their records follow those from before
 pub appends_stand : (s t : State) (bodies texts : List (List ℕ)) → IsAtRest s → StandsFor s.file bodies → CallsLead s (made (calls_to_append_all (length (blocks bodies)) texts)) t → StandsFor t.file (bodies ++ texts)
 appends_stand s t bodies texts rest stands led = grown_by s t bodies (length (blocks bodies)) texts rest (stands_to s.file bodies stands) led
 
 -- ---- a stop in one of the calls
 
--- how many records stand in an image of a stop in the call of this number, from 0
+-- how many records are in an image of a stop in the call of this number, from 0
 abbrev standing_at : ℕ → ℕ → ℕ
 standing_at place image = place / 4 + (if image == 1 && nat_le 2 (place % 4) then 1 else 0)
 
@@ -111,7 +111,7 @@ standing_more place image =
     let part : suc (suc (suc (suc place))) % 4 ≡ place % 4 = omega arith in
     rw (whole, part) (omega arith)
 
--- A stop came in the call of this number, and that many records stand.
+-- A stop came in the call of this number, and that many records are kept.
 record StopsAppending (s t : State) (bodies texts : List (List ℕ)) : Type 0 where
   place : ℕ
   image : Image
@@ -119,7 +119,7 @@ record StopsAppending (s t : State) (bodies texts : List (List ℕ)) : Type 0 wh
   stops : StopsAt s t place image
   stands : StandsFor t.file (bodies ++ take (standing_at place (image_number image)) texts)
 
--- the record at hand doesn't stand yet
+-- the current record isn't there yet
 in_block : (s t : State) (bodies : List (List ℕ)) (body : List ℕ) (texts : List (List ℕ)) (end place : ℕ) (image : Image) → StandsTo s.file bodies end
     → t.file ≡ left_by image (written_at (synced_as s.file) s.file (end + 1) (length (closed_block body))) (overwritten s.file (end + 1) (closed_block body))
     → place < 4 → standing_at place (image_number image) ≡ 0 → StopsAt s t place image → StopsAppending s t bodies (body ∷ texts)
@@ -133,7 +133,7 @@ in_block s t bodies body texts end place image stands left h none stops =
       stands = rw (none, append-nil bodies) kept;
     }
 
--- it stands where the open gate does
+-- it is where the open gate does
 in_gate : (s s2 t : State) (bodies : List (List ℕ)) (body : List ℕ) (texts : List (List ℕ)) (end place : ℕ) (image : Image) → StandsTo s.file bodies end
     → s2.file ≡ overwritten s.file (end + 1) (closed_block body) → t.file ≡ left_by image (written_at (synced_as s2.file) s2.file end 1) (overwritten s2.file end (1 ∷ []))
     → place < 4 → standing_at place (image_number image) ≡ opened_in image → StopsAt s t place image → StopsAppending s t bodies (body ∷ texts)

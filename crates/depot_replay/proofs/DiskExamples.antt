@@ -10,7 +10,7 @@ use Rattle.depot_outside.specs.declared.stops.Image.TheVariants as image
 use Rattle.depot_world.specs.ScheduleStops.{standing_after}
 use Rattle.depot_replay.specs.Disks.{IsAtRest, pending_of}
 
--- how many records of two stand, by the call in which the stop comes, and the image
+-- how many of two records are kept, by the call in which the stop comes, and the image
 behind_the_gate : standing_after (record { call = 2; image = 1 }) ≡ 0
 unfolding standing_after
 behind_the_gate = refl
@@ -31,7 +31,7 @@ in_the_second = refl
 abbrev waiting : Image → State
 waiting left = record { file = 0 ∷ []; unsynced = synced_as (0 ∷ []); next = Some (record { call = 3; image = left }); fails = []; made = 0 }
 
--- the disk behind the stop, with this file
+-- the disk after the stop, with this file
 abbrev stopped_as : List ℕ → State
 stopped_as file = record { file = file; unsynced = synced_as file; next = None; fails = []; made = 3 }
 
@@ -67,12 +67,12 @@ fails_at_gate left t is = record {
   );
 }
 
--- all that was written: the record stands
+-- all that was written: the record is kept
 written_leaves : FailsAmong CallsLead (waiting image.Written) (stopped_as (1 ∷ 0 ∷ 0 ∷ 0 ∷ 1 ∷ 7 ∷ 0 ∷ [])) (calls_to_append_all 0 ((7 ∷ []) ∷ []))
 unfolding after_call done_by done_before_stop framed numeral
 written_leaves = fails_at_gate image.Written (stopped_as (1 ∷ 0 ∷ 0 ∷ 0 ∷ 1 ∷ 7 ∷ 0 ∷ [])) refl
 
--- what was synced last: the block behind a closed gate
+-- what was synced last: the block after a closed gate
 synced_leaves : FailsAmong CallsLead (waiting image.Synced) (stopped_as (0 ∷ 0 ∷ 0 ∷ 0 ∷ 1 ∷ 7 ∷ 0 ∷ [])) (calls_to_append_all 0 ((7 ∷ []) ∷ []))
 unfolding after_call done_by done_before_stop framed numeral
 synced_leaves = fails_at_gate image.Synced (stopped_as (0 ∷ 0 ∷ 0 ∷ 0 ∷ 1 ∷ 7 ∷ 0 ∷ [])) refl

@@ -1,4 +1,4 @@
--- The file of a journal while a record is appended, and what a stop leaves of it.
+-- The file of a journal while a record is appended, and the crash images of it.
 use Rattle.std.proofs.Common.{◌≡◌, ◌≤◌, ◌<◌, ℕ, ◌+◌, List, [], ◌∷◌, ◌++◌, length, length-append, take, drop, refl, sym, ap, subst, ◌∙◌, arith, append_assoc, append-nil}
 use Rattle.std.proofs.lemmas.List.{take_at, take-append-drop}
 use Rattle.depot_base.specs.File.{StandsFor, blocks, closed_block}
@@ -12,7 +12,7 @@ use Rattle.depot_outside.specs.declared.stops.Image.TheVariants as image
 use Rattle.depot_outside.proofs.Blank.{blank_before, blank_parts}
 use Rattle.depot_outside.proofs.Written.{written_is_torn}
 
--- the closed gate behind these records has this offset
+-- the closed gate after these records has this offset
 pub stands_to : (file : List ℕ) (bodies : List (List ℕ)) → StandsFor file bodies → StandsTo file bodies (length (blocks bodies))
 stands_to file bodies (gate, rest, closed, parts) = (gate, rest, closed, parts, refl)
 
@@ -22,9 +22,9 @@ inside file bodies end (gate, rest, closed, parts, at) = omega (arith, ap length
 up_to_gate : (file : List ℕ) (bodies : List (List ℕ)) (end : ℕ) → StandsTo file bodies end → take end file ≡ blocks bodies
 up_to_gate file bodies end (gate, rest, closed, parts, at) = ap (take end) parts ∙ take_at (blocks bodies) (gate ∷ rest) end (sym at)
 
--- ---- what a stop leaves while the block is written behind the gate
+-- ---- the crash images while the block is written after the gate
 
--- the same records stand in a file that is the same as far as the gate
+-- the same records are in a file that is the same as far as the gate
 same_front : (old new : List ℕ) (bodies : List (List ℕ)) (end : ℕ) → StandsTo old bodies end → take (end + 1) new ≡ take (end + 1) old → StandsTo new bodies end
 same_front old new bodies end (gate, rest, closed, parts, at) same =
     let split : old ≡ (blocks bodies ++ gate ∷ []) ++ rest = parts ∙ sym (append_assoc (blocks bodies) (gate ∷ []) rest) in
@@ -44,7 +44,7 @@ block_left image.Blanked file block bodies end s =
     let new : List ℕ = overwritten file (end + 1) block in
     same_front file (blank (end + 1) (length block) new) bodies end s (blank_before (end + 1) (length block) new ∙ front_written file block (end + 1) (omega (arith, inside file bodies end s)))
 
--- ---- what a stop leaves while the gate is opened
+-- ---- the crash images while the gate is opened
 
 -- a gate of 255 is closed
 gate_blank : (file : List ℕ) (bodies : List (List ℕ)) (end : ℕ) → StandsTo file bodies end → StandsFor (blank end 1 (overwritten file end (1 ∷ []))) bodies
@@ -59,7 +59,7 @@ gate_blank file bodies end s =
 block_written : (s0 s1 body : List ℕ) (bodies : List (List ℕ)) (end : ℕ) → StandsTo s0 bodies end → s1 ≡ overwritten s0 (end + 1) (closed_block body) → StandsTo s1 bodies end
 block_written s0 s1 body bodies end s w = subst (λ (x : List ℕ). StandsTo x bodies end) (sym w) (block_left image.Written s0 (closed_block body) bodies end s)
 
--- how many of a record whose gate is being opened stand in an image
+-- how many of a record whose gate is being opened are in an image
 abbrev pub opened_in : Image → ℕ
 opened_in image.Synced = 0
 opened_in image.Written = 1

@@ -1,4 +1,4 @@
--- Calls on a disk in memory, and the stop that waits on it.
+-- Calls on a disk in memory, and the stop that is set on it.
 use Rattle.std.proofs.Common.{◌≡◌, ◌↔◌, ◌≤◌, ◌<◌, ◌⊎◌, ℕ, zero, suc, ◌-◌, List, [], ◌∷◌, ◌++◌, nat_le, Bool, true, false, Option, None, Some, Contains, refl, sym, ap, subst, ◌∙◌, inl, inr, arith}
 use Rattle.std.proofs.lemmas.Bool.{leb-true, leb-false, le-leb, lt-leb}
 use Rattle.std.proofs.lemmas.Option.{same_Some}
@@ -65,7 +65,7 @@ waits_a_call (Some stop) a none is =
     let same : record { call = stop.call; image = image_number stop.image } ≡ a = cc in
     subst (WaitsOn (pending_of (Some stop)) (pending_of (counted_down (Some stop)))) same (record { later = h; waits = ap pending_of (nearer stop h) })
 
--- The stop that waits comes in the call of this number, from 0, and leaves this image.
+-- The stop that is set comes in the call of this number, from 0, and leaves this image.
 pub record ComesIn (next : Option Stop) (place : ℕ) (image : Image) : Type 0 where
   pub pending : PendingStop
   pub waits : pending_of next ≡ Some pending

@@ -23,7 +23,7 @@ abbrev WriteNothing : List Call → Type 0
 WriteNothing [] = ⊤
 WriteNothing (call ∷ calls) = WritesNothing call × WriteNothing calls
 
--- the disk is at rest, and its file is as before
+-- the disk is at rest, and its file is unchanged
 record IsLeft (s t : State) : Type 0 where
   at_rest : IsAtRest t
   same : t.file ≡ s.file

@@ -1,4 +1,4 @@
--- When the stop that waits comes.
+-- When the stop that is set comes.
 use Rattle.std.proofs.Common.{◌≡◌, ◌≤◌, ◌<◌, ℕ, suc, ◌-◌, List, [], ◌∷◌, length, Option, None, Some, sym, ap, subst, ◌∙◌, inl, inr, arith}
 use Rattle.std.proofs.lemmas.Option.{same_Some}
 use Rattle.depot_base.specs.Calls.{Call, made, FailsAmong}
@@ -27,7 +27,7 @@ nearer_after s t (call ∷ calls) a led waits =
     let less : a.call - 1 - length calls ≡ a.call - length (call ∷ calls) = omega arith in
     nearer_after u t calls (record { call = a.call - 1; image = a.image }) more (ap pending_of gone.next_is ∙ on.waits) ∙ ap (λ (n : ℕ). Some (record { call = n; image = a.image })) less
 
--- and it comes behind them, where the next call has the number 1
+-- and it comes after them, where the next call has the number 1
 pub comes_after : (s t : State) (calls : List Call) (a : PendingStop) → CallsLead s (made calls) t → pending_of s.next ≡ Some a → 1 ≤ a.call → length calls < a.call
 comes_after s t [] a led waits from_one = from_one
 comes_after s t (call ∷ calls) a led waits from_one =
@@ -79,7 +79,7 @@ none_fails s t calls rest none f =
     let wrong : None ≡ Some w.stops.comes.pending = sym none ∙ w.stops.comes.waits in
     cc
 
--- and where it comes behind these calls
+-- and where it comes after these calls
 pub none_fails_yet : (s t : State) (calls : List Call) (a : PendingStop) → IsAtRest s → pending_of s.next ≡ Some a → length calls < a.call → FailsAmong CallsLead s t calls → ⊥
 none_fails_yet s t calls a rest waits behind f =
     let w = stops_within s t calls rest.faultless (fails_in s t calls f) in

@@ -1,4 +1,4 @@
--- What an event of a hosted node came to: it went as it goes, or a stop fell into it.
+-- The outcome of an event of a hosted node: it went without a crash, or a stop fell into it.
 use Rattle.std.proofs.Common.{◌≡◌, ℕ, ◌*◌, List, [], ◌++◌, append_assoc, length, length-append, take, drop, false, true≢false, Option, None, Result, Ok, Err, IfOk, IsOk, refl, sym, ap, subst, ◌∙◌, arith}
 use Rattle.std.proofs.Math.Seq.{drop-append_seam}
 use Rattle.std.proofs.lemmas.List.{append-nil, take-append-drop}
@@ -27,13 +27,13 @@ use Rattle.depot_replay.proofs.MemHostLaws.{IsCut, IsToCome, calls_counted, cut_
 
 -- ---- what is printed of it
 
--- where an event came to something, something was printed
+-- where an event had an outcome, something was printed
 pub if_printed : {T X E F : Type 0} (r : Result T E) (printed : Result X F) (P : X → T → Type 0) (Q : T → Type 0) → ((x : X) (t : T) → printed ≡ Ok x → P x t → Q t) → IfOk r (λ _. IsOk printed) → IfOk r (λ t. IfOk printed (λ x. P x t)) → IfOk r Q
 if_printed (Ok t) (Ok x) P Q so ok p = so x t refl p
 if_printed (Ok t) (Err e) P Q so ok p = absurd (true≢false (sym ok))
 if_printed (Err e) printed P Q so ok p = tt
 
--- what is so of what was printed
+-- what holds of what was printed
 pub of_printed : {X E : Type 0} (printed : Result X E) (P : X → Type 0) → ((x : X) → printed ≡ Ok x → P x) → IfOk printed P
 of_printed (Ok x) P so = so x refl
 of_printed (Err e) P so = tt
@@ -85,7 +85,7 @@ module _ {v : ActorView} {s t : State} {K longer : List Record} {failed : Type 0
       came_well setup x d v w s t (calls_to_record v.journal c.new) lines bytes mem_host c.pending c.begun.kept.to_come whole.1 (counted d a ∙ sym (calls_counted v.journal c.new))
       (record { here = then.here; sign = then.sign; journal = then.journal ∙ whole.0 ∙ sym a.journal; pending_is = then.pending_is }) is gives
 
-  -- what a stop leaves of it
+  -- the crash images of it
   pub cut_of : failed → IsCut s t v.journal c.new
   cut_of f = cut_short s t v.journal c.new c.begun.kept (c.part f)
 
@@ -125,7 +125,7 @@ cut_ends p none c w lines bytes then is gives setup x d mem_host a print = subst
 
 -- ---- a hosted node
 
--- a node stands where it was started
+-- a node is where it was started
 pub same_setting : (verifies : Verifies) (me own : ℕ) (listed given : List RosterEntry) → me ≡ own → listed ≡ given → ◌≡◌ {A = Setting} (record { verifies = verifies; me = me; listed = listed }) (record { verifies = verifies; me = own; listed = given })
 same_setting verifies me own listed given is_me is_listed = λ i. record { verifies = verifies; me = is_me i; listed = is_listed i }
 

@@ -100,7 +100,7 @@ kept_after s t J new kept led = record {
   to_come = to_come_after s t (calls_to_record J new) kept.to_come led;
 }
 
--- the event went as it goes, and the stop that waits is so many calls nearer
+-- the event went without a crash, and the stop that is set is so many calls nearer
 pub went_well : (x : Host) (d : Effect) (s t : State) (calls : List Call) → x.pending ≡ pending_of s.next → IsToCome s → CallsLead s (made calls) t → d.calls ≡ length calls → event_result x d ≡ result_by x (pending_of t.next) d
 unfolding event_result
 went_well x d s t calls same to_come led count = by_pending (pending_of s.next) refl where
@@ -118,7 +118,7 @@ pub went_cut : (x : Host) (d : Effect) (s t : State) (cut : Stopped s t d.calls)
 unfolding event_result
 went_cut x d s t cut same = rw (same ∙ cut.waited, le-leb cut.pending.call d.calls cut.within) refl
 
--- Of the records that were to be appended those stand that a run says, and no stop waits.
+-- Of the records to be appended, as many are kept as a run says, and no stop is set.
 pub record IsCut (s t : State) (J new : List Record) : Type 0 where
   pub stopped : Stopped s t (4 * length new)
   pub kept : IsKeptOn t (J ++ take (standing_after stopped.pending) new)

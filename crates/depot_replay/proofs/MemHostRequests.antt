@@ -1,4 +1,4 @@
--- What a hosted node does that is asked for something, whatever that is.
+-- What a hosted node does when asked, whatever the request.
 use Rattle.std.proofs.Common.{◌≡◌, ◌↔◌, ℕ, List, ◌++◌, Option, Some, None, Result, Ok, Err, refl, sym, ap, subst, ◌∙◌}
 use Rattle.std.specs.Prelude.{IsErrOf}
 use Rattle.depot_base.specs.Format.{whole}

@@ -1,4 +1,4 @@
--- A hosted node that is started again from its disk.
+-- A hosted node is started again from its disk.
 use Rattle.std.proofs.Common.{◌≡◌, ℕ, zero, suc, take, ◌-◌, List, [], ◌++◌, length, None, refl, sym, ap, ◌∙◌}
 use Rattle.std.specs.Prelude.{codes}
 use Rattle.std.proofs.Math.Seq.{drop-length}

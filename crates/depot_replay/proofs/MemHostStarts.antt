@@ -80,7 +80,7 @@ stopped_begun here s t J begun x = same_begun here s t J begun x.stopped.at_rest
 
 -- ---- a start from an empty disk
 
--- what stands on it then is a closed gate
+-- after that comes a closed gate
 record IsGated (t : State) (more : List Call) : Type 0 where
   gated : State
   at_rest : IsAtRest gated
@@ -173,7 +173,7 @@ memory_or_disk (refused.OtherNode node) spared = absurd (spared tt)
 memory_or_disk (refused.OtherRoster kept given) spared = absurd (spared tt)
 memory_or_disk (refused.NotLawful place fault) spared = absurd (spared tt)
 
--- from the records of a lawful journal it is for want of memory, where no call fails
+-- from the records of a lawful journal only memory can be lacking, if no call fails
 only_memory : (here : Setting) (s t : State) (J : List Record) (e : StartError) → HasRecords J s.file → IsLawful here J → SparesLawful here s e → (e ≡ refused.Disk → FailsToStart here s t) → (FailsAmong CallsLead s t (calls_to_start_node here s.file J) → ⊥) → e ≡ refused.Memory
 only_memory here s t J e has l spares fails well = elim (memory_or_disk e (spares J has l)) [ inl memory ↦ memory | inr disk ↦ absurd (well (fails disk J has)) ]
 
@@ -190,7 +190,7 @@ again_wants here s t e was spares fails =
     let begun = was.begun in
     only_memory here s t was.journal e (has_records here s.file was.journal begun.lawful begun.kept.stand) begun.lawful spares fails (none_fails s t (calls_to_start_node here s.file was.journal) begun.kept.at_rest was.none_waits)
 
--- and where the stop comes behind the start
+-- and where the stop comes after the start
 pub behind_wants : (here : Setting) (s u t : State) (J : List Record) (call image : ℕ) (e : StartError) → 1 ≤ call → image ≤ 2 → IsBegunOn here u J → u ≡ record s { next = Some (record { call = call + 3; image = image_of_number image }) } → SparesLawful here u e
     → (e ≡ refused.Disk → FailsToStart here u t) → e ≡ refused.Memory
 behind_wants here s u t J call image e from_one small begun is spares fails =

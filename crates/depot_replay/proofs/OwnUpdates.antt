@@ -70,7 +70,7 @@ own_by_seq here J seq l = ap (λ (us : List Update). first_update (filter (has_s
 both_parts : (me seq : ℕ) (us vs : List Update) → of_seq me seq (us ++ vs) ≡ of_seq me seq us ++ of_seq me seq vs
 both_parts me seq us vs = ap (filter (has_seq seq)) (filter-append (is_by me) us vs) ∙ filter-append (has_seq seq) (filter (is_by me) us) (filter (is_by me) vs)
 
--- it is found behind some that it isn't among
+-- it is found after some that it isn't among
 pub found : (me seq : ℕ) (us : List Update) (i : ℕ) (u : Update) → slice_get us i ≡ Some u → of_seq me seq (take i us) ≡ [] → u.writer ≡ me → u.seq ≡ seq → first_update (of_seq me seq us) ≡ Some u
 found me seq us i u at before writer number =
     ap (λ (x : List Update). first_update (of_seq me seq x)) (parts_at us i u at)

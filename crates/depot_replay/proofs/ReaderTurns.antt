@@ -1,4 +1,4 @@
--- What is told of readers that are made of a hosted node, and of what they take.
+-- What is printed of readers that are made of a hosted node, and of what they take.
 use Rattle.std.proofs.Common.{◌≡◌, ℕ, List, Option, Some, None, Result, Ok, Err, sym, ap, subst}
 use Rattle.std.specs.Prelude.{OnOk}
 use Rattle.depot_base.specs.declared.record.Record.{Record}

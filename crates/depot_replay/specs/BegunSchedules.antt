@@ -1,4 +1,4 @@
--- A schedule whose events stand apart.
+-- A schedule whose events are apart.
 use Rattle.std.specs.Prelude.{List}
 use Rattle.depot_schedule.specs.declared.event.Event.{Event}
 use Rattle.depot_schedule.specs.declared.schedule.Schedule.{Schedule}

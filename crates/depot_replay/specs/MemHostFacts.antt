@@ -1,4 +1,5 @@
--- That a disk is at rest and has the records of a journal is a fact with one proof at most, so that a type can keep it.
+-- That a disk is at rest and has the records of a journal, as a fact with at most one proof, so that a type can hold
+-- it.
 use Rattle.std.specs.Prelude.{◌≡◌, ℕ, List, refl}
 use Rattle.std.specs.Coded.{Coded, Coded-set, code_by, coded×, coded_ℕ, coded_list, Π_prop, →_prop, le_prop}
 use Rattle.depot_base.specs.declared.record.Record.{Record}

@@ -1,4 +1,4 @@
--- A node that is hosted: how its disk stands between two events, and what a call on it came to.
+-- A hosted node: its disk between two events, and the outcome of a call on it.
 use Rattle.std.specs.Prelude.{◌≡◌, ◌≤◌, ◌<◌, ℕ, ◌-◌, List, [], ◌∷◌, ◌++◌, length, map, take, false, Some, None, slice_get, codes}
 use Rattle.depot_base.specs.Calls.{FailsAmong, made}
 use Rattle.depot_base.specs.File.{blocks}
@@ -19,25 +19,25 @@ use Rattle.depot_replay.specs.Disks.{IsAtRest, pending_of}
 
 -- ---- its disk
 
--- These records stand in the file behind open gates, and the gate behind them is closed.
+-- The file has these records after open gates, and then a closed gate.
 pub record StandIn (file : List ℕ) (bodies : List (List ℕ)) : Type 0 where
   pub inside : length (blocks bodies) < length file
   pub front : take (length (blocks bodies)) file ≡ blocks bodies
   pub closed : slice_get file (length (blocks bodies)) ≡ Some 1 → ⊥
 
--- The disk is at rest and has these records, and a stop that waits comes in a call to come.
+-- The disk is at rest and has these records, and a stop that is set comes in a later call.
 pub record IsKeptOn (s : State) (J : List Record) : Type 0 where
   pub at_rest : IsAtRest s
   pub stand : StandIn s.file (map text_of_record J)
   pub to_come : (a : PendingStop) → pending_of s.next ≡ Some a → 1 ≤ a.call
 
--- The records are those of a node that has begun, and the disk has them.
+-- The records are those of a started node, and the disk has them.
 pub record IsBegunOn (here : Setting) (s : State) (J : List Record) : Type 0 where
   pub lawful : IsLawful here J
   pub some : is_empty J ≡ false
   pub kept : IsKeptOn s J
 
--- The node was stopped: its disk has the records of a journal that has begun, and no stop waits.
+-- The node was stopped: its disk has the records of a started journal, and no stop is set.
 pub record WasStopped (here : Setting) (s : State) : Type 0 where
   pub journal : List Record
   pub begun : IsBegunOn here s journal
@@ -45,7 +45,8 @@ pub record WasStopped (here : Setting) (s : State) : Type 0 where
 
 -- ---- a start
 
--- A node was started from a disk in memory, and has this journal: by the calls that start it from the records of the file, and by no other.
+-- A node was started from a disk in memory and has this journal, by the calls that start it from the records of the
+-- file and no others.
 pub record IsStartedIn (here : Setting) (s t : State) (records : List Record) : Type 0 where
   pub from : IsStartedFrom here s.file records
   pub calls : (J : List Record) → HasRecords J s.file → CallsLead s (made (calls_to_start_node here s.file J)) t
@@ -54,13 +55,13 @@ pub record IsStartedIn (here : Setting) (s t : State) (records : List Record) : 
 abbrev pub FailsToStart : Setting → State → State → Type 0
 FailsToStart here s t = (J : List Record) → HasRecords J s.file → FailsAmong CallsLead s t (calls_to_start_node here s.file J)
 
--- no start is refused for what stands in the file of a lawful journal
+-- no start is refused for what is in the file of a lawful journal
 abbrev pub SparesLawful : Setting → State → StartError → Type 0
 SparesLawful here s e = (J : List Record) → HasRecords J s.file → IsLawful here J → LeavesFile e → ⊥
 
 -- ---- a call
 
--- A call on a node that was seen so, and had this disk, was to make its journal a longer one. It did so, or it failed on the disk while
+-- A call on a node seen as this, with this disk, was to extend its journal. It did so, or it failed on the disk while
 -- it appended.
 pub record IsCalled (v : ActorView) (s t : State) (K longer : List Record) (failed : Type 0) : Type 0 where
   pub pending : v.pending ≡ pending_of s.next
@@ -88,8 +89,8 @@ pub record Appends (d : Effect) (J longer : List Record) : Type 0 where
 abbrev pub stopped_line : List Record → List ℕ
 stopped_line J = ended (32 ∷ text_of_number (codes "stopped records") (length J))
 
--- A node that was stopped was started again from its disk, and is hosted: it is seen so, and these are the lines of the event into which the
--- stop fell, and the bytes that it gives a label.
+-- A stopped node was started again from its disk, and is hosted: it is seen as this, and these are the lines of the
+-- event into which the stop fell, and the bytes for a label.
 pub record IsHostedAgain (here : Setting) (sign : Signs) (s : State) (w : ActorView) (lines bytes : List ℕ) : Type 0 where
   pub here_is : w.here ≡ here
   pub sign_is : w.sign ≡ sign

@@ -1,4 +1,4 @@
--- What is printed of an event of a node, and what it comes to.
+-- What is printed of a node's event, and the event's outcome.
 use Rattle.std.specs.Prelude.{◌≡◌, ℕ, List, IfOk, Option, Some, None, Result, Ok}
 use Rattle.depot_base.specs.declared.record.Record.{Record}
 use Rattle.depot_model.specs.Bundle.{Signs}
@@ -16,7 +16,7 @@ use Rattle.depot_simulation.specs.Acting.{CameTo, IsHosted, ActorView}
 use Rattle.depot_simulation.specs.declared.actor.EventOutcome.{EventOutcome}
 use Rattle.depot_replay.specs.MemHosts.{Appends, IsCalled}
 
--- these are the lines of an event that goes as it goes, and the bytes that it gives a label
+-- these are the lines of an event without a crash, and its bytes for a label
 abbrev pub IsPrintedSo : Option Printed → Effect → Type 0
 IsPrintedSo None d = Unit {0}
 IsPrintedSo (Some p) d = (p.lines ≡ lines_after_arrow d.answer d.behind) × (p.bytes ≡ d.bytes)
@@ -26,13 +26,13 @@ abbrev pub PrintsReply : Result Reply Halt → Option Printed → Type 0
 PrintsReply replied None = Unit {0}
 PrintsReply replied (Some p) = (r : Reply) × ((replied ≡ Ok r) × ((p.lines ≡ lines_of_reply r) × (p.bytes ≡ bytes_of_reply r)))
 
--- What an event comes to that was to make the journal of a node a longer one: the node after it, the lines, and the bytes for a label. It is
--- printed so, or a stop fell into it.
+-- The outcome of an event that was to extend the journal of a node: the node after it, the lines, and the bytes for a
+-- label. It is printed as it goes, or a stop fell into it.
 abbrev pub EndsAs : ActorView → List Record → Option Printed → ActorView → List ℕ → List ℕ → Type 0
 EndsAs v longer printed w lines bytes = (setup : Setup) (x : Host) (d : Effect) → IsHosted setup x v → Appends d v.journal longer → IsPrintedSo printed d → CameTo setup (event_result x d) w lines bytes
 
--- Of whatever node stood so and signed so before a call that left this disk and these records: what the event comes to in which it was
--- called, where something is printed of it.
+-- For any node with this setting and signer before a call that left this disk and these records: the outcome of the
+-- event of that call, if something is printed of it.
 abbrev pub EndsCall : {A E : Type 0} → Setting → Signs → State → List Record → Result (Option Printed) E → (A → ActorView) → EventOutcome A → Type 0
 EndsCall here sign t K printed view outcome = IfOk printed (λ p. (v : ActorView) (s : State) (longer : List Record) → v.here ≡ here → v.sign ≡ sign
     → IsCalled v s t K longer (p ≡ None) → EndsAs v longer p (view outcome.actor) outcome.lines outcome.bytes)

@@ -1,10 +1,10 @@
 //! Replays schedules: every correct node runs over a disk in memory, and the transcript is written line by line.
 //!
-//! What a schedule makes happen is defined in `depot_world`, event by event. `depot_simulation` plays it over correct nodes that it knows by their
-//! contract alone (`Actor`); here is the node that is one: a `MemHost`, a node of `depot_node` over a disk in memory, which is
-//! started again where a stop falls into an event. A reader of it is a `MemHostReader`, which `depot_trim` keeps. `replaying` makes the signers
-//! and the roster, hosts the nodes and plays all events. The transcript is the defined one, `transcript_of`; after an error a front of it
-//! went out.
+//! `depot_world` defines what a schedule makes happen, event by event. `depot_simulation` plays it over correct nodes
+//! that it knows by their contract alone (`Actor`). Here is such a node: a `MemHost`, a node of `depot_node` over a
+//! disk in memory, which is started again after a stop in an event. Its readers are `MemHostReader`s, which keep a
+//! reader of `depot_trim`. `replaying` makes the signers and the roster, hosts the nodes and plays all events. The
+//! transcript is the defined one, `transcript_of`; after an error a prefix of it went out.
 #![tactic(auto)]
 
 mod mem_host;

@@ -28,7 +28,7 @@ use depot_traces::{ReadTrace, Trace};
 use depot_trim::trim;
 use std::alloc::Global;
 
-/// How many calls on a disk start a node from a journal that has begun.
+/// How many disk calls start a node from a journal that isn't empty.
 const START_CALLS: u32 = 3;
 
 /// What a node is started with, the first time and again.
@@ -42,7 +42,8 @@ struct StartConfig<S: Scheme + Copy, G: Signer<Of = S> + Copy> {
     ghost keyed: { key_of roster me ≡ Some (G.key_of signer) } by { HasKey-prop roster me (G.key_of signer) },
 }
 
-/// A correct node over a disk in memory. Between two events it isn't stopped, and its disk is at rest and has its journal.
+/// A correct node over a disk in memory. Between two events it isn't stopped, and its disk is at rest and has its
+/// journal.
 #[derive(Drop)]
 pub struct MemHost<S: Scheme + Copy, G: Signer<Of = S> + Copy> {
     node: Node<MemDisk, S, G>,
@@ -91,7 +92,7 @@ impl<S: Scheme + Copy, G: Signer<Of = S> + Copy> StartConfig<S, G> {
         }
     }
 
-    /// Hosts the node of which a start was refused, by a stop or for want of memory. Where a stop fell into it, it is started again.
+    /// Hosts a node whose start was refused, by a stop or for want of memory. After a stop it is started again.
     fn refused(self, back: Back<StartError, MemDisk>) -> Result<EventOutcome<MemHost<S, G>>, Memory>
         requires spared { LeavesFile back.error → ⊥ }
         requires stopped { back.error ≡ start_error.Disk → WasStopped (placed S.verifies self.me self.roster) (state_of back.disk) }
@@ -105,8 +106,8 @@ impl<S: Scheme + Copy, G: Signer<Of = S> + Copy> StartConfig<S, G> {
         }
     }
 
-    /// Hosts a node behind a call, with what is printed of it. Where a stop fell into the call, nothing is printed of that, and the node is
-    /// started again. Where memory is wanting for what is printed, the node is gone.
+    /// Hosts a node after a call, with what is printed of the call. If a stop fell into the call, nothing is printed of
+    /// it, and the node is started again. If no memory is found for what is printed, the node is gone.
     fn hosted(
         self,
         node: Node<MemDisk, S, G>,
@@ -148,7 +149,7 @@ fn wanting(back: Back<StartError, MemDisk>) -> Memory
     }
 }
 
-/// What an event came to for a node, with what is printed of it. Where memory is wanting for that, the node is gone.
+/// The outcome of a node's event, with what is printed of it. If no memory is found for that, the node is gone.
 fn event_outcome<A: Drop>(
     actor: A,
     printed: Result<Printed, Memory>,
@@ -164,7 +165,7 @@ fn event_outcome<A: Drop>(
     })
 }
 
-/// What is printed of a start: a number of records behind a name. It gives a label nothing.
+/// What is printed of a start: a name and a number of records. It gives a label nothing.
 fn counted_printed(alloc: Global, name: &str, count: u32) -> Result<Printed, Memory>
     ensures lines { IfOk result (λ p. p.lines ≡ ended (spaced (text_of_number name.now count))) }
     ensures bytes { IfOk result (λ p. p.bytes ≡ []) }

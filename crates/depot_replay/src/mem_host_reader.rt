@@ -36,7 +36,7 @@ impl<S: Scheme> Reading for MemHostReader<S> {
     }
 }
 
-/// What a node answered where a reader was to be made of it, with the reader. Where no memory was found for it, that is answered.
+/// What a node answered when a reader was to be made of it, with the reader; or that no memory was found for it.
 pub fn trimming<S: Scheme>(
     alloc: Global,
     made: Result<Trimmed<S>, TrimError>,

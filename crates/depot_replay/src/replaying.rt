@@ -1,4 +1,4 @@
-//! A schedule is played over nodes on disks in memory, and its transcript is written.
+//! Plays a schedule over nodes on disks in memory, and writes its transcript.
 ghost use Rattle.std.specs.Prelude.{◌≡◌, ◌++◌, ℕ, take, IsTrue, OnOk, OnErr, IsErrOf};
 ghost use Rattle.depot_base.specs.Faults.{HasCause};
 ghost use Rattle.depot_base.specs.Reading.{AddsFrontOf};
@@ -18,8 +18,8 @@ use depot_simulation::{ReplayError, any_asks_right_history, begun, play_all};
 use depot_winter::WinterScheme;
 use std::alloc::Global;
 
-/// Plays a schedule, each of its correct nodes over a disk in memory, and writes its transcript, the lines of each event after the
-/// event was done. After an error a front of the transcript went out. An event is given up once it was played.
+/// Plays a schedule, each correct node over a disk in memory, and writes its transcript: the lines of each event once
+/// it was done. After an error a prefix of the transcript went out. An event is dropped once it was played.
 pub fn replay<K: Sink>(alloc: Global, schedule: Schedule, out: &mut K) -> Result<(), ReplayError>
     requires { IsSchedule schedule }
     ensures done { IsTrue (K.tells out.old) → OnOk result (K.written out.new ≡ K.written out.old ++ transcript_of schedule) }
@@ -55,7 +55,7 @@ fn replay_with<S: Scheme + Copy, G: Signer<Of = S>, K: Sink>(
     ensures faultless { K.is_faultless out.old → K.is_faultless out.new × (K.faults out.new ≡ K.faults out.old) }
 {
     let roster = roster_of(alloc, &schedule, signers)?;
-    // The events are taken apart from the members, which stay, so that each can be given up once it was played.
+    // The events are moved out, and the members stay, so that each event can be dropped once it was played.
     let Schedule {
         winter,
         height,

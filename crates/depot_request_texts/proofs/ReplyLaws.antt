@@ -66,7 +66,7 @@ own_text_lawful {V = V} f m l = record {
   early = λ bytes k fault. whole_early f m l bytes k fault;
 }
 
--- ---- what stands behind a kind
+-- ---- what follows a kind
 
 handed_text_lawful : LawfulClosed handed_text (17 + most_handed)
 unfolding handed_text
@@ -122,7 +122,7 @@ is_refused : (r : Reply) (why : Reason) → as_refused r ≡ Some why → r ≡ 
 is_refused (reply.Refused w) why is = let p : w ≡ why = cc in ap (λ (x : Reason). reply.Refused x) p
 is_refused r why is = absurd cc
 
--- ---- and tells the kind
+-- ---- and determines the kind
 
 done_kind : (fits : PutDone → Type 0) (r : Reply) → HasPart fits (as_done r) → reply_kind r ≡ 1
 done_kind fits (reply.Put done) h = refl

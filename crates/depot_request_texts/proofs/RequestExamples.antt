@@ -1,4 +1,4 @@
--- Worked examples of requests: what is read, and where bytes go wrong.
+-- Worked examples of requests: what is read, and the offset of the first fault.
 use Rattle.std.proofs.Common.{◌≡◌, ℕ, List, [], ◌∷◌, ◌++◌, replicate, Option, Some, None, Ok, Err, Result, refl}
 use Rattle.std.specs.Prelude.{codes}
 use Rattle.depot_base.specs.Closed.{rest_of}
@@ -47,7 +47,7 @@ record WhereTheyGoWrong : Type 0 where
   pub falls : reads (1 ∷ 2 ∷ 1 ∷ 108 ∷ 0 ∷ 1 ∷ 107 ∷ 0 ∷ []) ≡ Err 5
   pub of_receipt : reads (1 ∷ 1 ∷ 40 ∷ codes "receipt:" ++ id ++ (0 ∷ [])) ≡ Err 2
   pub cut : reads (1 ∷ 1 ∷ 1 ∷ 107 ∷ 1 ∷ 0 ∷ 0 ∷ 0 ∷ 2 ∷ 118 ∷ []) ≡ Err 9
-  -- a key of no bytes; bytes behind a hello and a checkpoint
+  -- a key of no bytes; bytes after a hello and a checkpoint
   pub no_key : reads (2 ∷ 0 ∷ []) ≡ Err 1
   pub behind_hello : reads (3 ∷ 3 ∷ []) ≡ Err 1
   pub behind_checkpoint : reads (8 ∷ 8 ∷ []) ≡ Err 1

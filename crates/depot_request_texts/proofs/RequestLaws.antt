@@ -67,7 +67,7 @@ is_sign : (r : Request) (text : List ℕ) → as_sign r ≡ Some text → r ≡ 
 is_sign (request.Sign t) text e = let p : t ≡ text = cc in ap (λ (x : List ℕ). request.Sign x) p
 is_sign r text e = absurd cc
 
--- ---- what stands behind a kind tells it
+-- ---- what follows a kind determines it
 
 put_kind : (fits : List Change → Type 0) (r : Request) → HasPart fits (as_put r) → request_kind r ≡ 1
 put_kind fits (request.Put changes) h = refl

@@ -1,4 +1,4 @@
--- The texts of what replies tell are lawful.
+-- The texts of the contents of replies are lawful.
 use Rattle.std.proofs.Common.{◌≡◌, ℕ, zero, suc, ◌+◌, ◌*◌, ◌≤◌, Bool, true, false, eqb, List, length, Option, Some, None, refl, sym, ap, subst, ◌∙◌, arith}
 use Rattle.std.specs.Int.{w8, w32, w64}
 use Rattle.depot_answers.specs.declared.exchange_answers.Closing.{Closing}

@@ -3,7 +3,7 @@ use Rattle.std.specs.Prelude.{◌≡◌, List, ℕ, Ok}
 use Rattle.depot_base.specs.Closed.{Closed}
 use Rattle.depot_base.specs.Format.{Format, FirstFault, whole, ◌>>=◌}
 
--- the last field, which may take all that is left, and the value that is made of it
+-- the last field, which may take all remaining bytes, and the value made of it
 abbrev pub last_field : {A V : Type 0} → (A → V) → (V → A) → Closed A → Closed V
 last_field make part f = record {
   fits = λ v. f.fits (part v) × (v ≡ make (part v));

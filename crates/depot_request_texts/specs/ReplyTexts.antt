@@ -1,4 +1,4 @@
--- The texts of replies: a kind, and what the kind calls for; and the message that has it.
+-- The texts of replies: a kind, and what the kind calls for; and the messages with these texts.
 use Rattle.std.specs.Prelude.{ℕ, List, ◌++◌, length, Bool, Option, Some, None, ◌==◌}
 use Rattle.std.specs.Int.{w8, w32}
 use Rattle.depot_answers.specs.declared.exchange_answers.Closing.{Closing}
@@ -16,7 +16,7 @@ use Rattle.depot_requests.specs.declared.reply.Reply.TheVariants as reply
 use Rattle.depot_request_texts.specs.ClosedParts.{last_field, own_text}
 use Rattle.depot_request_texts.specs.TellingTexts.{closing_text, counts_text, done_text, flag_text, reason_text, stream_report}
 
--- ---- what each kind of reply tells
+-- ---- what each kind of reply has
 
 abbrev pub as_done : Reply → Option PutDone
 as_done (reply.Put done) = Some done
@@ -50,9 +50,9 @@ abbrev pub as_refused : Reply → Option Reason
 as_refused (reply.Refused why) = Some why
 as_refused r = None
 
--- ---- the text behind the kind
+-- ---- the text after the kind
 
--- the most bytes that a reply hands out, so that each offset in its text is told in four bytes
+-- the most bytes that a reply hands out, so that each offset in its text fits into four bytes
 abbrev pub most_handed : ℕ
 most_handed = 4294967200
 
@@ -86,7 +86,7 @@ reply_kind (reply.Settled enough) = 6
 reply_kind (reply.Checkpoint done text) = 7
 reply_kind (reply.Refused why) = 8
 
--- what stands behind a kind
+-- what follows a kind
 unfoldable pub told_behind : ℕ → Closed Reply
 told_behind kind =
     closed_choose (kind == 1) (closed_variant (λ done. reply.Put done) as_done (closing done_text))
@@ -98,13 +98,13 @@ told_behind kind =
     (closed_choose (kind == 7) (closed_variant (λ c. reply.Checkpoint c.0 c.1) as_checkpoint checkpoint_text)
     (closed_variant (λ why. reply.Refused why) as_refused (closing reason_text))))))))
 
--- a kind, and what stands behind it
+-- a kind, and what follows it
 unfoldable pub reply_text : Closed Reply
 reply_text = before (number w8 1 8) reply_kind told_behind
 
 -- ---- the message
 
--- The message of a reply: how many bytes its text has, as four bytes, and its text. Each reply has one, whether or not it is in the ranges of its
--- fields.
+-- The message of a reply: the length of its text, as four bytes, and its text. Each reply has one, whether or not it is
+-- in the ranges of its fields.
 abbrev pub text_of_reply : Reply → List ℕ
 text_of_reply r = numeral w32 (length (reply_text.text r)) ++ reply_text.text r

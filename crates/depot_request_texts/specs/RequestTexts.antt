@@ -28,7 +28,7 @@ abbrev pub as_bundle : Request → Option (List ℕ)
 as_bundle (request.Bundle hello) = Some hello
 as_bundle r = None
 
--- a text has no size of pieces: of streams that are taken in pieces of 65,536 bytes there are texts
+-- a text has no size of pieces: only streams taken in pieces of 65,536 bytes have texts
 abbrev pub as_take : Request → Option (List ℕ)
 as_take (request.Take stream piece) = when (piece == STREAM_PIECE) stream
 as_take r = None
@@ -45,7 +45,7 @@ abbrev pub as_sign : Request → Option (List ℕ)
 as_sign (request.Sign text) = Some text
 as_sign r = None
 
--- ---- the text behind the kind
+-- ---- the text after the kind
 
 -- an id, and a number of nodes
 unfoldable pub settled_text : Format (List ℕ × ℕ)
@@ -65,7 +65,7 @@ request_kind (request.Settled id k) = 7
 request_kind request.Checkpoint = 8
 request_kind (request.Sign text) = 9
 
--- what stands behind a kind; a hello, a stream and a checkpoint's text are all that is left of a message
+-- what follows a kind; a hello, a stream and a checkpoint's text take the rest of a message
 unfoldable pub asked_behind : ℕ → Closed Request
 asked_behind kind =
     closed_choose (kind == 1) (closed_variant (λ cs. request.Put cs) as_put (closing changes_text))
@@ -78,7 +78,7 @@ asked_behind kind =
     (closed_choose (kind == 8) (closing (made_of_fields request.Checkpoint))
     (closed_variant (λ text. request.Sign text) as_sign (rest_of (MOST_MESSAGE - 1))))))))))
 
--- a kind, and what stands behind it
+-- a kind, and what follows it
 unfoldable pub request_text : Closed Request
 request_text = before (number w8 1 9) request_kind asked_behind
 

@@ -1,4 +1,4 @@
--- The texts of what replies tell: what was put, what was counted, refused and met.
+-- The texts of the contents of replies: what was put, counted, refused and met.
 use Rattle.std.specs.Prelude.{ℕ, zero, suc, List, [], length, Bool, true, false, Option, Some, None, ◌==◌}
 use Rattle.std.specs.Int.{w8, w16, w32, w64}
 use Rattle.depot_answers.specs.declared.exchange_answers.Closing.{Closing}
@@ -71,7 +71,7 @@ full_text =
 
 -- ---- a check that failed: its number, and what it carries
 
--- the number, the node, the ids and the kind that a check carries; where it has none, 0, 1, no bytes and the first kind
+-- the number, the node, the ids and the kind that a check carries; else 0, 1, no bytes and the first kind
 abbrev pub number_carried : Check → ℕ
 number_carried (check.IllFormed at) = at
 number_carried (check.WrongDep place) = place
@@ -135,7 +135,7 @@ carries_node make = field node_number node_carried λ n. made_of_fields (make n)
 abbrev pub carries_id : (List ℕ → Check) → Format Check
 carries_id make = field digest id_carried λ id. made_of_fields (make id)
 
--- one that carries two ids, and the kind of a contradiction behind them
+-- one that carries two ids, and the kind of a contradiction after them
 abbrev pub carries_two : Format Check
 carries_two =
     field digest id_carried λ given.
@@ -149,7 +149,7 @@ carries_fork =
     field (number w8 1 4) (λ c. number_of_kind (kind_carried c)) λ kind.
     made_of_fields (check.Forked kept came (kind_of_number kind))
 
--- what stands behind the number of a check
+-- what follows the number of a check
 unfoldable pub check_behind : ℕ → Format Check
 check_behind byte =
     choose (byte == 1) (carries_u32 (λ at. check.IllFormed at))
@@ -174,7 +174,7 @@ check_text = field (number w8 1 16) check_byte check_behind
 
 -- ---- what became of a stream
 
--- how it ended; behind 5 the bytes that stand open
+-- how it ended; after 5 the bytes that are open
 abbrev pub ending_byte : Ending → ℕ
 ending_byte ending.Closed = 1
 ending_byte ending.Whole = 2
@@ -199,7 +199,7 @@ ending_behind byte = choose (byte == 5) (field any_u32_text bytes_open λ n. mad
 unfoldable pub ending_text : Format Ending
 ending_text = field (number w8 1 5) ending_byte ending_behind
 
--- why its feed was closed: 0 where it wasn't, 1 and the offset of what is no frame, 2 and what was full
+-- why its feed was closed: 0 if it wasn't, 1 and the offset of what is no frame, 2 and what was full
 abbrev pub closing_byte : Option Closing → ℕ
 closing_byte None = 0
 closing_byte (Some (closing.IllFormed at)) = 1
@@ -229,11 +229,11 @@ refusal_text =
     field check_text (λ r. r.check) λ check.
     made_of_fields (record { frame = frame; check = check })
 
--- refused frames may stand in any order
+-- refused frames may occur in any order
 abbrev pub refusal_follows : Option Refusal → Refusal → Bool
 refusal_follows before r = true
 
--- how many frames were new, and known; the ending; and the refused frames behind their count
+-- how many frames were new, and known; the ending; and the refused frames preceded by their count
 unfoldable pub stream_report : Format Report
 stream_report =
     field any_u32_text (λ r. r.accepted) λ accepted.

@@ -13,7 +13,7 @@ use depot_base::{Change, Changes, Fields, Key, Value};
 use depot_lines::spelling::{is_checkpoint_key, is_receipt_key};
 use std::alloc::Global;
 
-/// A key behind its length.
+/// A key preceded by its length.
 #[tactic(auto, unfolding(crate::specs::ChangeTexts::key_text))]
 fn key_in(alloc: Global, fields: &mut Fields<'_>) -> Result<Key, Fault>
     ensures stays { GoesOn fields.old fields.new }
@@ -51,7 +51,7 @@ fn change_in(alloc: Global, fields: &mut Fields<'_>) -> Result<Change, Fault>
     })
 }
 
-/// Whether a change may stand behind another, or first.
+/// Whether a change may follow another, or be first.
 fn may_follow(before: Option<&Change>, change: &Change) -> bool
     ensures { result ≡ change_follows (option_copied before.entry) change.now }
 {
@@ -65,7 +65,7 @@ fn may_follow(before: Option<&Change>, change: &Change) -> bool
     }
 }
 
-/// So many changes, each of which may follow the one before it. Room is found for no more than there are bytes left.
+/// So many changes, each of which may follow the one before it. It allocates for no more than there are bytes left.
 #[tactic(auto, unfolding(depot_base::specs::Format::list_of))]
 fn changes_in(alloc: Global, fields: &mut Fields<'_>, count: u8) -> Result<Changes, Fault>
     ensures { Reads result fields.new ((list_of count change_text change_follows).read fields.old) }
@@ -83,7 +83,7 @@ fn changes_in(alloc: Global, fields: &mut Fields<'_>, count: u8) -> Result<Chang
     Ok(Changes::from_vec(list))
 }
 
-/// Changes behind their count, of all the bytes that are left.
+/// Changes preceded by their count, of all the bytes that are left.
 #[tactic(auto, unfolding(crate::specs::ChangeTexts::changes_text))]
 pub fn whole_changes(alloc: Global, fields: &mut Fields<'_>) -> Result<Changes, Fault>
     ensures { Gives result (whole changes_text fields.old) }

@@ -1,7 +1,7 @@
 //! The texts of requests and of replies (docs/FORMATS.md, "Requests").
 //!
-//! Each is a byte that says its kind, and the fields that the kind calls for. `specs/RequestTexts.antt` and `specs/ReplyTexts.antt` describe them
-//! once. A text is that of one request, for which a node may be asked, or goes wrong at one place.
+//! Each is a byte for its kind, and the kind's fields. `specs/RequestTexts.antt` and `specs/ReplyTexts.antt` describe
+//! them once. A text is that of one request, for which a node may be asked, or goes wrong at one place.
 #![tactic(auto)]
 
 mod changes;

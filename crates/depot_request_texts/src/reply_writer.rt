@@ -56,7 +56,8 @@ fn put_reply(out: &mut Bytes, reply: &Reply) -> Result<(), Memory>
     }
 }
 
-/// The message of a reply: the length of its text in four bytes, and its text. Where that has more than 4,294,967,295 bytes, memory is said to lack.
+/// Encodes the message of a reply: the length of its text in four bytes, and its text. If that has more than
+/// 4,294,967,295 bytes, it returns `Memory`.
 pub fn encode_reply(alloc: Global, reply: &Reply) -> Result<Bytes, Memory>
     ensures { IfOk result (λ text. text ≡ text_of_reply reply.now) }
 {

@@ -19,10 +19,10 @@ use depot_requests::Request;
 use depot_source::MOST_MESSAGE;
 use std::alloc::Global;
 
-/// How many bytes a piece has, of which a stream is taken that a request brings.
+/// In pieces of how many bytes the stream in a request is taken.
 pub const STREAM_PIECE: u32 = 65_536;
 
-/// The most bytes behind the kind of a request.
+/// The most bytes after the kind of a request.
 const MOST_REST: usize = MOST_MESSAGE as usize - 1;
 
 /// All the bytes that are left.
@@ -47,7 +47,7 @@ fn ids_in(alloc: Global, fields: &mut Fields<'_>, count: u8) -> Result<Ids, Faul
     Ok(Ids::from_vec(ids))
 }
 
-/// Ids behind their count, of all the bytes that are left.
+/// Ids preceded by their count, of all the bytes that are left.
 #[tactic(auto, unfolding(crate::specs::ChangeTexts::ids_text))]
 pub fn whole_ids(alloc: Global, fields: &mut Fields<'_>) -> Result<Ids, Fault>
     ensures { Gives result (whole ids_text fields.old) }
@@ -57,7 +57,7 @@ pub fn whole_ids(alloc: Global, fields: &mut Fields<'_>) -> Result<Ids, Fault>
     at_end(fields, ids)
 }
 
-/// An id and a number of nodes, and nothing behind them.
+/// An id and a number of nodes, and nothing after them.
 #[tactic(auto, unfolding(crate::specs::RequestTexts::settled_text))]
 fn whole_settled(fields: &mut Fields<'_>) -> Result<(Hash32, u32), Fault>
     ensures { Gives result (whole settled_text fields.old) }
@@ -67,7 +67,7 @@ fn whole_settled(fields: &mut Fields<'_>) -> Result<(Hash32, u32), Fault>
     at_end(fields, (id, k))
 }
 
-/// What stands behind a kind.
+/// What follows a kind.
 #[tactic(auto, unfolding(crate::specs::RequestTexts::asked_behind))]
 fn asked_in(alloc: Global, fields: &mut Fields<'_>, kind: u8) -> Result<Request, Fault>
     requires least { 1 ≤ kind }
@@ -103,8 +103,8 @@ fn request_of(alloc: Global, fields: &mut Fields<'_>) -> Result<Request, Fault>
     asked_in(alloc, fields, kind)
 }
 
-/// The request whose text this is. `IllFormed` comes exactly where it is no request's text, with the offset of the first fault, 0 of no bytes and of
-/// an unknown kind. A node may be asked for each request that is given.
+/// Decodes the text of a request. `IllFormed` is returned exactly when it is no request's text, with the offset of the
+/// first fault, 0 for no bytes and for an unknown kind. A node may be asked for each request that is returned.
 pub fn decode_request(alloc: Global, body: &[u8]) -> Result<Request, DecodeError>
     ensures decodes { DecodesClosed request_text body.now result }
     ensures finds { FindsRequest body.now result }

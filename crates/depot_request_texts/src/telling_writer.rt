@@ -180,7 +180,7 @@ fn put_refusal(out: &mut Bytes, refusal: &Refusal) -> Result<(), Memory>
     put_check(out, &refusal.check)
 }
 
-/// Refused frames, one behind another.
+/// Refused frames, one after another.
 fn put_refusals(out: &mut Bytes, refused: &[Refusal]) -> Result<(), Memory>
     ensures { OnOk result (out.new ≡ out.old ++ flat_map refusal_text.text refused.now) }
 {
@@ -190,7 +190,7 @@ fn put_refusals(out: &mut Bytes, refused: &[Refusal]) -> Result<(), Memory>
     Ok(())
 }
 
-/// What became of a stream. Of more than 4,294,967,295 refused frames none is written: memory is said to lack for them.
+/// Writes what became of a stream. With more than 4,294,967,295 refused frames it writes none and returns `Memory`.
 #[tactic(auto, using(depot_base::proofs::Writing::texts), unfolding(crate::specs::TellingTexts::stream_report, depot_base::specs::Format::number, depot_base::specs::Format::list_of))]
 pub fn put_report(out: &mut Bytes, report: &Report) -> Result<(), Memory>
     ensures { OnOk result (out.new ≡ out.old ++ stream_report.text report.now) }

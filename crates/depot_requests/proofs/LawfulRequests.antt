@@ -1,4 +1,4 @@
--- With what a request brings a journal is lawful.
+-- A journal with what a request brings is lawful.
 use Rattle.std.proofs.Common.{◌≡◌, ℕ, Bool, true, false, not, cond, List, ◌++◌, Option, Some, None, Result, Ok, Err, refl, arith}
 use Rattle.std.specs.Str.{bytes_eq}
 use Rattle.depot_base.specs.Format.{whole}

@@ -1,4 +1,4 @@
--- What a request comes to.
+-- The outcome of a request, by kind.
 use Rattle.std.proofs.Common.{◌≡◌, ℕ, false, List, ◌++◌, Option, Some, None, refl, ap}
 use Rattle.depot_answers.specs.Closings.{closing_of}
 use Rattle.depot_answers.specs.declared.exchange_answers.Closing.{Closing}
@@ -27,7 +27,7 @@ use Rattle.depot_requests.specs.declared.request.Request.TheVariants as request
 
 -- ---- a put
 
--- what a put comes to that meets this limit, or none
+-- the outcome of a put that meets this limit, or none
 pub put_within : (here : Setting) (sign : Signs) (J : List Record) (changes : List Change) (o : Option Limit) → limit_of_put here J changes ≡ o → served here sign J (request.Put changes) ≡ put_served here J changes o
 unfolding served
 put_within here sign J changes o is = ap (put_served here J changes) is
@@ -41,19 +41,19 @@ put_lawful here J changes l some are none =
 
 -- ---- a bundle
 
--- what a bundle comes to that is answered so
+-- the outcome of a bundle with this answer
 pub bundle_as : (here : Setting) (sign : Signs) (J : List Record) (hello : List ℕ) (a : BundleAnswer) → bundle_answer here sign J hello ≡ a → served here sign J (request.Bundle hello) ≡ bundle_served J a
 unfolding served
 bundle_as here sign J hello a is = ap (bundle_served J) is
 
 -- ---- a stream
 
--- what a stream comes to
+-- the outcome of a stream
 pub stream_as : (here : Setting) (sign : Signs) (J : List Record) (stream : List ℕ) (piece : ℕ) → served here sign J (request.Take stream piece) ≡ stream_served (feed_of here J stream)
 unfolding served
 stream_as here sign J stream piece = refl
 
--- why a feed was closed is told as it is
+-- why a feed was closed is reported as it is
 pub closing_is_told : (o : Option Closing) → closing_told (closing_of o) ≡ o
 closing_is_told None = refl
 closing_is_told (Some (closing.IllFormed at)) = refl
@@ -100,7 +100,7 @@ served_grows here sign J (request.Settled id k) = grown_none J
 served_grows here sign J request.Checkpoint = checkpoint_grows here J (make_of here J)
 served_grows here sign J (request.Sign text) = sign_grows here J text (opened_text here J text)
 
--- ---- requests that come to a put
+-- ---- requests that lead to a put
 
 pub receipts_put : (here : Setting) (sign : Signs) (J : List Record) (ids : List (List ℕ)) → no_receipt J ids ≡ None → served here sign J (request.Receipt ids) ≡ served here sign J (request.Put (receipt_changes ids))
 unfolding served

@@ -1,4 +1,4 @@
--- What an operation comes to at a correct node of a world.
+-- The outcome of an operation at a correct node of a world.
 use Rattle.std.specs.Prelude.{ℕ, ◌*◌, List, [], ◌∷◌, ◌++◌, length}
 use Rattle.std.specs.List.{flat_map}
 use Rattle.depot_base.specs.declared.record.Record.{Record}
@@ -8,8 +8,8 @@ use Rattle.depot_model.specs.Checkpoints.{checkpoint_key}
 use Rattle.depot_model.specs.World.{Read}
 use Rattle.depot_model.specs.ShownWrites.{shown_of}
 
--- An operation as it goes where no stop falls into it: the journal and the reads after it, how many calls it makes of the disk, what
--- is printed behind the arrow and on lines of their own, and the bytes that it hands out.
+-- An operation without a crash: the journal and the reads after it, how many disk calls it makes, what is printed after
+-- the arrow and on lines of their own, and the bytes that it hands out.
 pub record Effect : Type 0 where
   pub journal : List Record
   pub reads : List Read
@@ -18,7 +18,7 @@ pub record Effect : Type 0 where
   pub behind : List (List ℕ)
   pub bytes : List ℕ
 
--- a record is appended by four calls: its body is written, synced, its gate is written, synced
+-- appending a record takes four calls: its body is written, synced, its gate is written, synced
 abbrev pub calls_for_records : ℕ → ℕ
 calls_for_records records = 4 * records
 
@@ -26,7 +26,7 @@ calls_for_records records = 4 * records
 abbrev pub ended : List ℕ → List ℕ
 ended line = line ++ 10 ∷ []
 
--- what is printed from the arrow on: the answer, and the lines behind it
+-- what is printed from the arrow on: the answer, and the lines after it
 abbrev pub lines_after_arrow : List ℕ → List (List ℕ) → List ℕ
 lines_after_arrow answer behind = ended answer ++ flat_map ended behind
 

@@ -1,4 +1,4 @@
--- What a request comes to at a node.
+-- The outcome of a request at a node.
 use Rattle.std.specs.Prelude.{◌≡◌, ◌≤◌, ℕ, ◌-◌, List, [], ◌∷◌, ◌++◌, length, true, nat_le, Option, Some, None}
 use Rattle.std.specs.List.{flat_map}
 use Rattle.depot_base.specs.Pairs.{AllPairsByRecursion}
@@ -55,7 +55,7 @@ CarriesBytes (request.Take stream piece) = AreBytes stream
 CarriesBytes (request.Sign text) = AreBytes text
 CarriesBytes other = Unit {0}
 
--- ---- what it comes to
+-- ---- its outcome
 
 -- the journal after a request, and the reply
 pub record Served : Type 0 where
@@ -71,7 +71,7 @@ abbrev pub put_served : Setting → List Record → List Change → Option Limit
 put_served here J changes (Some met) = refused_by J (reason.Limit (limit_told met))
 put_served here J changes None = record { journal = J ++ put_records here J changes; reply = reply.Put (put_done_of (next_own here.me J changes)) }
 
--- the words of the writes that a read shows, each behind a space
+-- the words of the writes that a read shows, each preceded by a space
 abbrev pub words_read : List Record → List ℕ → List ℕ
 words_read J key = flat_map (λ w. spaced (text_of_write w)) (shown_of J key)
 
@@ -113,7 +113,7 @@ checkpoint_served here J no_leaves = refused_by J reason.Empty
 checkpoint_served here J (many_leaves n) = refused_by J (reason.Many n)
 checkpoint_served here J (made_text text) = handing text (put_served here J (checkpoint_changes text) (limit_of_put here J (checkpoint_changes text)))
 
--- What a request comes to, by where the node stands, how it signs and what its journal is.
+-- The outcome of a request, by the node's setting, its signer and its journal.
 unfoldable pub served : Setting → Signs → List Record → Request → Served
 served here sign J (request.Put changes) = put_served here J changes (limit_of_put here J changes)
 served here sign J (request.Get key) = record { journal = J; reply = reply.Read (words_read J key) }
@@ -127,7 +127,7 @@ served here sign J (request.Sign text) = sign_served here J text (opened_text he
 
 -- ---- the same at a correct node of a world, which keeps its reads
 
--- its reads behind a request
+-- its reads after a request
 abbrev pub reads_after : Correct → Request → List Read
 reads_after c (request.Get key) = c.reads ++ read_at_end c.journal key ∷ []
 reads_after c other = c.reads
@@ -142,6 +142,7 @@ effect_by c reads s = record {
   bytes = bytes_of_reply s.reply;
 }
 
--- The effect of a request: the journal and the reads after it, how many calls it makes of the disk, what is printed, and what it hands out.
+-- The effect of a request: the journal and the reads after it, how many disk calls it makes, what is printed, and what
+-- it hands out.
 unfoldable pub effect_of : Setting → Signs → Correct → Request → Effect
 effect_of here sign c r = effect_by c (reads_after c r) (served here sign c.journal r)

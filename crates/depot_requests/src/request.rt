@@ -15,7 +15,8 @@ pub enum Request {
     Hello,
     /// To make a bundle for the bytes of a hello.
     Bundle(Bytes),
-    /// To take a stream, handed to the feed in pieces of so many bytes, at least 1. In which pieces doesn't matter to what it comes to.
+    /// To take a stream, handed to the feed in pieces of so many bytes, at least 1. The pieces don't matter to the
+    /// outcome.
     Take { stream: Bytes, piece: u32 },
     /// To give receipts for 1 to 16 ids, rising strictly.
     Receipt(Ids),

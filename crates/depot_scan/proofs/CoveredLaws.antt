@@ -1,4 +1,4 @@
--- What going through the updates leaves uncovered are the latest writes.
+-- The walk over the updates leaves just the latest writes uncovered.
 use Rattle.std.proofs.Common.{◌≡◌, ℕ, List, [], ◌∷◌, Bool, true, not, ◌&&◌, ◌||◌, refl, sym, ap, subst, ◌∙◌, inl, inr, ◌⊎◌}
 use Rattle.std.proofs.lemmas.Bool.{or_cases, or_left, or_right, and_parts, and_from, not-true, both_ways, cases_Bool}
 use Rattle.depot_base.specs.declared.update.Update.{Update}
@@ -50,7 +50,7 @@ covered_precedes key among (x ∷ xs) known t t_in e =
 abbrev Reaches : List Update → Update → Update → Type 0
 Reaches us w v = (w ≡ v) ⊎ Precedes us w v
 
--- a first step from the first of the list, and how it goes on behind it
+-- a first step from the first of the list, and how it goes on after it
 record Step (x : Update) (xs : List Update) (v : Update) : Type 0 where
   pub to : Update
   pub on : IsIn to xs

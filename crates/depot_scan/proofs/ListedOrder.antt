@@ -1,4 +1,4 @@
--- What is sorted in the listed order rises strictly, where no id stands twice.
+-- What is sorted in the listed order rises strictly, if no id occurs twice.
 use Rattle.std.proofs.Common.{◌≡◌, ℕ, ◌+◌, ◌<◌, List, [], ◌∷◌, length, get_or, Bool, true, false, not, ◌&&◌, cond, map, reverse, refl, sym, ap, subst, ◌∙◌, arith, inl, inr}
 use Rattle.std.specs.List.{AllByRecursion, IsDistinct}
 use Rattle.std.specs.List.Sorted.{IsPermutation, IsSortedBy, IsStrictlySortedBy}
@@ -70,7 +70,7 @@ distinct_ranks key ids (x ∷ xs) c = pick (writes_key key x && not (covers key 
 below : (a b : List ℕ) → is_lt (compared b a) ≡ false → bytes_eq a b ≡ false → compared a b ≡ Less
 below a b not_above apart = less_is _ (below_or_above b a not_above (bytes_eq_comm b a ∙ apart))
 
--- the ranks of sorted bodies, one behind the other
+-- the ranks of sorted bodies, one after the other
 adjacent : (bs : List Body) → IsSortedBy stands_before bs → IsDistinct bytes_eq (ranks (updates bs)) → (k : ℕ) → k + 1 < length (ranks (updates bs)) → compared (get_or (ranks (updates bs)) k []) (get_or (ranks (updates bs)) (k + 1) []) ≡ Less
 adjacent [] sorted distinct k lt = absurd (omega arith)
 adjacent (b ∷ bs) sorted distinct k lt =

@@ -21,7 +21,7 @@ use Rattle.depot_model.proofs.Members.{all_push}
 use Rattle.depot_scan.specs.ScannedLog.{fault_of, ReadsFront, ReadsLog}
 use Rattle.depot_scan.specs.declared.body.Body.{Body}
 
--- ---- the body in front
+-- ---- the leading body
 
 abbrev pub failing : Fault → Result (Body × Bor (List ℕ)) Fault
 failing f = Err f
@@ -32,16 +32,16 @@ refused e = Err e
 abbrev given : Update → Result Update DecodeError
 given u = Ok u
 
--- the length in front, told again
+-- the leading length, reported again
 told_again : (bytes : List ℕ) → IsBytes bytes → 4 ≤ length bytes → numeral w32 (told bytes) ≡ take 4 bytes
 unfolding numeral
 told_again bytes fits long = wide32.back (take 4 bytes) (omega (arith, length-take 4 bytes)) (IsBytes-take 4 bytes fits)
 
--- the length in front is cut short
+-- the leading length is cut short
 pub front_cut : (bytes : List ℕ) (at : ℕ) (c d : Cursor) → c ≡ cursor 0 bytes → 0 < length bytes → TakesNumber w32 c None d → ReadsFront bytes at (failing (At at))
 front_cut bytes at c d start some t = (0, (omega arith, inl (refl, inl (some, omega (arith, t.0, ap (λ (x : Cursor). length x.rest) start)))))
 
--- the length that was taken from the front, and what is left
+-- the leading length was taken, and what is left
 record Told (bytes : List ℕ) (n : ℕ) (d : Cursor) : Type 0 where
   pub long : 4 ≤ length bytes
   pub is : n ≡ told bytes
@@ -56,13 +56,13 @@ taken bytes c d n start t =
       rest = ap (λ (x : Cursor). x.rest) t.2 ∙ ap (drop 4) all;
     }
 
--- the length in front runs past the end
+-- the leading length runs past the end
 pub front_past : (bytes : List ℕ) (at : ℕ) (c d e : Cursor) (n : ℕ) → c ≡ cursor 0 bytes → TakesNumber w32 c (Some n) d → TakesBytes n d None e → ReadsFront bytes at (failing (At at))
 front_past bytes at c d e n start t b =
     let l = taken bytes c d n start t in
     (0, (omega arith, inl (refl, inr (l.long, omega (arith, b.0, ap length l.rest, l.is)))))
 
--- the error of the body behind the length in front
+-- the error of the body after the leading length
 pub front_failed : (bytes text : List ℕ) (at : ℕ) (c d e : Cursor) (n : ℕ) (error : DecodeError) → c ≡ cursor 0 bytes → TakesNumber w32 c (Some n) d → TakesBytes n d (Some text) e → Decodes update_body text (refused error) → ReadsFront bytes at (failing (fault_of (at + 4) error))
 front_failed bytes text at c d e n errors.Memory start t b read = tt
 front_failed bytes text at c d e n (errors.IllFormed k) start t b read =
@@ -71,7 +71,7 @@ front_failed bytes text at c d e n (errors.IllFormed k) start t b read =
     let there : told bytes ≤ length (drop 4 bytes) = omega (arith, b.0, ap length l.rest, l.is) in
     (4 + k, (omega arith, inr (k, (refl, record { long = l.long; there = there; fault = subst (λ (x : List ℕ). FirstFault update_body x k) is (read.ill_formed k refl) }))))
 
--- the body behind the length in front, and what is left
+-- the body after the leading length, and what is left
 pub front_found : (bytes text : List ℕ) (at : ℕ) (c d e : Cursor) (n : ℕ) (u : Update) (rest : List ℕ) → IsBytes bytes → c ≡ cursor 0 bytes → TakesNumber w32 c (Some n) d → TakesBytes n d (Some text) e → Decodes update_body text (given u) → rest ≡ e.rest
     → bytes ≡ numeral w32 (length (text_of_update u)) ++ (text_of_update u ++ rest)
 front_found bytes text at c d e n u rest fits start t b read is_rest =
@@ -147,12 +147,12 @@ reads_fault log us rest at (At offset) r place bad =
       first = λ k f. inr (ap (λ (o : ℕ). none_given (At o)) (one_log_fault log offset k fault f));
     }
 
--- what is left behind a body is shorter
+-- what is left after a body is shorter
 pub front_shorter : (bytes : List ℕ) (u : Update) (rest : List ℕ) → IsUpdate u → bytes ≡ numeral w32 (length (text_of_update u)) ++ (text_of_update u ++ rest) → length rest < length bytes
 front_shorter bytes u rest fits is =
     let f = front bytes u rest (record { fits = fits; is = is }) in
     omega (arith, f.long, ap length f.behind, length-append (text_of_update u) rest, length-drop 4 bytes)
 
--- what is left stands within the log
+-- what is left is within the log
 pub left_within : (log : List ℕ) (us : List Update) (rest : List ℕ) → IsRead log us rest → length rest ≤ length log
 left_within log us rest r = omega (arith, ap length r.parts, length-append (text_of_log us) rest)

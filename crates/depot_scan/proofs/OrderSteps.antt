@@ -1,4 +1,4 @@
--- Steps of going through a log in its order.
+-- Steps of checking the order of a log.
 use Rattle.std.proofs.Common.{◌≡◌, ℕ, ◌+◌, List, [], ◌∷◌, ◌++◌, Bool, true, false, ◌||◌, map, length, Some, None, refl, sym, ap, subst, ◌∙◌, append_assoc, arith}
 use Rattle.std.specs.List.{list_all}
 use Rattle.std.specs.Str.{bytes_eq}
@@ -45,7 +45,7 @@ pub record Kept (bodies left kept : List Body) (known : List ℕ → Bool) : Typ
   pub all : updates kept ++ firsts_behind (ids_of kept) (updates left) ≡ firsts (updates bodies)
   pub same : HaveSame known (ids_of kept)
 
--- a body whose id stands earlier is left out
+-- a body whose id occurs earlier is left out
 pub kept_again : (bodies left kept : List Body) (b : Body) (known new : List ℕ → Bool) → Kept bodies (b ∷ left) kept known → known b.id ≡ true → HasMore (b.id ∷ []) known new → Kept bodies left kept new
 unfolding firsts_behind
 kept_again bodies left kept b known new k there more =
@@ -102,7 +102,7 @@ ordering_none bodies known none = record {
   at = omega arith;
 }
 
--- a body whose parents stand before it
+-- a body whose parents precede it
 orphan_more : (b : Body) (left : List Body) (known : List ℕ → Bool) (before : List (List ℕ)) (place : ℕ) → HaveSame known before → list_all known (parents b.update) ≡ true
     → orphan_behind before place (updates (b ∷ left)) ≡ orphan_behind (before ++ b.id ∷ []) (place + 1) (updates left)
 unfolding orphan_behind
@@ -121,7 +121,7 @@ ordering_more bodies left kept after b known new place o all absent more is = re
   at = omega (arith, o.at);
 }
 
--- its id stands earlier
+-- its id occurs earlier
 pub ordering_again : (bodies left kept : List Body) (b : Body) (known new : List ℕ → Bool) (place : ℕ) → Ordering bodies (b ∷ left) kept known place → list_all known (parents b.update) ≡ true
     → known b.id ≡ true → HasMore (b.id ∷ []) known new → Ordering bodies left kept new (place + 1)
 ordering_again bodies left kept b known new place o all there more = record {
@@ -132,7 +132,7 @@ ordering_again bodies left kept b known new place o all there more = record {
   at = omega (arith, o.at);
 }
 
--- a body with a parent that doesn't stand before it
+-- a body with a parent that doesn't precede it
 pub ordering_here : (bodies left kept : List Body) (b : Body) (known : List ℕ → Bool) (place : ℕ) → Ordering bodies (b ∷ left) kept known place → list_all known (parents b.update) ≡ false → first_orphan (updates bodies) ≡ Some place
 unfolding orphan_behind
 ordering_here bodies left kept b known place o not_all =

@@ -7,13 +7,13 @@ use Rattle.depot_scan.specs.Bodies.{updates}
 use Rattle.depot_scan.specs.declared.log_order.Ordered.{Ordered}
 use Rattle.depot_scan.specs.declared.log_order.Ordered.TheVariants.{InOrder, Orphan}
 
--- each parent stands before its child, and these are the updates without repeats
+-- each parent precedes its child, and these are the updates without repeats
 pub record AreFirstUpdates (us kept : List Update) : Type 0 where
   pub whole : first_orphan us ≡ None
   pub are : kept ≡ firsts us
   pub causal : IsCausal [] kept
 
--- what ordering the updates of a log comes to
+-- the outcome of ordering the updates of a log
 abbrev pub OrdersTo : List Update → Ordered → Type 0
 OrdersTo us (InOrder kept) = AreFirstUpdates us (updates kept.items)
 OrdersTo us (Orphan place) = first_orphan us ≡ Some place

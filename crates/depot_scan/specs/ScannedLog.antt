@@ -1,4 +1,4 @@
--- What reading a log, and the body at its front, answers.
+-- What reading a log, and the body at its beginning, answers.
 use Rattle.std.specs.Prelude.{◌≡◌, ℕ, ◌+◌, List, ◌++◌, length, Result, Ok, Err, ◌⊎◌}
 use Rattle.std.specs.Borrow.{Bor}
 use Rattle.std.specs.Int.{w32}
@@ -12,23 +12,23 @@ use Rattle.depot_model.specs.Texts.{text_of_update}
 use Rattle.depot_model.specs.Log.{IsLog, GoesWrong, IsLogFault}
 use Rattle.depot_scan.specs.declared.body.Body.{Body}
 
--- the fault of a body, told from the start of the log in which it stands at this offset
+-- the fault of a body at this offset of a log, counted from the start of the log
 abbrev pub fault_of : ℕ → DecodeError → Fault
 fault_of start errors.Memory = Memory
 fault_of start (errors.IllFormed offset) = At (start + offset)
 
--- What reading the body in front of some bytes, which stand at an offset, answers: the body that stood there behind its
--- length, with the bytes behind it; or the offset at which that goes wrong.
+-- What reading the body at the beginning of some bytes, which are at an offset, answers: the body after its length,
+-- with the remaining bytes; or the offset of the first fault.
 abbrev pub ReadsFront : List ℕ → ℕ → Result (Body × Bor (List ℕ)) Fault → Type 0
 ReadsFront bytes at (Ok (body, rest)) = bytes ≡ numeral w32 (length (text_of_update body.update)) ++ (text_of_update body.update ++ rest.now)
 ReadsFront bytes at (Err Memory) = Unit {0}
 ReadsFront bytes at (Err (At offset)) = (later : ℕ) × ((offset ≡ at + later) × GoesWrong bytes later)
 
--- What reading a log answers. Memory may run out in place of each answer.
+-- What reading a log answers. `Memory` may replace each answer.
 pub record ReadsLog (log : List ℕ) (result : Result (List Update) Fault) : Type 0 where
-  -- what is given are the updates of the log, and those of a log are given
+  -- the updates of the log are returned, and any that are returned are those of the log
   pub found : (us : List Update) → result ≡ Ok us → IsLog log us
   pub only : (us : List Update) → IsLog log us → (result ≡ Err Memory) ⊎ (result ≡ Ok us)
-  -- the offset is that of the first fault, and a fault is told
+  -- the offset is that of the first fault, and a fault is reported
   pub faulty : (at : ℕ) → result ≡ Err (At at) → IsLogFault log at
   pub first : (at : ℕ) → IsLogFault log at → (result ≡ Err Memory) ⊎ (result ≡ Err (At at))

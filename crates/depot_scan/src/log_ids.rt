@@ -11,7 +11,7 @@ use std::alloc::Global;
 /// Each id, and whether it is covered.
 type IdMarks = IndexMap<Hash32, bool>;
 
-/// Puts a mark at an id, in place of the one that it has.
+/// Replaces the mark of an id.
 fn put_mark(marks: &mut IdMarks, id: Hash32, mark: bool) -> Result<bool, Memory>
     ensures new { IfOk result (λ is_new. is_new ≡ not (is_id_marked marks.old id)) }
     ensures ok { OnOk result (PutsIdMark marks.old marks.new id mark) }
@@ -22,7 +22,7 @@ fn put_mark(marks: &mut IdMarks, id: Hash32, mark: bool) -> Result<bool, Memory>
     }
 }
 
-/// A table of ids by hash. An id that is put in is SHA-256 of a body, so nobody can choose ids that fall together.
+/// A table of ids by hash. Each id in it is the SHA-256 of a body, so nobody can choose ids that collide in the table.
 #[derive(Drop)]
 pub struct LogIds {
     marks: IdMarks,
@@ -55,7 +55,7 @@ impl LogIds {
         }
     }
 
-    /// Adds the id, and says whether it is new. So far none is covered.
+    /// Adds an id as not covered, and returns whether it is new.
     pub fn insert(&mut self, id: Hash32) -> Result<bool, Memory>
         requires { IsUncovered self.old }
         ensures new { IfOk result (λ is_new. is_new ≡ not (knows self.old id)) }

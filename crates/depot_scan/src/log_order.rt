@@ -9,12 +9,12 @@ use crate::log_ids::LogIds;
 use depot_base::Memory;
 use std::alloc::Global;
 
-/// What the order of a log comes to.
+/// The outcome of the order of a log.
 #[derive(Debug, Drop)]
 pub enum Ordered {
-    /// Each parent stands before its child. The bodies without those whose id stands earlier.
+    /// Each parent precedes its child. The bodies without those whose id occurs earlier.
     InOrder(Vec<Body>),
-    /// The place, from 0, of the first body with a parent that doesn't stand before it.
+    /// The place, from 0, of the first body with a parent that doesn't precede it.
     Orphan(usize),
 }
 

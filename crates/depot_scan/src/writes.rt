@@ -11,7 +11,7 @@ use crate::log_ids::LogIds;
 use depot_base::Memory;
 use std::alloc::Global;
 
-/// Covers the parents of a body that writes the key or is itself covered, and says whether the body is a latest write.
+/// Covers the parents of a body that writes the key or is itself covered. Returns whether the body is a latest write.
 fn visit(ids: &mut LogIds, key: &[u8], body: &Body) -> Result<bool, Memory>
     ensures latest { IfOk result (λ latest. latest ≡ (writes_key key.now body.now.update && not (is_id_covered ids.old body.now.id))) }
     ensures covers { OnOk result (Covers key.now body.now.update (is_id_covered ids.old) (is_id_covered ids.new)) }
@@ -44,8 +44,8 @@ fn uncovered(
     Ok(found)
 }
 
-/// The latest writes of the key, in rising order of clock, writer, seq and id. It takes one walk from the newest body
-/// to the oldest. The table begins with nothing covered.
+/// The latest writes of the key, in rising order of clock, writer, seq and id, by one walk from the newest body to the
+/// oldest. At the start nothing in the table is covered.
 pub fn latest(
     alloc: Global,
     key: &[u8],

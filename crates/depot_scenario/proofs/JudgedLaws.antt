@@ -1,4 +1,4 @@
--- What is printed of a judgement is what the definition says of the bytes that were judged.
+-- What is printed of a judgement is what is defined of the bytes that were judged.
 use Rattle.std.proofs.Common.{◌≡◌, ◌≢◌, ℕ, zero-add, List, [], drop, Option, Some, None, Result, Ok, Err, refl, sym, ap, ◌∙◌}
 use Rattle.std.specs.Prelude.{IfOk}
 use Rattle.depot_base.specs.Format.{whole, FirstFault}
@@ -19,7 +19,7 @@ use Rattle.depot_world.specs.FaultySigning.{proof_in}
 use Rattle.depot_world.specs.Setups.{Setup}
 use Rattle.depot_world.specs.Transcript.{judged_with}
 
--- what is printed behind the arrow, without the space
+-- what is printed after the arrow, without the space
 abbrev pub answer_of : Result Verdict JudgeError → List ℕ
 answer_of (Ok v) = text_of_verdict v
 answer_of (Err e) = text_of_point e
@@ -60,7 +60,7 @@ on_setup setup run bytes (Err (point.NotContradictory k)) other is = failed_is s
 
 -- ---- what a judge answers under a roster, by a scheme
 
--- the text is that behind the arrow, in each setup with these and in each run
+-- the text is that after the arrow, in each setup with these and in each run
 abbrev pub IsAnswer : Verifies → List RosterEntry → List ℕ → List ℕ → Type 0
 IsAnswer verifies roster bytes text = (setup : Setup) (run : Run) → setup.suite.verifies ≡ verifies → setup.listed ≡ roster → text ≡ (judged_with setup run (proof_in bytes)).answer
 
@@ -75,13 +75,13 @@ pub point_told : {E : Type 0} (verifies : Verifies) (roster : List RosterEntry) 
 point_told verifies roster bytes payload failed (Ok text) same is other told = λ setup run scheme listed. told ∙ answer_is verifies roster bytes payload (Err failed) same (λ e. other cc) is setup run scheme listed
 point_told verifies roster bytes payload failed (Err e) same is other told = tt
 
--- ---- behind the line
+-- ---- after the line
 
 quiet : (setup : Setup) (run : Run) (p : Proof) (o : Option JudgeError) → first_failed_point setup.suite.verifies setup.listed p ≡ o → (judged_with setup run (Ok p)).behind ≡ []
 quiet setup run p (Some e) is = rw (is, judged_with) refl
 quiet setup run p None is = rw (is, judged_with) refl
 
--- nothing is printed behind the line of a judgement
+-- nothing is printed after the line of a judgement
 pub nothing_behind : (setup : Setup) (run : Run) (read : Result Proof ℕ) → (judged_with setup run read).behind ≡ []
 nothing_behind setup run (Err at) = refl
 nothing_behind setup run (Ok p) = quiet setup run p (first_failed_point setup.suite.verifies setup.listed p) refl

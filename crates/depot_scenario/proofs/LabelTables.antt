@@ -1,4 +1,4 @@
--- Labels in a map that keeps them in order, and in a run.
+-- Labels in an ordered map, and in a run.
 use Rattle.std.proofs.Common.{◌≡◌, ℕ, List, [], ◌∷◌, ◌++◌, Bool, true, false, cond, Option, Some, None, option_map, is_some, Vec, refl, sym, ap, subst, ◌∙◌}
 use Rattle.std.specs.BTreeMap.{BTreeMap, Updates, UpdatesBy}
 use Rattle.std.specs.Cmp.{eq_by_cmp_equiv}

@@ -40,7 +40,7 @@ seen_already us u id o own is some =
     let known : has_id us (id_of_update u) ≡ true = subst (λ (h : List ℕ). has_id us h ≡ true) own (found us id o is some) in
     rw known refl
 
--- another comes behind them
+-- another comes after them
 pub seen_more : (us : List Update) (u : Update) (id : List ℕ) (o : Option ℕ) → id ≡ id_of_update u → o ≡ place_of_id id us → is_some o ≡ false → us ++ u ∷ [] ≡ seen_with us (u ∷ [])
 unfolding seen_with
 seen_more us u id o own is none =
@@ -69,7 +69,7 @@ entry_seen us u i d seen lt at =
     let here : p.0 ≡ d = sym (at ∙ get_or_from_slice_get u.deps i p.0 d p.1) in
     all_at (λ (h : List ℕ). has_id us h ≡ true) (parents u) d.id seen (in_right d.id (prevs u) (map (λ x. x.id) u.deps) (subst (λ (x : Dep). IsIn x.id (map (λ y. y.id) u.deps)) here (in_map (λ (x : Dep). x.id) p.0 u.deps (in_at u.deps i p.0 p.1))))
 
--- what stands at them has these ids
+-- what is at them has these ids
 ids_there : (us : List Update) (ids : List (List ℕ)) (items : List ℕ) → AreItemsOf us ids items → map id_of_update (updates_at us items) ≡ ids
 ids_there us [] [] are = refl
 ids_there us [] (n ∷ ns) are = absurd cc

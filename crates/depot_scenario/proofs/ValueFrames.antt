@@ -26,7 +26,7 @@ write_made cs i c w old new lt at is now are =
 
 -- ---- values, each once
 
--- the last of some values stands once behind the others, unless it is among them
+-- the last of some values occurs once after the others, unless it is among them
 once_more : (vs : List (List ℕ)) (v : List ℕ) → each_once (vs ++ v ∷ []) ≡ each_once vs ++ cond (is_among v vs) [] (v ∷ [])
 unfolding each_once
 once_more [] v = refl
@@ -50,7 +50,7 @@ text_more vs v = ap (flat_map frame_of) (once_more vs v) ∙ flat_map-append fra
   by_test true = refl
   by_test false = append-nil (text_of_frame (value_frame v))
 
--- the frames of more values stand behind those of others
+-- the frames of more values follow those of others
 frames_more : (vs xs : List (List ℕ)) → text_of_values (vs ++ xs) ≡ text_of_values vs ++ frames_behind vs xs
 frames_more vs [] = ap text_of_values (append-nil vs) ∙ sym (append-nil (text_of_values vs))
 frames_more vs (x ∷ xs) =
@@ -78,7 +78,7 @@ any_has_value : (cs : List Change) (v : List ℕ) → list_any (λ c. is_among v
 any_has_value [] v = refl
 any_has_value (c ∷ cs) v = ap (λ (b : Bool). is_among v (value_in_change c) || b) (any_has_value cs v) ∙ sym (among-append v (value_in_change c) (values_of cs))
 
--- a value that one of the changes has adds no frame behind theirs, and another one its own
+-- a value that one of the changes has adds no frame after theirs, and another one its own
 pub known_adds_none : (cs : List Change) (v out : List ℕ) → list_any (λ c. is_among v (value_in_change c)) cs ≡ true → out ≡ out ++ frames_behind (values_of cs) (v ∷ [])
 known_adds_none cs v out is =
     let among : is_among v (values_of cs) ≡ true = sym (any_has_value cs v) ∙ is in

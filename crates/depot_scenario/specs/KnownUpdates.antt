@@ -11,7 +11,7 @@ use Rattle.depot_schedule.specs.declared.event.HistoryWord.TheVariants as histor
 abbrev pub HasSeenParents : List Update → Update → Type 0
 HasSeenParents seen u = AllByRecursion (λ id. has_id seen id ≡ true) (parents u)
 
--- the right history of an update may be asked for where it has no parents, or where such histories are asked for
+-- the right history of an update may be needed if it has no parents, or if such histories were announced
 abbrev pub MayAsk : Bool → Update → HistoryWord → Type 0
 MayAsk asked u history.Right = (parents u ≡ []) ⊎ (asked ≡ true)
 MayAsk asked u (history.Given h) = Unit {0}

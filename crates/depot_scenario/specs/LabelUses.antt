@@ -17,7 +17,7 @@ abbrev pub has_below : ℕ → Option ℕ → Bool
 has_below end None = false
 has_below end (Some n) = nat_lt n end
 
--- Each label that an event at a place from this one on names is kept, with that place or one before it.
+-- Each label that an event at this place or later names is kept, with that place or an earlier one.
 abbrev pub AreUsesFrom : ℕ → List (Vec ℕ Global × ℕ) → List Event → Type 0
 AreUsesFrom from entries to_come = (place : ℕ) (e : Event) (label : List ℕ) → from ≤ place → slice_get to_come place ≡ Some e → IsIn label (labels_in e) → HasAtMost place (named_in label entries)
 
@@ -29,6 +29,7 @@ AreUses = AreUsesFrom 0
 abbrev pub AreNoted : List (List ℕ) → ℕ → List (Vec ℕ Global × ℕ) → List (Vec ℕ Global × ℕ) → Type 0
 AreNoted labels place old new = (label : List ℕ) → named_in label new ≡ (if is_among label labels then Some place else named_in label old)
 
--- Of whatever so many events are to come, what is kept is of their uses still, and none of them names a label whose use is ended.
+-- For any number of later events: what is kept is of their uses still, and none of them names a label whose use has
+-- ended.
 abbrev pub EndsUse : List (Vec ℕ Global × ℕ) → List ℕ → ℕ → Bool → List (Vec ℕ Global × ℕ) → Type 0
 EndsUse old label many ended new = (to_come : List Event) → length to_come ≡ many → AreUses old to_come → AreUses new to_come × (ended ≡ true → NoneNames to_come label)

@@ -24,7 +24,7 @@ given_of_label m = record { bytes = m.bytes; signed = m.signed; plain = m.plain 
 abbrev pub AreLabels : List (Vec ℕ Global × Given) → List Labelled → Type 0
 AreLabels entries labels = (label : List ℕ) → named_in label entries ≡ option_map given_of_label (made_in labels label)
 
--- Where each label named what it names in a run, it now names what it names with this made too.
+-- Each label names what it named in a run before this was made.
 abbrev pub TakesIn : List (Vec ℕ Global × Given) → Labelled → List (Vec ℕ Global × Given) → Type 0
 TakesIn old m new = (labels : List Labelled) → AreLabels old labels → AreLabels new (labels ++ m ∷ [])
 
@@ -42,7 +42,7 @@ plain_in labels label = option_and_then (λ m. when m.plain m.bytes) (made_in la
 
 -- ---- labels of nodes' events
 
--- labels, and the one that a node's bytes are given, if there is one
+-- labels, and the one that a node's bytes are given, if any
 abbrev pub labels_with : List Labelled → Option (List ℕ) → List ℕ → List Labelled
 labels_with labels None bytes = labels
 labels_with labels (Some label) bytes = labels ++ record { label = label; bytes = bytes; signed = None; plain = false } ∷ []

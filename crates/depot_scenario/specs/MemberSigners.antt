@@ -26,7 +26,7 @@ member_signers_of key sign signers = map (signer_by key sign) signers
 abbrev pub AreSigners : SignatureSuite → ℕ → List Member → List MemberSigner → Type 0
 AreSigners suite height members member_signers = member_signers ≡ map (λ m. member_signer_of suite height m.node) members
 
--- this holds of each suite and height with which they are those of the members
+-- this holds of each suite and height whose signers these are
 abbrev pub WhereAreSigners : {G : Type 0} → (G → PublicKey) → (G → Signs) → List Member → List G → (SignatureSuite → ℕ → Type 0) → Type 0
 WhereAreSigners key sign members signers P =
     (suite : SignatureSuite) (height : ℕ) → AreSigners suite height members (member_signers_of key sign signers) → P suite height

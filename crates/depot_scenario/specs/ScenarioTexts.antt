@@ -6,7 +6,7 @@ use Rattle.depot_model.specs.Lists.{is_among}
 use Rattle.depot_world.specs.FaultySigning as signing
 use Rattle.depot_scenario.specs.declared.texts.Text.{Text}
 
--- the frames of values behind those of others: of each whose bytes none before it has
+-- the frames of values after those of others: one for each value that none before it equals
 abbrev pub frames_behind : List (List ℕ) → List (List ℕ) → List ℕ
 frames_behind before [] = []
 frames_behind before (v ∷ vs) = (if is_among v before then [] else text_of_frame (value_frame v)) ++ frames_behind (before ++ v ∷ []) vs

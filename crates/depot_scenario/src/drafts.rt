@@ -13,7 +13,7 @@ use depot_base::{
 use depot_model::hash_of;
 use std::alloc::Global;
 
-/// An update with these fields, writes and entries, which has zeros in place of its history hash.
+/// An update with these fields, writes and entries, and with zeros as its history hash.
 pub fn drafted(
     writer: NodeId,
     seq: u32,

@@ -1,4 +1,4 @@
-//! The front of an event's line.
+//! The head of an event's line.
 ghost use Rattle.std.specs.Prelude.{◌≡◌, ◌++◌, ◌∷◌, [], OnOk, codes, drop};
 ghost use Rattle.std.specs.Fmt.{decimal};
 ghost use Rattle.hex.specs.Hex.{encode_lower};
@@ -14,8 +14,8 @@ use depot_schedule::reference_writers::reference;
 use depot_schedule::{Event, Ref};
 use std::alloc::Global;
 
-/// Writes an event's name and the words that stand before the arrow, with spaces between them, and the arrow. After Memory a front of
-/// it may have been written.
+/// Writes an event's name and the words that precede the arrow, with spaces between them, and the arrow. On `Memory` a
+/// prefix of it may have been written.
 #[tactic(auto, using(depot_base::proofs::Writing::texts, depot_lines::proofs::WrittenSteps::lines))]
 pub fn event_head(alloc: Global, out: &mut Bytes, event: &Event) -> Result<(), Memory>
     ensures { OnOk result (out.new ≡ out.old ++ (join 32 (head_words event.now) ++ codes " ->")) }
@@ -25,7 +25,7 @@ pub fn event_head(alloc: Global, out: &mut Bytes, event: &Event) -> Result<(), M
     out.push_all(b" ->")
 }
 
-/// Writes the words between the name and the arrow, each behind a space.
+/// Writes the words between the name and the arrow, each preceded by a space.
 #[tactic(auto, unfolding(depot_schedule::specs::EventLines::put_line, depot_schedule::specs::EventLines::puts_line, depot_schedule::specs::EventLines::get_line, depot_schedule::specs::EventLines::hello_line, depot_schedule::specs::EventLines::bundle_line, depot_schedule::specs::EventLines::give_line, depot_schedule::specs::EventLines::restart_line, depot_schedule::specs::EventLines::update_line, depot_schedule::specs::EventLines::updates_line, depot_schedule::specs::EventLines::voucher_line, depot_schedule::specs::EventLines::proof_line, depot_schedule::specs::EventLines::hollow_line, depot_schedule::specs::EventLines::judge_line, depot_schedule::specs::EventLines::raw_line, depot_schedule::specs::EventLines::cut_line, depot_schedule::specs::EventLines::flip_line, depot_schedule::specs::EventLines::join_line, depot_schedule::specs::EventLines::stop_line, depot_schedule::specs::EventLines::receipt_line, depot_schedule::specs::EventLines::settled_line, depot_schedule::specs::EventLines::audit_line, depot_schedule::specs::EventLines::checkpoint_line, depot_schedule::specs::EventLines::sign_line, depot_schedule::specs::EventLines::trim_line, depot_schedule::specs::EventLines::tgive_line, depot_schedule::specs::EventLines::tget_line))]
 fn words(alloc: Global, out: &mut Bytes, event: &Event) -> Result<(), Memory>
     ensures { OnOk result (out.new ≡ out.old ++ behind_spaces (drop 1 (head_words event.now))) }

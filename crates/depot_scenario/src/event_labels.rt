@@ -8,7 +8,7 @@ use depot_lines::Label;
 use depot_schedule::{Event, Ref};
 use std::alloc::Global;
 
-/// The labels that an event names, the one that it makes among them. The name of a reader is none.
+/// The labels that an event names, the one that it makes too. The name of a reader is no label.
 pub fn labels_of<'a>(alloc: Global, event: &'a Event) -> Result<Vec<&'a Label>, Memory>
     ensures { IfOk result (λ labels. map (λ label. label.now) labels.items ≡ labels_in event.now) }
 {

@@ -15,15 +15,15 @@ use depot_model::{JudgeError, Scheme, Verdict};
 use depot_sign::Roster;
 use std::alloc::Global;
 
-/// The bytes behind a frame's tag and length.
+/// The bytes after a frame's tag and length.
 fn payload_of(bytes: &[u8]) -> &[u8]
     ensures { result.now ≡ drop 5 bytes.now }
 {
     bytes.get(5..).unwrap_or(&[])
 }
 
-/// What is printed behind the arrow where a label's bytes are judged as the frame of a proof: a space, and the first point that fails,
-/// or else the verdict. Nothing is printed behind that line.
+/// What is printed after the arrow when a label's bytes are judged as the frame of a proof: a space, and the first
+/// point that fails, or else the verdict. Nothing is printed after that line.
 #[tactic(auto, using(crate::proofs::JudgedLaws::nothing_behind))]
 pub fn judged<S: Scheme>(
     alloc: Global,

@@ -18,13 +18,13 @@ use depot_model::Past;
 use depot_schedule::HistoryWord;
 use std::alloc::Global;
 
-/// The updates that events made and that correct nodes accepted, each id once, in the order in which they came. Contracts see them all.
-/// Memory is taken for them only where right histories of updates with parents are asked for.
+/// The updates that events made and that correct nodes accepted, each id once, in the order in which they came.
+/// Contracts see them all. They take memory only if right histories of updates with parents are needed.
 #[derive(Drop)]
 pub struct KnownUpdates {
     alloc: Global,
     graph: Graph,
-    /// Whether right histories of updates with parents are asked for.
+    /// Whether right histories of updates with parents are needed.
     pub asked: bool,
     pub listed: ListedUpdates,
     ghost held: { asked ≡ true → updates_in graph.items.entries ≡ listed.updates },
@@ -47,7 +47,8 @@ fn hold(graph: &mut Graph, update: &Update, id: &Hash32) -> Result<(), Memory>
 }
 
 impl KnownUpdates {
-    /// No updates, and whether right histories of updates with parents will be asked for. It takes no memory.
+    /// Makes an empty list; the flag says whether right histories of updates with parents will be needed. It takes no
+    /// memory.
     pub fn new(alloc: Global, asked: bool) -> KnownUpdates
         ensures none { result.listed.updates ≡ [] }
         ensures asked { result.asked ≡ asked }
@@ -60,8 +61,8 @@ impl KnownUpdates {
         }
     }
 
-    /// Adds an update with its id, unless one with that id is there. Its parents are, and there are fewer than 4,294,967,295
-    /// updates.
+    /// Adds an update with its id, unless one with that id is there. Its parents have to be there, and there are fewer
+    /// than 4,294,967,295 updates.
     pub fn add(&mut self, update: &Update, id: &Hash32) -> Result<(), Memory>
         requires id { id.now ≡ id_of_update update.now }
         requires text { IsUpdate update.now }
@@ -97,7 +98,7 @@ impl KnownUpdates {
         history_hash(self.alloc, &none, &[])
     }
 
-    /// The update with the history hash that is asked for: one that is given, or the right one. Its parents are here.
+    /// The update with its history hash: a given one, or the right one. Its parents have to be there.
     pub fn with_history(&self, draft: Update, history: HistoryWord) -> Result<Update, Memory>
         requires parents { HasSeenParents self.now.listed.updates draft }
         requires asked { MayAsk self.now.asked draft history }
@@ -109,7 +110,7 @@ impl KnownUpdates {
         Ok(update)
     }
 
-    /// The history hash that is asked for of an update whose parents are here.
+    /// The history hash of an update, given or right. Its parents have to be there.
     fn history_of(&self, draft: &Update, history: HistoryWord) -> Result<Hash32, Memory>
         requires parents { HasSeenParents self.now.listed.updates draft.now }
         requires asked { MayAsk self.now.asked draft.now history }

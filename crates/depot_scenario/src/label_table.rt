@@ -16,8 +16,8 @@ use depot_schedule::Event;
 use std::alloc::Global;
 use std::collections::BTreeMap;
 
-/// What an event gave a label: its bytes, the signed statement where it made one, and whether they are plain bytes. Most labels
-/// have no statement, so that stands apart.
+/// What an event gave a label: its bytes, the signed statement if it made one, and whether they are plain bytes. Most
+/// labels have no statement, so that is stored apart.
 #[derive(Drop)]
 pub struct Given {
     pub bytes: Bytes,
@@ -25,8 +25,8 @@ pub struct Given {
     pub plain: bool,
 }
 
-/// What each label names, in a map that keeps the labels in order. Who writes a schedule picks them, so none is hashed: a
-/// look-up takes logarithmic time, whatever they are. What a label was given first stays, until it is forgotten.
+/// What each label names, in an ordered map. Whoever writes a schedule picks the labels, so none is hashed: a look-up
+/// takes logarithmic time, whatever they are. What a label was given first stays, until it is forgotten.
 #[derive(Drop)]
 pub struct Labels {
     alloc: Global,
@@ -69,7 +69,7 @@ impl Labels {
         Some(signed.get())
     }
 
-    /// The update that a label's signed statement states, if it names one. It takes no memory.
+    /// The update in a label's signed statement, if it is one. It takes no memory.
     pub fn update(&self, label: &Label) -> Option<&Update>
         ensures { (labels : List Labelled) → AreLabels self.now.map.entries labels → option_copied result ≡ option_and_then (λ s. first_update (update_in s.statement)) (signed_of_label labels label.now) }
     {
@@ -87,8 +87,8 @@ impl Labels {
         }
     }
 
-    /// Gives a label what an event made, unless it names something already. The line that tells of it is answered, from the arrow on,
-    /// with its LF.
+    /// Gives a label what an event made, unless it names something already. Returns the line that reports it, from the
+    /// arrow on, with its LF.
     pub fn give(&mut self, label: &Label, text: Text) -> Result<Bytes, Memory>
         ensures lines { IfOk result (λ lines. lines ≡ spaced text.answer ++ 10 ∷ []) }
         ensures labels { OnOk result (TakesIn self.old.map.entries (record { label = label.now; bytes = text.bytes; signed = text.signed; plain = text.plain }) self.new.map.entries) }
@@ -111,7 +111,7 @@ impl Labels {
         Ok(lines)
     }
 
-    /// Gives the label that a node's event makes, if it makes one, what the node handed out, unless it names something already.
+    /// Gives the label that a node's event makes, if any, what the node handed out, unless it names something already.
     pub fn keep(&mut self, event: &Event, bytes: Bytes) -> Result<(), Memory>
         ensures { OnOk result ((labels : List Labelled) → AreLabels self.old.map.entries labels → AreLabels self.new.map.entries (labels_with labels (label_by event.now) bytes)) }
     {

@@ -11,8 +11,8 @@ use depot_schedule::Event;
 use std::alloc::Global;
 use std::collections::BTreeMap;
 
-/// Of each label that an event to come names, how many events stand behind the last that does, in a map that keeps the labels in
-/// order, as `Labels` does.
+/// For each label that a later event names: how many events follow the last one that does, in an ordered map, as in
+/// `Labels`.
 #[derive(Drop)]
 pub struct LabelUses {
     alloc: Global,
@@ -20,7 +20,7 @@ pub struct LabelUses {
 }
 
 impl LabelUses {
-    /// The uses of labels in events to come, of which the next stands last.
+    /// The uses of labels in the remaining events, which are listed last first.
     pub fn of(alloc: Global, to_come: &[Event]) -> Result<LabelUses, Memory>
         ensures { IfOk result (λ uses. AreUses uses.map.entries to_come.now) }
     {
@@ -34,7 +34,7 @@ impl LabelUses {
         Ok(uses)
     }
 
-    /// Notes the labels of an event behind which so many stand.
+    /// Notes the labels of an event that so many events follow.
     fn note(&mut self, event: &Event, behind: usize) -> Result<(), Memory>
         ensures { OnOk result (AreNoted (labels_in event.now) behind self.old.map.entries self.new.map.entries) }
     {
@@ -46,7 +46,7 @@ impl LabelUses {
         Ok(())
     }
 
-    /// True only where none of so many events to come names a label; its use is given up then.
+    /// Returns true only if none of the remaining events, so many, names a label; its use is then dropped.
     pub fn end(&mut self, label: &Label, to_come: usize) -> bool
         ensures { EndsUse self.old.map.entries label.now to_come result self.new.map.entries }
     {

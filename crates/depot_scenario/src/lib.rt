@@ -1,19 +1,19 @@
-//! What a schedule is played with: its members, its scenario, what labels name, what was seen, and what faulty nodes make.
+//! What a schedule is played with: its members, their signers, its labels, the updates seen, and what faulty nodes
+//! make.
 //!
-//! A schedule declares its members by their numbers. Each signs under a key whose seed is its number (`signers`), by Winternitz
-//! signatures or by the plain scheme, and the roster has their keys in rising order. Where the member of a number stands is found by
-//! that number alone (`member_places`). The updates that a faulty member names become the entries of its own, or the ids of its
-//! voucher, in rising order and each once (`entries`).
+//! - Members: a schedule declares them by their numbers. Each signs under a key whose seed is its number (`signers`),
+//!   by Winternitz signatures or by the plain scheme; the roster has their keys in rising order. `member_places` finds
+//!   a member by its number. The updates that a faulty member names become the entries of its update, or the ids of its
+//!   voucher, in rising order and each once (`entries`).
+//! - A `Scenario` is the setup in which `depot_world` defines a schedule to be played (`IsScenarioOf`): the roster of
+//!   the members, and their signers.
+//! - `Labels` are what events gave labels (`AreLabels`). `LabelUses` says when an event names one last (`AreUses`), so
+//!   that it can be forgotten.
+//! - `KnownUpdates` are the updates over which right history hashes are computed.
+//! - `drafts` has the updates that faulty nodes sign, `texts` the bytes that events give their labels, `event_heads`
+//!   the head of an event's line, and `judging_events` what is printed of a judgement.
 //!
-//! A schedule is defined to be played in a setup (`depot_world`): the roster and the scheme. A `Scenario` is that setup at work
-//! (`IsScenarioOf`): the roster of the members, and their signers. `Labels` are what events gave labels (`AreLabels`), and `LabelUses` says
-//! when an event names one last (`AreUses`), so that it can be forgotten. `KnownUpdates` are the updates over which right histories
-//! are computed.
-//!
-//! `drafts` has the updates that faulty nodes sign, `texts` the bytes that events give their labels, `event_heads` the front of an
-//! event's line and `judging_events` what is printed of a judgement.
-//!
-//! Nothing here runs a correct node or knows of a disk, and no event is played: `depot_simulation` does that.
+//! Nothing here runs a correct node, uses a disk or plays an event: `depot_simulation` does that.
 #![tactic(auto)]
 
 mod drafts;

@@ -7,9 +7,9 @@ ghost use Rattle.depot_world.specs.Run.{seen_with};
 use depot_base::Update;
 use std::marker::Model;
 
-/// Updates, each id once, in the order in which they came. Contracts alone see them, so they take no bytes.
+/// Updates, each id once, in the order in which they came. Only contracts see them, so they take no bytes.
 ///
-/// No memory holds them: what keeps them are the contracts of `new` and `note`, which are proved by hand.
+/// No memory holds them: the contracts of `new` and `note` keep them, and are proved by hand.
 #[derive(Drop)]
 pub struct ListedUpdates {
     pub ghost updates: { List Update },

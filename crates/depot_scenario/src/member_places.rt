@@ -1,4 +1,4 @@
-//! Where the member of a number stands.
+//! The place of the member with a number.
 ghost use Rattle.std.specs.Prelude.{◌≡◌, ◌==◌, ℕ, position};
 
 use depot_base::NodeId;
@@ -22,7 +22,8 @@ impl Numbered for Member {
     }
 }
 
-/// The place of the first of these that has a node's number, from 0. None exactly where none has it. It takes no memory.
+/// The place of the first of these that has a node's number, from 0. `None` exactly when none has it. It takes no
+/// memory.
 pub fn place_of<A: Numbered>(members: &[A], node: NodeId) -> Option<usize>
     ensures { result ≡ position (λ a. A.number_of a == node) members.now }
 {

@@ -1,11 +1,12 @@
-//! Signed statements that stand apart from what has them.
+//! Signed statements stored apart from their owners.
 ghost use Rattle.std.specs.Prelude.{◌≡◌, IfOk};
 
 use depot_base::{Memory, Signed};
 use std::alloc::Global;
 use std::marker::Model;
 
-/// A signed statement, seen as it is, that stands apart from what has it: what may have one and has none takes no room for it.
+/// A signed statement, seen as it is, stored apart from its owner: an owner that may have one and has none takes no
+/// room for it.
 #[derive(Drop)]
 pub struct Apart(Box<Signed>);
 
@@ -26,7 +27,7 @@ impl Apart {
     }
 }
 
-/// A signed statement put apart, if there is one.
+/// A signed statement stored apart, if there is one.
 pub fn put_apart(alloc: Global, signed: Option<Signed>) -> Result<Option<Apart>, Memory>
     ensures { IfOk result (λ kept. kept ≡ signed) }
 {

@@ -15,7 +15,7 @@ use depot_model::Signer;
 use depot_update::{encode_proof, encode_signed, encode_statement};
 use std::alloc::Global;
 
-/// The statement with its text, and the signature of that by the leaf of its number.
+/// The statement with its text, and its signature by the leaf of its number.
 #[tactic(auto, using(crate::proofs::SignedLaws::signed_by_parts))]
 pub fn signed<G: Signer>(alloc: Global, signer: &G, statement: Statement) -> Result<Signed, Memory>
     requires fits { IsStatement statement }
@@ -33,7 +33,7 @@ pub fn signed<G: Signer>(alloc: Global, signer: &G, statement: Statement) -> Res
     })
 }
 
-/// Writes the frame of a signed statement. After Memory a front of it may have been written.
+/// Writes the frame of a signed statement. On `Memory` a prefix of it may have been written.
 pub fn put_signed(alloc: Global, out: &mut Bytes, signed: &Signed) -> Result<(), Memory>
     requires { IsSigned signed.now }
     ensures { OnOk result (out.new ≡ out.old ++ text_of_frame (statement_frame signed.now)) }
@@ -42,7 +42,7 @@ pub fn put_signed(alloc: Global, out: &mut Bytes, signed: &Signed) -> Result<(),
     put_frame(out, FrameTag::Statement, text.as_slice())
 }
 
-/// Writes the frame of a proof. After Memory a front of it may have been written.
+/// Writes the frame of a proof. On `Memory` a prefix of it may have been written.
 pub fn put_proof(alloc: Global, out: &mut Bytes, proof: &Proof) -> Result<(), Memory>
     requires { IsProof proof.now }
     ensures { OnOk result (out.new ≡ out.old ++ text_of_frame (proof_frame proof.now)) }
@@ -69,7 +69,7 @@ fn proof_from(kind: Kind, first: &Signed, second: &Signed) -> Result<Proof, Memo
     })
 }
 
-/// The same, the one with the smaller body first. Nothing is asked of whether they contradict each other.
+/// The same, the one with the smaller body first. It doesn't check that they contradict each other.
 pub fn proof_of(kind: Kind, a: &Signed, b: &Signed) -> Result<Proof, Memory>
     requires kind { IsPairKind kind }
     requires first { IsSigned a.now }
@@ -84,7 +84,7 @@ pub fn proof_of(kind: Kind, a: &Signed, b: &Signed) -> Result<Proof, Memory>
     }
 }
 
-/// A voucher and a text as a proof that the voucher is hollow. Nothing is asked of whether it is.
+/// A voucher and a text as a proof that the voucher is hollow. It doesn't check that it is.
 #[tactic(auto, using(crate::proofs::SignedLaws::hollow_has_text))]
 pub fn hollow_of(alloc: Global, voucher: &Signed, text: &[u8]) -> Result<Proof, Memory>
     requires voucher { IsSigned voucher.now }

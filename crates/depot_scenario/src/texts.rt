@@ -21,8 +21,8 @@ use depot_lines::spelling::name_of_kind;
 use depot_model::Signer;
 use std::alloc::Global;
 
-/// What an event that no node takes part in gives its label, whether that is plain bytes, and what is printed behind the arrow without
-/// the space.
+/// What an event without a node gives its label, whether that is plain bytes, and what is printed after the arrow,
+/// without the space.
 #[derive(Drop)]
 pub struct Text {
     pub bytes: Bytes,
@@ -31,7 +31,7 @@ pub struct Text {
     pub answer: Bytes,
 }
 
-/// An update as its writer signs it: the frame of the signed statement, and behind it those of the values of these changes, each
+/// An update as its writer signs it: the frame of the signed statement, then those of the values of these changes, each
 /// different value once.
 pub fn update<G: Signer>(
     alloc: Global,
@@ -96,7 +96,7 @@ pub fn voucher<G: Signer>(
     })
 }
 
-/// Node and seq of a voucher, and how many ids it has: `NODE/SEQ ids COUNT`.
+/// The node and seq of a voucher, and how many ids it has: `NODE/SEQ ids COUNT`.
 fn numbers_and_count(alloc: Global, node: NodeId, seq: u32, count: usize) -> Result<Bytes, Memory>
     ensures { IfOk result (λ text. text ≡ decimal node ++ codes "/" ++ decimal seq ++ spaced (text_of_number (codes "ids") count)) }
 {
@@ -105,8 +105,8 @@ fn numbers_and_count(alloc: Global, node: NodeId, seq: u32, count: usize) -> Res
     Ok(Bytes::from_vec(text.into_bytes()))
 }
 
-/// The frame of the proof that two signed statements make, the one with the smaller body first. Nothing is asked of whether they
-/// contradict each other.
+/// The frame of the proof that two signed statements make, the one with the smaller body first. It doesn't check that
+/// they contradict each other.
 pub fn proof(alloc: Global, kind: Kind, a: &Signed, b: &Signed) -> Result<Text, Memory>
     requires kind { IsPairKind kind }
     requires first { IsSigned a.now }
@@ -117,7 +117,7 @@ pub fn proof(alloc: Global, kind: Kind, a: &Signed, b: &Signed) -> Result<Text, 
     framed(alloc, kind, &proof)
 }
 
-/// The frame of the proof that a voucher is hollow, for a text. Nothing is asked of whether it is.
+/// The frame of the proof that a voucher is hollow, for a text. It doesn't check that it is.
 pub fn hollow(alloc: Global, voucher: &Signed, text: &[u8]) -> Result<Text, Memory>
     requires voucher { IsSigned voucher.now }
     requires short { length text.now ≤ MOST_VALUE }
@@ -176,7 +176,7 @@ pub fn raw(alloc: Global, bytes: &[u8]) -> Result<Text, Memory>
     counted(alloc, Bytes::from_slice(alloc, bytes)?)
 }
 
-/// As many as there are of `count` bytes from the place `start` on, from 0.
+/// `count` bytes from the place `start` on, from 0, or as many as there are.
 pub fn cut(alloc: Global, source: &[u8], start: u32, count: u32) -> Result<Text, Memory>
     ensures { IfOk result (λ t. IsText t (counted_bytes (take count (drop start source.now)))) }
 {
@@ -195,7 +195,7 @@ fn flip_bit(bytes: &mut [u8], place: usize)
     }
 }
 
-/// The bytes with the lowest bit of the one at `place`, from 0, changed. Where there is none, as they are.
+/// The bytes with the lowest bit of the one at `place`, from 0, changed; unchanged if there is none.
 pub fn flip(alloc: Global, source: &[u8], place: u32) -> Result<Text, Memory>
     ensures { IfOk result (λ t. IsText t (counted_bytes (flip_at place source.now))) }
 {
@@ -204,7 +204,7 @@ pub fn flip(alloc: Global, source: &[u8], place: u32) -> Result<Text, Memory>
     counted(alloc, Bytes::from_vec(bytes))
 }
 
-/// The bytes of `first` and behind them those of `second`.
+/// The bytes of `first` and after them those of `second`.
 pub fn join(alloc: Global, first: &[u8], second: &[u8]) -> Result<Text, Memory>
     ensures { IfOk result (λ t. IsText t (counted_bytes (first.now ++ second.now))) }
 {

@@ -10,8 +10,8 @@ ghost use Rattle.depot_scenario.specs.ScenarioTexts.{frames_behind};
 use depot_base::{Bytes, Change, FrameTag, Memory, Value};
 use depot_frames::put_frame;
 
-/// Writes the frames of the values of changes, in their order, each different value once. After Memory a front of them may have been
-/// written.
+/// Writes the frames of the values of changes, in their order, each different value once. On `Memory` a prefix of them
+/// may have been written.
 pub fn put_values(out: &mut Bytes, changes: &[Change]) -> Result<(), Memory>
     ensures { OnOk result (out.new ≡ out.old ++ text_of_values (values_of changes.now)) }
 {

@@ -1,4 +1,4 @@
--- The words that lines of events have alone are lawful.
+-- The words that only lines of events have are lawful.
 use Rattle.std.proofs.Common.{◌≡◌, ℕ, ◌^◌, ◌<◌, ◌≤◌, Bool, true, false, not, cond, ltb, leb, eqb, List, [], ◌∷◌, ◌++◌, length, is_some, Ok, Err, codes, refl, sym, ap, subst, ◌∙◌, arith}
 use Rattle.std.specs.List.{list_all}
 use Rattle.std.specs.Fmt.{decimal}
@@ -117,7 +117,7 @@ ref_plain asked s (ref.Own n q) fits =
     let some : 0 < length (decimal n ++ (46 ∷ decimal q)) = omega (arith, Rattle.std.proofs.Common.length-append (decimal n) (46 ∷ decimal q)) in
     and_from _ _ (lt-ltb _ _ some) (all_append is_word_byte (decimal n) (46 ∷ decimal q) a.1 b.1)
 
--- no comma stands in a reference
+-- no comma is in a reference
 ref_lacks : (asked : Wanted) (s : Schedule) (r : Ref) → FitsRef asked s r → lacks 44 (text_of_ref r) ≡ true
 ref_lacks asked s (ref.Label l) fits = label_lacks 44 (omega arith) l fits.0
 ref_lacks asked s (ref.Own n q) fits =

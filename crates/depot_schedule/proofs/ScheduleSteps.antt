@@ -7,7 +7,7 @@ use Rattle.depot_schedule.specs.declared.schedule.Schedule.{Schedule}
 use Rattle.depot_schedule.specs.Schedules.{first_words, scheme_words, member_words, event_words, text_of_schedule}
 use Rattle.depot_lines.specs.LineTexts.{text_of_line}
 
--- lines of one kind, and lines of another behind them
+-- lines of one kind, and lines of another after them
 pub flat_map-two : {A B C : Type 0} (line : C → List ℕ) (f : A → C) (g : B → C) (xs : List A) (ys : List B) → flat_map line (map f xs ++ map g ys) ≡ flat_map (λ x. line (f x)) xs ++ flat_map (λ y. line (g y)) ys
 flat_map-two line f g xs ys = flat_map-append line (map f xs) (map g ys) ∙ ap (λ (t : List ℕ). t ++ flat_map line (map g ys)) (flat_map-map line f xs) ∙ ap (λ (t : List ℕ). flat_map (λ x. line (f x)) xs ++ t) (flat_map-map line g ys)
 

@@ -174,7 +174,7 @@ abbrev pub event_nodes : Event → ℕ
 event_nodes (Settled _ _ k) = k
 event_nodes _ = 0
 
--- ---- the table, by the words behind the event's name
+-- ---- the table, by the words after the event's name
 
 abbrev EventForm : Type 1
 EventForm = Words Schedule Event
@@ -319,7 +319,7 @@ verb_of (Trim _ _ _) = verb.Trim
 verb_of (Tgive _ _) = verb.Tgive
 verb_of (Tget _ _) = verb.Tget
 
--- the first word of the line of an event, and the words behind it
+-- the first word of the line of an event, and the words after it
 pub record Row : Type 1 where
   pub name : List ℕ
   pub line : EventForm

@@ -1,4 +1,5 @@
--- The words that lines of events have alone, most of them by what stands before them: the schedule so far says which nodes and labels there are.
+-- The words that only lines of events have. Most depend on what precedes them: the schedule so far says which nodes and
+-- labels there are.
 use Rattle.std.specs.Prelude.{ℕ, ◌^◌, Bool, true, false, not, ◌&&◌, List, [], ◌∷◌, ◌++◌, length, Option, Some, None, is_some, Result, Ok, Err, nat_lt, nat_le, ◌==◌, codes, if◌then◌else◌}
 use Rattle.std.specs.List.{list_any}
 use Rattle.std.specs.Fmt.{decimal}
@@ -82,7 +83,7 @@ unfoldable pub named_by : List Event → List ℕ → Option Made
 named_by [] label = None
 named_by (e ∷ es) label = first_or (named_by es label) (if_named label (label_made e))
 
--- whether what a label names is of the kind that is asked for
+-- whether what a label names is of the needed kind
 abbrev pub is_asked_for : Wanted → Made → Bool
 is_asked_for wanted.Any made.Update = true
 is_asked_for wanted.Any made.Voucher = true
@@ -120,7 +121,7 @@ is_asked_for wanted.Reader made.Plain = false
 is_asked_for wanted.Reader made.Bytes = false
 is_asked_for wanted.Reader made.Reader = true
 
--- whether a label that names this is what is asked for; one that wasn't made never is
+-- whether a label that names this is of the needed kind; one that wasn't made never is
 abbrev pub meets : Wanted → Option Made → Bool
 meets asked None = false
 meets asked (Some m) = is_asked_for asked m
@@ -157,7 +158,7 @@ image = number_or is.Label 0 2
 abbrev pub new_label : Word Schedule (List ℕ)
 new_label = such_that label (λ s l. not (is_some (named_by s.events l))) is.Label
 
--- a label that an event before made, and that is what is asked for
+-- a label of the needed kind that an earlier event made
 abbrev pub label_for : Wanted → Word Schedule (List ℕ)
 label_for asked = such_that label (λ s l. meets asked (named_by s.events l)) is.Label
 
@@ -201,7 +202,7 @@ history = record {
 
 -- ---- references
 
--- a label is what is asked for, an own update one of a correct node
+-- a label is of the needed kind, an own update one of a correct node
 abbrev pub FitsRef : Wanted → Schedule → Ref → Type 0
 FitsRef asked s (ref.Label l) = (label_for asked).fits s l
 FitsRef asked s (ref.Own node n) = correct.fits s node × seq.fits s n
@@ -215,7 +216,7 @@ text_of_ref (ref.Own node n) = decimal node ++ (46 ∷ decimal n)
 abbrev pub label_ref : Wanted → Schedule → List ℕ → Result Ref LineFault
 label_ref asked s word = (label_for asked).read s word >>= λ l. Ok (ref.Label l)
 
--- the reference that the words round a dot are: both numbers are looked at before the node is
+-- the reference that the words round a dot are: both numbers are checked before the node is
 abbrev pub own_ref : Schedule → List ℕ → List ℕ → Result Ref LineFault
 own_ref s node_word seq_word = id.read s node_word >>= λ node. seq.read s seq_word >>= λ n. if is_correct s.members node then Ok (ref.Own node n) else Err is.Node
 
@@ -226,7 +227,7 @@ ref_of asked s (l ∷ []) = label_ref asked s l
 ref_of asked s (node ∷ n ∷ []) = own_ref s node n
 ref_of asked s (node ∷ n ∷ more ∷ rest) = Err is.Number
 
--- a label that is what is asked for, or an own update of a correct node
+-- a label of the needed kind, or an own update of a correct node
 abbrev pub reference_for : Wanted → Word Schedule Ref
 reference_for asked = record {
   fits = FitsRef asked;

@@ -1,4 +1,4 @@
--- Schedules: which have a text, that text, and which line of a text goes wrong first, and how.
+-- Schedules: which have a text, that text, and for any other text the first faulty line and its fault.
 use Rattle.std.specs.Prelude.{◌≡◌, ℕ, ◌+◌, ◌≤◌, Bool, true, false, not, ◌&&◌, ◌||◌, List, [], ◌∷◌, ◌++◌, length, map, Option, Some, None, is_some, Result, Ok, Err, codes, nat_lt, if◌then◌else◌}
 use Rattle.std.specs.List.{list_any, filter, flat_map}
 use Rattle.std.specs.Fmt.{decimal}
@@ -76,29 +76,29 @@ has_correct members = list_any (λ m. m.correct) members
 abbrev pub count_correct : List Member → ℕ
 count_correct members = length (filter (λ m. m.correct) members)
 
--- whether a member's id is new, and the members stay at most 256, of which at most 32 are correct
+-- whether a member's id is new, and there are at most 256 members, at most 32 of them correct
 abbrev pub may_join : Schedule → Member → Bool
 may_join s m = not (is_declared s.members m.node) && (not m.correct || nat_lt (count_correct s.members) MOST_CORRECT) && nat_lt (length s.members) MOST_NODES
 
--- a member fits behind those so far
+-- a member fits after those so far
 abbrev pub FitsMember : Schedule → Member → Type 0
 FitsMember s m = (1 ≤ m.node) × (m.node ≤ 65535) × (may_join s m ≡ true)
 
--- each member fits behind those before it
+-- each member fits after those before it
 abbrev pub FitMembers : Schedule → List Member → Type 0
 FitMembers s [] = Unit {0}
 FitMembers s (m ∷ ms) = FitsMember s m × FitMembers (with_member s m) ms
 
--- an event fits behind those so far
+-- an event fits after those so far
 abbrev pub FitsEvent : Schedule → Event → Type 0
 FitsEvent s e = (line_of (verb_of e)).fits s e
 
--- each event fits behind those before it
+-- each event fits after those before it
 abbrev pub FitEvents : Schedule → List Event → Type 0
 FitEvents s [] = Unit {0}
 FitEvents s (e ∷ es) = FitsEvent s e × FitEvents (with_event s e) es
 
--- the schedules that have a text: each of their lines may stand behind those before it, and they have at most 100,000
+-- the schedules that have a text: each line may follow those before it, and there are at most 100,000
 pub record IsSchedule (s : Schedule) : Type 0 where
   pub low : LEAST_HEIGHT ≤ s.height
   pub high : s.height ≤ GREATEST_HEIGHT
@@ -132,14 +132,14 @@ read_scheme words = Err is.Header
 abbrev pub has_events : Schedule → Bool
 has_events s = nat_lt 0 (length s.events)
 
--- `node ID` or `faulty ID`, which stand before the first event: the number is looked at before the ids and counts are
+-- `node ID` or `faulty ID`, which precede the first event: the number is checked before the ids and counts are
 abbrev pub read_member : Schedule → Bool → List (List ℕ) → Result Schedule LineFault
 read_member s is_correct (name ∷ id ∷ []) =
     if has_events s || is_empty_word id then Err is.Header else
     (or_fault (number_word 1 65535 id) is.Number >>= λ n. if may_join s (record { node = n; correct = is_correct }) then Ok (with_member s (record { node = n; correct = is_correct })) else Err is.Header)
 read_member s is_correct words = Err is.Header
 
--- ---- lines behind the first two
+-- ---- lines after the first two
 
 -- the line of an event, where a correct node is declared
 abbrev pub read_event : Schedule → List (List ℕ) → Result Schedule LineFault
@@ -148,7 +148,7 @@ read_event s (name ∷ words) =
     if not (are_words (name ∷ words)) then Err is.Word else
     (or_fault (verb_named name) is.Word >>= λ verb. (line_of verb).read s words >>= λ e. Ok (with_event s e))
 
--- a line that isn't the header's: an event before any correct node has no place
+-- a line after the header; an event before any correct node is out of place
 abbrev pub read_other : Schedule → List (List ℕ) → Result Schedule LineFault
 read_other s words =
     if has_correct s.members then read_event s words else
@@ -158,7 +158,7 @@ read_other s words =
 pub data Head : Type 0 where
   -- `node` or `faulty`
   member : Bool → Head
-  -- `depot` or `scheme`, which stand in the first two lines alone
+  -- `depot` or `scheme`, which are in the first two lines alone
   misplaced : Head
   -- any other
   other : Head
@@ -180,7 +180,7 @@ read_line s words = read_by s (head_named (first_word words)) words
 
 -- ---- whole texts
 
--- the lines behind the second, the first of them of this number
+-- the lines after the second, the first of them of this number
 abbrev pub read_rest : ℕ → Schedule → List Line → Result Schedule (ℕ × LineFault)
 read_rest n s [] = if has_correct s.members then Ok s else Err (n, is.Header)
 read_rest n s (line ∷ lines) = checked n line (read_line s) >>= λ t. read_rest (n + 1) t lines

@@ -135,7 +135,7 @@ pub enum Event {
         source: Label,
         place: u32,
     },
-    /// The bytes of `first` and behind them those of `second` become those of the label.
+    /// The bytes of `first` and after them those of `second` become those of the label.
     Join {
         label: Label,
         first: Label,

@@ -1,4 +1,4 @@
-//! Writes the words behind the name of an event, each behind a space: one function a line of the table.
+//! Writes the words after the name of an event, each preceded by a space: one function a line of the table.
 ghost use Rattle.std.specs.Prelude.{◌≡◌, [], ◌∷◌, ◌++◌, OnOk};
 ghost use Rattle.std.specs.Fmt.{decimal};
 ghost use Rattle.depot_schedule.specs.EventLines.{put_line, puts_line, get_line, hello_line, bundle_line, give_line, restart_line, update_line, updates_line, voucher_line, proof_line, hollow_line, judge_line, raw_line, cut_line, flip_line, join_line, stop_line, receipt_line, settled_line, checkpoint_line, sign_line, trim_line, tgive_line, tget_line, line_of, verb_of};
@@ -340,7 +340,7 @@ fn tget(alloc: Global, out: &mut Bytes, name: &Label, key: &Key) -> Result<(), M
     hex(alloc, out, key.bytes())
 }
 
-/// The words behind the name of an event.
+/// The words after the name of an event.
 #[tactic(auto, unfolding(crate::specs::EventLines::audit_line))]
 pub fn words_of_event(alloc: Global, out: &mut Bytes, event: &Event) -> Result<(), Memory>
     ensures { OnOk result (out.new ≡ out.old ++ behind_spaces ((line_of (verb_of event.now)).text event.now)) }

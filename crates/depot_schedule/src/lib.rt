@@ -1,16 +1,18 @@
 //! Schedules: texts that say which nodes there are and what happens to them, line by line (docs/FORMATS.md, "Schedules").
 //!
-//! A schedule is plain data: contracts see its members and events as lists, labels and bytes as lists of bytes, and numbers of nodes as
-//! numbers.
+//! A schedule is plain data: contracts see its members and events as lists, labels and bytes as lists of bytes, and
+//! numbers of nodes as numbers.
 //!
-//! Each schedule that has a text (`IsSchedule`) has one, and is read back from it. Any other text has a first faulty line, and that line a
-//! first fault (`schedule_of`).
+//! - Each schedule that has a text (`IsSchedule`) has one, and is read back from it.
+//! - Any other text has a first faulty line, and that line a first fault (`schedule_of`).
 //!
-//! `specs/EventLines.antt` has the table of events in the language of lines of `depot_lines`, `EventWords` the words that events have alone,
-//! and `Schedules` whole texts. `proofs/` has what holds of each line of the table. A new kind of event is a variant of `Event` and of `Verb`,
-//! a line of the table with its law, and a reader (in `depot_schedule_parser`) and a writer with no proof file.
+//! `specs/EventLines.antt` has the table of events, in the language of lines of `depot_lines`; `EventWords` has the
+//! words that only events have, and `Schedules` whole texts. `proofs/` has the laws of each line of the table. A new
+//! kind of event is a variant of `Event` and of `Verb`, a line of the table with its law, and a reader (in
+//! `depot_schedule_parser`) and a writer with no proof file.
 //!
-//! `event`, `member` and `schedule` have the types, `verb` the kinds of events and what their labels name; `event_writers`,
+//! `event`, `member` and `schedule` have the types, `verb` the kinds of events and what their labels name;
+//! `event_writers`, `reference_writers` and `print` write a schedule.
 //! `reference_writers` and `print` write a schedule.
 //!
 //! Nothing here reads a text, and nothing says what an event does.

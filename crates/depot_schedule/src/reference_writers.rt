@@ -1,4 +1,4 @@
-//! Writes words of references and of histories, each behind a space.
+//! Writes words of references and of histories, each preceded by a space.
 ghost use Rattle.std.specs.Prelude.{◌≡◌, ◌++◌, ◌∷◌, map, OnOk};
 ghost use Rattle.std.specs.List.{flat_map};
 ghost use Rattle.std.specs.Fmt.{decimal};
@@ -62,7 +62,7 @@ pub fn prev(alloc: Global, out: &mut Bytes, prev: &Option<Ref>) -> Result<(), Me
     }
 }
 
-/// References, each behind a comma.
+/// References, each preceded by a comma.
 #[tactic(auto, using(depot_base::proofs::Writing::texts))]
 fn behind_commas(alloc: Global, out: &mut Bytes, refs: &[Ref]) -> Result<(), Memory>
     ensures { OnOk result (out.new ≡ out.old ++ flat_map (λ r. 44 ∷ text_of_ref r) refs.now) }

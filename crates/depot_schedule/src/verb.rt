@@ -126,7 +126,7 @@ impl Verb {
         }
     }
 
-    /// The kind of event of this name. None exactly where there is none.
+    /// The kind of event of this name. `None` exactly when there is none.
     #[tactic(auto, unfolding(crate::specs::EventLines::verb_named))]
     pub fn named(word: &[u8]) -> Option<Verb>
         ensures { result ≡ verb_named word.now }
@@ -173,7 +173,7 @@ impl Wanted {
     ghost use Rattle.std.specs.Prelude.{◌≡◌};
     ghost use Rattle.depot_schedule.specs.EventWords.{is_asked_for, meets};
 
-    /// Whether what a label names is of the kind that is asked for.
+    /// Whether what a label names is of the needed kind.
     fn is_asked_for(self, made: Made) -> bool
         ensures { result ≡ is_asked_for self made }
     {
@@ -226,7 +226,7 @@ impl Wanted {
         }
     }
 
-    /// Whether a label that names this is what is asked for; one that wasn't made never is.
+    /// Whether a label that names this is of the needed kind; one that wasn't made never is.
     pub fn meets(self, made: Option<Made>) -> bool
         ensures { result ≡ meets self made }
     {

@@ -1,4 +1,4 @@
--- Looking labels up in a map that keeps them in order, and putting one more in.
+-- Looking labels up in an ordered map, and inserting one.
 use Rattle.std.proofs.Common.{◌≡◌, ℕ, Bool, true, false, cond, List, [], ◌∷◌, Option, Some, None, Vec, refl, sym, ap, ◌∙◌}
 use Rattle.std.specs.declared.alloc.Global.{Global}
 use Rattle.std.specs.declared.cmp.Ordering.{Ordering}

@@ -10,6 +10,6 @@ abbrev pub named_in_table : List ℕ → List (Vec ℕ Global × Made) → Optio
 named_in_table label [] = None
 named_in_table label (e ∷ es) = if bytes_eq label e.0.items then Some e.1 else named_in_table label es
 
--- a table names what another names, and first of all what this label was made to name, if there is one
+-- a table names what another one names, except that this label names what it was now made to name, if anything
 abbrev pub AddsLabel : List (Vec ℕ Global × Made) → Option (List ℕ × Made) → List (Vec ℕ Global × Made) → Type 0
 AddsLabel old made new = (label : List ℕ) → named_in_table label new ≡ first_or (if_named label made) (named_in_table label old)

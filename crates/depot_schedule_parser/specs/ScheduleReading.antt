@@ -13,7 +13,7 @@ TakesFirst old (Ok done) new = read_all (lines_of_parts old) ≡ read_second (li
 TakesFirst old (Err error.Memory) new = Unit {0}
 TakesFirst old (Err (error.Line n f)) new = read_all (lines_of_parts old) ≡ Err (n, f)
 
--- what reading the second line says of reading it and those behind it
+-- what reading the second line says of reading it and those after it
 abbrev pub TakesSecond : List (List ℕ) → Result Schedule TextError → List (List ℕ) → Type 0
 TakesSecond old (Ok s) new = read_second (lines_of_parts old) ≡ read_rest 3 s (lines_of_parts new)
 TakesSecond old (Err error.Memory) new = Unit {0}

@@ -14,7 +14,7 @@ use depot_schedule::{Event, Made, Member, Schedule};
 use std::alloc::Global;
 use std::marker::Model;
 
-/// A schedule so far, and what its labels name. It is seen as that schedule.
+/// The schedule so far, and what its labels name. Contracts see it as that schedule.
 #[derive(Drop)]
 pub struct Draft {
     schedule: Schedule,
@@ -167,14 +167,14 @@ impl Draft {
         0 < self.schedule.events.as_slice().len()
     }
 
-    /// What a label names. None exactly where no event made it.
+    /// What a label names. `None` exactly when no event made it.
     pub fn named(&self, label: &[u8]) -> Option<Made>
         ensures { result ≡ named_by self.now.events label.now }
     {
         self.labels.get(label)
     }
 
-    /// Whether a member may be added: its number is new, and the nodes don't become too many.
+    /// Whether a member may be added: its number is new, and there don't get too many nodes.
     pub fn may_join(&self, member: Member) -> bool
         ensures { result ≡ may_join self.now member }
     {
@@ -203,7 +203,7 @@ impl Draft {
         Ok(Draft { schedule, labels })
     }
 
-    /// The schedule. The list of its events gives back the room that no event takes.
+    /// Returns the schedule. The list of its events gives back unused room.
     pub fn into_schedule(self) -> Schedule
         ensures { result ≡ self }
     {

@@ -1,4 +1,4 @@
-//! Reads the words behind the name of an event: one function a line of the table.
+//! Reads the words after the name of an event: one function a line of the table.
 ghost use Rattle.depot_lines.specs.Language.{nothing, last};
 ghost use Rattle.depot_schedule.specs.EventWords.{piece_size};
 ghost use Rattle.depot_schedule.specs.EventLines.{put_line, puts_line, get_line, hello_line, bundle_line, give_line, restart_line, update_line, updates_line, voucher_line, proof_line, hollow_line, judge_line, raw_line, cut_line, flip_line, join_line, stop_line, receipt_line, settled_line, audit_line, checkpoint_line, sign_line, trim_line, tgive_line, tget_line, line_of};
@@ -413,7 +413,7 @@ fn tget(alloc: Global, words: &mut Parts<'_>, behind: &Draft) -> Result<Event, L
     made(words, Event::Tget { name, key })
 }
 
-/// The event of the words behind its name.
+/// The event of the words after its name.
 pub fn event_of(
     alloc: Global,
     verb: Verb,

@@ -13,7 +13,7 @@ use depot_lines::{LineError, LineFault, Parts, is_empty_word};
 use depot_schedule::Member;
 use std::alloc::Global;
 
-/// The two words of a line. None exactly where they are more or fewer.
+/// The two words of a line. `None` exactly when they are more or fewer.
 fn two(line: &[u8]) -> Option<(&[u8], &[u8])>
     ensures { MatchOption result (¬ (length (split 32 line.now) ≡ 2)) (λ w. split 32 line.now ≡ w.0.now ∷ w.1.now ∷ []) }
 {
@@ -30,7 +30,7 @@ fn two(line: &[u8]) -> Option<(&[u8], &[u8])>
     Some((first, second))
 }
 
-/// The three words of a line. None exactly where they are more or fewer.
+/// The three words of a line. `None` exactly when they are more or fewer.
 fn three(line: &[u8]) -> Option<(&[u8], &[u8], &[u8])>
     ensures { MatchOption result (¬ (length (split 32 line.now) ≡ 3)) (λ w. split 32 line.now ≡ w.0.now ∷ w.1.now ∷ w.2.now ∷ []) }
 {

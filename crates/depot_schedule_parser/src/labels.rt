@@ -7,8 +7,8 @@ use depot_schedule::Made;
 use std::alloc::Global;
 use std::collections::BTreeMap;
 
-/// What each label names, in a map that keeps the labels in order. Who writes a schedule picks them, so none is hashed: a
-/// look-up takes logarithmic time, whatever they are.
+/// What each label names, in an ordered map. Whoever writes a schedule picks the labels, so none is hashed: a look-up
+/// takes logarithmic time, whatever they are.
 #[derive(Drop)]
 pub struct NamedLabels {
     /// The labels.
@@ -25,7 +25,7 @@ impl NamedLabels {
         }
     }
 
-    /// What a label names. None exactly where it was not put in.
+    /// What a label names. `None` exactly when it was not put in.
     pub fn get(&self, label: &[u8]) -> Option<Made>
         ensures { result ≡ named_in_table label.now self.now.map.entries }
     {

@@ -51,7 +51,7 @@ fn one_line(
     in_line(number, schedule_lines::read_line(alloc, draft, text))
 }
 
-/// The lines behind the second.
+/// The lines after the second.
 fn rest(alloc: Global, parts: Parts<'_>, draft: Draft) -> Result<Draft, TextError>
     ensures { Parses result (read_rest 3 draft (lines_of_parts parts.entry)) }
 {
@@ -81,9 +81,9 @@ fn all(alloc: Global, text: &[u8]) -> Result<Schedule, TextError>
     Ok(draft.into_schedule())
 }
 
-/// The schedule whose text this is (docs/FORMATS.md). `Line` comes exactly where it is no schedule's text, with the number of the
-/// first faulty line, from 1, and that line's first fault. Each line is gone over a fixed number of times, and a label is looked up
-/// in logarithmic time.
+/// Parses the text of a schedule (docs/FORMATS.md). `Line` is returned exactly when it is no schedule's text, with the
+/// number of the first faulty line, from 1, and that line's first fault. Each line is read a fixed number of times, and
+/// a label is looked up in logarithmic time.
 pub fn parse_schedule(alloc: Global, text: &[u8]) -> Result<Schedule, TextError>
     ensures parses { Parses result (schedule_of text.now) }
     ensures found { IfOk result (IsTextOfSchedule text.now) }

@@ -35,7 +35,7 @@ fn label_ref(alloc: Global, word: &[u8], behind: &Draft, wanted: Wanted) -> Resu
     Ok(Ref::Label(label_for_of(alloc, word, behind, wanted)?))
 }
 
-/// The reference that a word is: a label that is what is asked for, or an own update.
+/// The reference that a word is: a label of the needed kind, or an own update.
 fn reference_of(
     alloc: Global,
     word: &[u8],
@@ -58,7 +58,7 @@ fn reference_of(
     }
 }
 
-/// The references so far, and of their faults the one that is looked for first.
+/// The references so far, and the one of their faults that is looked for first.
 #[derive(Drop)]
 struct GatheredRefs {
     refs: Refs,
@@ -106,7 +106,7 @@ impl GatheredRefs {
         }
     }
 
-    /// What they come to.
+    /// Their outcome.
     fn end(self) -> Result<Refs, LineError>
         ensures { AnswersReading result (gathered self.fault self.refs (Ok [])) }
     {

@@ -1,4 +1,4 @@
-//! Reads any line behind the second.
+//! Reads any line after the second.
 ghost use Rattle.depot_lines.specs.Language.{split};
 ghost use Rattle.depot_schedule.specs.Schedules.{read_event, read_other, read_line};
 ghost use Rattle.depot_lines.specs.LineReading.{AnswersReading};
@@ -42,7 +42,7 @@ fn read_other(alloc: Global, draft: Draft, line: &[u8]) -> Result<Draft, LineErr
     }
 }
 
-/// A line behind the second: the schedule with what it adds.
+/// A line after the second: the schedule with what it adds.
 #[tactic(auto, unfolding(depot_schedule::specs::Schedules::read_line))]
 pub fn read_line(alloc: Global, draft: Draft, line: &[u8]) -> Result<Draft, LineError>
     ensures { AnswersReading result (read_line draft (split 32 line.now)) }

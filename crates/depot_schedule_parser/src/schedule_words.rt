@@ -1,4 +1,4 @@
-//! Reads the words that lines of events have alone, most of them by the schedule so far.
+//! Reads the words that only lines of events have, most of them by the schedule so far.
 ghost use Rattle.std.specs.Prelude.{◌≡◌, ◌≤◌, ◌^◌};
 ghost use Rattle.depot_base.specs.declared.limits.TheConstants.{GREATEST_HEIGHT};
 ghost use Rattle.depot_lines.specs.Language.{nothing, next};
@@ -99,7 +99,7 @@ pub fn history(alloc: Global, words: &mut Parts<'_>) -> Result<HistoryWord, Line
     Ok(HistoryWord::Given(digest_of(alloc, word)?))
 }
 
-/// The label that a word is, which an event before made, and which is what is asked for.
+/// The label that a word is: of the needed kind, made by an earlier event.
 pub fn label_for_of(
     alloc: Global,
     word: &[u8],
@@ -129,7 +129,7 @@ pub fn new_label(alloc: Global, words: &mut Parts<'_>, behind: &Draft) -> Result
     }
 }
 
-/// A label that an event before made, and that is what is asked for.
+/// A label of the needed kind that an earlier event made.
 pub fn label_for(
     alloc: Global,
     words: &mut Parts<'_>,

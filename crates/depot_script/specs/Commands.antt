@@ -58,7 +58,7 @@ abbrev pub command_nodes : Command → ℕ
 command_nodes (Settled _ k) = k
 command_nodes _ = 0
 
--- ---- the table, by the words behind the command's name; nothing before a line matters for it
+-- ---- the table, by the words after the command's name; nothing before a line matters for it
 
 abbrev pub CommandForm : Type 1
 CommandForm = Words (Unit {0}) Command
@@ -154,7 +154,7 @@ command_name verb.Trim = codes "trim"
 command_name verb.Tgive = codes "tgive"
 command_name verb.Tget = codes "tget"
 
--- the words behind it
+-- the words after it
 abbrev pub command_form : CommandVerb → CommandForm
 command_form verb.Put = put_form
 command_form verb.Puts = puts_form

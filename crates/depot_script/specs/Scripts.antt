@@ -1,4 +1,5 @@
--- Scripts: which have a text, that text, and which line of a text goes wrong first, and how. A script is a list of commands.
+-- Scripts: which have a text, that text, and for any other text the first faulty line and its fault. A script is a list
+-- of commands.
 use Rattle.std.specs.Prelude.{ℕ, ◌+◌, ◌≤◌, not, List, [], ◌∷◌, length, Result, Ok, Err, if◌then◌else◌, ◌≡◌}
 use Rattle.std.specs.List.{flat_map}
 use Rattle.depot_base.specs.declared.limits.TheConstants.{MOST_LINES}
@@ -24,7 +25,7 @@ text_of_script commands = flat_map (λ c. text_of_line (command_words c)) comman
 abbrev pub FitsCommand : Command → Type 0
 FitsCommand c = (command_form (verb_of_command c)).fits nothing c
 
--- the scripts that have a text: each of their commands has a line, and they are at most 100,000
+-- the scripts that have a text: each command has a line, and there are at most 100,000
 pub record IsScript (commands : List Command) : Type 0 where
   pub fit : FitAll FitsCommand commands
   pub lines : length commands ≤ MOST_LINES

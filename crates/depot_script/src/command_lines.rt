@@ -1,4 +1,4 @@
-//! Reads the words behind the name of a command: one function a line of the table.
+//! Reads the words after the name of a command: one function a line of the table.
 ghost use Rattle.depot_lines.specs.Language.{nothing};
 ghost use Rattle.depot_lines.specs.LineReading.{AnswersReading};
 ghost use Rattle.depot_script.specs.Commands.{put_form, puts_form, get_form, hello_form, bundle_form, take_form, receipt_form, settled_form, export_form, checkpoint_form, sign_form, trim_form, tgive_form, tget_form, command_form};
@@ -152,7 +152,7 @@ fn tget(alloc: Global, words: &mut Parts<'_>) -> Result<Command, LineError>
     made(words, Command::Tget { key })
 }
 
-/// The command of the words behind its name.
+/// The command of the words after its name.
 pub fn command_of(
     alloc: Global,
     verb: CommandVerb,

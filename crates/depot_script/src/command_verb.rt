@@ -78,7 +78,7 @@ impl CommandVerb {
         }
     }
 
-    /// The kind of command of this name. None exactly where there is none.
+    /// The kind of command of this name. `None` exactly when there is none.
     #[tactic(auto, unfolding(crate::specs::Commands::command_named))]
     pub fn named(word: &[u8]) -> Option<CommandVerb>
         ensures { result ≡ command_named word.now }

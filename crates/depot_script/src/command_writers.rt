@@ -1,4 +1,4 @@
-//! Writes the words behind the name of a command, each behind a space: one function a line of the table.
+//! Writes the words after the name of a command, each preceded by a space: one function a line of the table.
 ghost use Rattle.std.specs.Prelude.{◌≡◌, ◌++◌, OnOk};
 ghost use Rattle.depot_lines.specs.LineReading.{behind_spaces};
 ghost use Rattle.depot_script.specs.Commands.{put_form, puts_form, get_form, hello_form, bundle_form, take_form, receipt_form, settled_form, export_form, checkpoint_form, sign_form, trim_form, tgive_form, tget_form, command_form, verb_of_command};
@@ -123,7 +123,7 @@ fn tget(alloc: Global, out: &mut Bytes, key: &Key) -> Result<(), Memory>
     hex(alloc, out, key.bytes())
 }
 
-/// The words behind the name of a command.
+/// The words after the name of a command.
 pub fn words_of_command(alloc: Global, out: &mut Bytes, command: &Command) -> Result<(), Memory>
     ensures { OnOk result (out.new ≡ out.old ++ behind_spaces ((command_form (verb_of_command command.now)).text command.now)) }
 {

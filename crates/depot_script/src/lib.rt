@@ -1,8 +1,8 @@
-//! Scripts: texts that say what a node shall do, one command a line (docs/FORMATS.md, "Scripts").
+//! Scripts: texts that say what a node is to do, one command a line (docs/FORMATS.md, "Scripts").
 //!
-//! Each script that has a text (`IsScript`) has one, and is read back from it. Any other text is refused with its first faulty line
-//! and that line's first fault. A script is plain data: contracts see it as a list of commands, and keys, values and names of files
-//! as lists of bytes.
+//! A script is plain data: contracts see it as a list of commands, and keys, values and names of files as lists of
+//! bytes. Each script that has a text (`IsScript`) has one, and is read back from it. Any other text is refused with
+//! its first faulty line and that line's first fault.
 //!
 //! `specs/Commands.antt` has the table of commands, in the language of lines of `depot_lines`, and `Scripts` whole texts. A new
 //! kind of command is a variant of `Command` and of `CommandVerb`, a line of the table with its law, and a reader and a writer with no

@@ -41,7 +41,7 @@ fn one_line(alloc: Global, number: u32, text: &[u8], ended: bool) -> Result<Comm
     in_line(number, read_command(alloc, text))
 }
 
-/// All lines of a text. The list of the commands gives back the room that no command takes.
+/// All lines of a text. The list of the commands gives back unused room.
 #[tactic(auto, unfolding(crate::specs::Scripts::script_of))]
 fn all(alloc: Global, text: &[u8]) -> Result<Script, TextError>
     ensures { Parses result (script_of text.now) }
@@ -59,8 +59,8 @@ fn all(alloc: Global, text: &[u8]) -> Result<Script, TextError>
     Ok(Sequence::from_vec(commands))
 }
 
-/// The script whose text this is (docs/FORMATS.md). `Line` comes exactly where it is no script's text, with the number of the first
-/// faulty line, from 1, and that line's first fault. Each line is gone over a fixed number of times.
+/// Parses the text of a script (docs/FORMATS.md). `Line` is returned exactly when it is no script's text, with the
+/// number of the first faulty line, from 1, and that line's first fault. Each line is read a fixed number of times.
 pub fn parse_script(alloc: Global, text: &[u8]) -> Result<Script, TextError>
     ensures parses { Parses result (script_of text.now) }
     ensures found { IfOk result (IsTextOfScript text.now) }

@@ -30,7 +30,8 @@ fn command_lines(alloc: Global, out: &mut Bytes, commands: &[Command]) -> Result
     Ok(())
 }
 
-/// The script's text (docs/FORMATS.md), a line a command. Where the commands are more than 100,000 it is too long to be read back.
+/// Prints the script's text (docs/FORMATS.md), a line for each command. With more than 100,000 commands it is too long
+/// to be read back.
 #[tactic(auto, unfolding(crate::specs::Scripts::text_of_script))]
 pub fn print_script(alloc: Global, script: &Script) -> Result<Bytes, Memory>
     ensures { IfOk result (λ text. text ≡ text_of_script script.now) }

@@ -1,4 +1,4 @@
--- A node on the disk of a run: what serving it leaves of the node is what the run leaves on the disk.
+-- A node on the disk of a run: what serving makes of the node, the run makes of the disk.
 use Rattle.std.proofs.Common.{◌≡◌, ◌≢◌, ◌<◌, ◌≤◌, ◌⊎◌, ℕ, Bool, true, IsTrue, List, [], ◌++◌, append_assoc, append-nil, take, Some, Result, Ok, Err, refl, sym, ap, subst, ◌∙◌, arith, inl, inr}
 use Rattle.depot_base.specs.File.{IsFileOf}
 use Rattle.depot_base.specs.declared.key.PublicKey.{PublicKey}
@@ -33,8 +33,8 @@ use Rattle.depot_server.specs.declared.ending.ServerEnding.{ServerEnding}
 use Rattle.depot_server.specs.declared.ending.ServerEnding.TheVariants as ending
 use Rattle.depot_server.proofs.ServerEndings.{no_other, served_not_another, served_not_unlawful}
 
--- A node was started from the disk of a run, and serves on it: what a stop leaves on the disk, at a moment of the run and after it, it leaves of the
--- node, or the start might have left it.
+-- A node was started from the disk of a run, and serves on it: a crash image of the disk, at a moment of the run or
+-- after it, is one of the node, or was possible at the start.
 pub record IsOnDisk {N : Type 0} (g : Ghosts N) (here : Setting) (old new : N) (disk : Disks) : Type 0 where
   pub told_first : IsTrue disk.tells → IsTrue (g.tells old)
   pub told : IsTrue disk.tells → IsTrue (g.tells new)
@@ -50,14 +50,14 @@ pub record IsOnDisk {N : Type 0} (g : Ghosts N) (here : Setting) (old new : N) (
   pub reads_in_run : IsTrue disk.tells → disk.left_in_run disk.file_after
   pub rose : g.faults old < g.faults new → HasFailed disk
 
--- what the run of a node that was started comes to
+-- the outcome of the run of a started node
 pub record ComesTo (here : Setting) (key : PublicKey) (f : ServesBody) (disk : Disks) (input : Inputs) (same_input : Type 0) (sink : Sinks) (e : ServerEnding) : Type 0 where
   pub file : IsTrue disk.tells → KeepsFile here disk
   pub stable : IsTrue disk.tells → EndsByInput e → Settles here disk
   pub begins : IsServerStarted here key f disk input same_input sink e
   pub answers : AnswersInput here key f disk input same_input sink e
 
--- what cut a run short, told of another place where journals stand, and of counts that rose with these
+-- what cut a run short, for another way to keep journals, and for counts that rose with these
 cut_on : (A B : List Record → Type 0) → ((K : List Record) → A K → B K) → (r s : FaultsRisen) → (r.disk → s.disk) → (r.source → s.source) → (r.sink → s.sink) → (J : List Record) (comes : Came) (next : List _) (behind last : List ℕ) (over : Bool) (place : ℕ) (e : ServeEnding)
     → IsCutOff A J comes next behind last over r place e → IsCutOff B J comes next behind last over s place e
 cut_on A B so r s disk source sink J comes next behind last over place serve.Memory c = c
@@ -67,7 +67,7 @@ cut_on A B so r s disk source sink J comes next behind last over place serve.Sin
 cut_on A B so r s disk source sink J comes next behind last over place (serve.Input at within) c =
     record { at_place = c.at_place; unbegun = c.unbegun; untold = c.untold; stands = so J c.stands; came = c.came }
 
--- a text behind the first message
+-- a text after the first message
 behind_first : (whole behind : Sinks) (first text : List ℕ) → IsFirstSaid whole behind first → Wrote behind text → Wrote whole (first ++ text)
 behind_first whole behind first text said wrote told =
     said.after ∙ wrote (subst (λ (b : Bool). IsTrue b) (sym said.tells) told) ∙ ap (λ (s : List ℕ). s ++ text) (said.first told) ∙ append_assoc whole.before first text
@@ -91,7 +91,7 @@ birth_brought here J file image before has start =
     subst (λ (b : List Record). before image ⊎ HasFront J b image) (append-nil (birth_after here J)) (run_brings here J (started here J) [] file image before has refl (inl start))
 
 module _ {N : Type 0} (g : Ghosts N) (here : Setting) (old new : N) (disk : Disks) (on : IsOnDisk g here old new disk) where
-  -- ---- what a stop leaves
+  -- ---- crash images
 
   stands_so : (K : List Record) → RunsWith g new K → StandsOn disk K
   stands_so K r told =
@@ -146,7 +146,7 @@ module _ {N : Type 0} (g : Ghosts N) (here : Setting) (old new : N) (disk : Disk
       kept = all_left f w.done (came_at g f old w.done).journal w.answered.kept;
     }
 
-    -- what failed behind the first message failed in the run
+    -- what failed after the first message failed in the run
     sink_rose : behind.faults_before < behind.faults_after → sink.faults_before < sink.faults_after
     sink_rose rose = let calm = said.calm in let faults = said.faults in omega (arith, calm, faults, rose)
 
@@ -201,7 +201,7 @@ module _ {N : Type 0} (g : Ghosts N) (here : Setting) (old new : N) (disk : Disk
         let so_here = subst (λ (h : Setting). StaysBy g (started_text h (g.records old)) (serves_at h (g.signature_of old)) old new input same_input sink e) stands stays in
         stayed_by (serves_at here sign) input same_input sink e running idle (subst (λ (x : Signs). StaysBy g (started_text here (g.records old)) (serves_at here x) old new input same_input sink e) signs so_here)
 
-    -- what a stop leaves goes on from the file
+    -- a crash image extends the file
     file_kept : IsTrue disk.tells → IsRoster here.listed → has_node here.listed here.me ≡ true → KeepsFile here disk
     file_kept told formed member = record {
       images = λ image left. run_goes_on here disk.file image (g.records old) lasts.appends disk.may_leave formed member (on.from told) lawful lasts.is.receipts (on.in_run told lasts.appends lasts.lasts image left);
@@ -233,7 +233,7 @@ module _ {N : Type 0} (g : Ghosts N) (here : Setting) (old new : N) (disk : Disk
       over = λ told keyed J lawful has. inr (subst (λ (K : List Record). ServesJournal here (serves_at here sign) K disk input same_input sink e) (lawful_file_is_read here disk.file J (g.records old) has lawful (on.from told)) serves);
     }
 
-    -- that is what the run comes to
+    -- that is the run's outcome
     pub comes_to : (key : PublicKey) → key_of here.listed here.me ≡ Some key → IsRoster here.listed → has_node here.listed here.me ≡ true → ComesTo here key (serves_at here sign) disk input same_input sink e
     comes_to key keyed formed member = record {
       file = λ told. file_kept told formed member;

@@ -27,7 +27,7 @@ use Rattle.depot_server.proofs.Folding.{bodies_more, each_more, journal_more, te
 
 -- ---- what is kept
 
--- a front of the second behind all of the first is a front of all
+-- a prefix of the second after all of the first is a prefix of all
 front_of_second : (J K a b : List Record) (file : List ℕ) → K ≡ J ++ a → HasFront K b file → HasFront J (a ++ b) file
 front_of_second J K a b file grown front = record {
   count = length a + front.count;
@@ -61,7 +61,7 @@ kept_on g first mid new J K then runs at kept brings =
           };
     }
 
--- all records are a front with none behind them
+-- all records are a prefix with none after them
 front_of_all : (J : List Record) (file : List ℕ) → HasAll J false file → HasFront J [] file
 front_of_all J file all = record {
   count = 0;
@@ -77,7 +77,7 @@ kept_now g only_now first new J ran running at brings = record {
   left = λ told. record { began = (brings.lasts.any_moment (subst (λ (b : Bool). IsTrue b) brings.lasts.told told) ran).later; past = omega arith; left = λ image left. subst (λ (x : List Record). HasFront x [] image) at (front_of_all (g.records new) image (running.stable told image (only_now new image left))) };
 }
 
--- ---- texts behind one another
+-- ---- texts after one another
 
 pub wrote_behind : (first mid new : List ℕ) (told now : Bool) (a b : List ℕ) → now ≡ told → (IsTrue told → mid ≡ first ++ a) → (IsTrue now → new ≡ mid ++ b) → IsTrue told → new ≡ first ++ (a ++ b)
 wrote_behind first mid new told now a b same one two t = two (subst (λ (x : Bool). IsTrue x) (sym same) t) ∙ ap (λ (x : List ℕ). x ++ b) (one t) ∙ append_assoc first a b
@@ -219,6 +219,6 @@ ended_by_count g f first now input sink done a = record {
 pub of_first : {N : Type 0} (g : Ghosts N) (f h : ServesBody) (old new : N) (input : Inputs) (sink : Sinks) (place : ℕ) (r : Result (Option ℕ) ServeEnding) → f ≡ h → TurnsRequest g f old new input sink place r → TurnsRequest g h old new input sink place r
 of_first g f h old new input sink place r serves turns = subst (λ (x : ServesBody). TurnsRequest g x old new input sink place r) serves turns
 
--- a place behind one message more
+-- a place after one message more
 pub place_more : (done : List Message) (m : Message) (at long : ℕ) → at ≡ place_after done → long ≡ length (text_of_message m) → min (at + long) (2 ^ 64 - 1) ≡ place_after (done ++ m ∷ [])
 place_more done m at long is so = let all : length (flat_map text_of_message (done ++ m ∷ [])) ≡ length (flat_map text_of_message done) + length (text_of_message m) = ap length (texts_more done m) ∙ length-append (flat_map text_of_message done) (text_of_message m) in grind (arith, all, is, so)

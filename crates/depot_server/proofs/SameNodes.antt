@@ -1,4 +1,4 @@
--- The node that it was serves as it did.
+-- An unchanged node serves as it did.
 use Rattle.std.proofs.Common.{◌≡◌, refl, ap, ◌∙◌}
 use Rattle.depot_model.specs.Bundle.{Signs}
 use Rattle.depot_model.specs.Checks.{Setting}

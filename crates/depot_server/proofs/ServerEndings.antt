@@ -1,4 +1,4 @@
--- How a run doesn't end whose node was started.
+-- How a run whose node was started doesn't end.
 use Rattle.std.proofs.Common.{◌≢◌, ℕ, List, Result, Ok, Err, subst}
 use Rattle.depot_outside.specs.Told.{Sinks}
 use Rattle.depot_server.specs.ServerRuns.{IsUnsaid, ending_of_served}

@@ -1,4 +1,4 @@
--- One turn, from what was heard, replied and written.
+-- One turn, from what was read, replied and written.
 use Rattle.std.proofs.Common.{◌≡◌, ◌<◌, ℕ, Bool, true, false, IsTrue, List, [], ◌∷◌, ◌++◌, append-nil, length, take, Option, Some, Err, refl, sym, ap, subst, ◌∙◌}
 use Rattle.std.specs.Prelude.{is_some}
 use Rattle.depot_base.specs.declared.record.Record.{Record}
@@ -50,7 +50,7 @@ serves_on g old new then failed call well =
     let runs = call.runs well in
     record { runs = runs; stable = λ told. subst (λ (b : Bool). LeavesAll (g.records new) b (g.may_leave new)) runs (call.lasts.stable told) }
 
--- what a found request comes to at a node
+-- the outcome of a found request at a node
 pub comes_to : {N : Type 0} (g : Ghosts N) (old : N) (body : List ℕ) (a : Asked) → asked_of_body body ≡ Some a → serves_of g old (g.records old) body ≡ came_by (g.stands old) (g.signature_of old) (g.records old) a
 comes_to g old body a found = ap (λ (o : Option Asked). came_of_found (g.stands old) (g.signature_of old) (g.records old) o) found
 
@@ -180,7 +180,7 @@ module _ {N : Type 0} (g : Ghosts N) (old new : N) (input : Inputs) (sink : Sink
       lawful = lasts_so g failed _ old new (λ x. absurd (well x)) call.lawful;
     }
 
-    -- a front of its reply was written; where the sink doesn't tell it, of no matter which
+    -- a prefix of its reply was written; if the sink's text isn't visible, it doesn't matter which
     pub half_told : sink.faults_before < sink.faults_after → (IsTrue sink.tells → (n : ℕ) × (sink.after ≡ sink.before ++ take n text)) → IsTurnShort g f old new input sink place ending.Sink
     half_told rose front = by_telling sink.tells refl where
       by_telling : (b : Bool) → sink.tells ≡ b → IsTurnShort g f old new input sink place ending.Sink

@@ -1,4 +1,4 @@
--- What is said first, unasked: that a node was started, or why it wasn't.
+-- The first message, unasked: that a node was started, or why it wasn't.
 use Rattle.std.specs.Prelude.{ℕ, List, ◌++◌, length}
 use Rattle.std.specs.Int.{w8, w16, w32}
 use Rattle.depot_base.specs.Cursor.{numeral}
@@ -10,7 +10,7 @@ use Rattle.depot_node.specs.declared.start_error.StartError.{StartError}
 use Rattle.depot_session.specs.SessionRuns.{line_of_refusal}
 use Rattle.depot_server.specs.declared.start_telling.TheConstants.{MESSAGE_VERSION}
 
--- the message of a body: how many bytes that has, as four bytes, and those
+-- the message of a body: its length, as four bytes, and its bytes
 abbrev pub message_of : List ℕ → List ℕ
 message_of body = numeral w32 (length body) ++ body
 

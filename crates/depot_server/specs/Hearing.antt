@@ -16,7 +16,7 @@ pub record HasHeardRequest (input : Inputs) (heard : Heard) : Type 0 where
   pub given : input.after ≡ input.before ++ text_of_message message
   pub long : heard.long ≡ length (text_of_message message)
 
--- What is wrong with what came: it is no message; or its body is no request's text, and its first fault is there.
+-- What is wrong with what came: it is no message, or its body is no request's text, with its first fault there.
 abbrev pub NoRequestCame : Bool → List ℕ → ℕ → Type 0
 NoRequestCame over behind within =
     (IsNoMessage over behind × (within ≡ 0)) ⊎ ((m : Message) × (IsMessage m × (IsAskedFault m.body within × (behind ≡ text_of_message m))))
@@ -28,7 +28,8 @@ pub record FailsWithin (input : Inputs) : Type 0 where
   pub part : IsPartOfMessage behind
   pub rose : input.faults_before < input.faults_after
 
--- What is heard next: a request; the end; or what came is none, or the source failed, or no memory was found. Its message begins at a place.
+-- What comes next: a request; the end; or what came is none, or the source failed, or no memory was found. Its message
+-- begins at an offset.
 abbrev pub HearsRequest : Inputs → ℕ → Result (Option Heard) ServeEnding → Type 0
 HearsRequest input place (Ok (Some heard)) = HasHeardRequest input heard
 HearsRequest input place (Ok None) = (input.after ≡ input.before) × (input.over ≡ true)

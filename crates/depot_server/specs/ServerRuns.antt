@@ -1,4 +1,4 @@
--- The run of a server: how it starts, what it answers, and what it leaves.
+-- The run of a server: how it starts, what it answers, and its crash images.
 use Rattle.std.specs.Prelude.{◌≡◌, ◌≢◌, ◌<◌, ◌≤◌, ◌⊎◌, ℕ, List, [], ◌++◌, length, take, true, IsTrue, Some, Result, Ok, Err}
 use Rattle.std.specs.List.{flat_map}
 use Rattle.depot_base.specs.declared.key.PublicKey.{PublicKey}
@@ -43,21 +43,21 @@ ending_of_served (Err serve.Disk) = ending.Disk
 ending_of_served (Err serve.Sink) = ending.Sink
 ending_of_served (Err (serve.Input at within)) = ending.Input at within
 
--- it came to the end of its input, or the source failed, or what came is no request: so ends no run whose node wasn't started
+-- its input ended, or the source failed, or what came is no request: no run whose node wasn't started ends in this way
 abbrev pub EndsByInput : ServerEnding → Type 0
 EndsByInput ending.Done = Unit {0}
 EndsByInput ending.Source = Unit {0}
 EndsByInput (ending.Input at within) = Unit {0}
 EndsByInput other = ⊥
 
--- so ends a run after which the node, if it was started, ran on: the sink may have failed, too
+-- a run ends in this way if its node, when it was started, ran on: the sink may have failed, too
 abbrev pub EndsRunning : ServerEnding → Type 0
 EndsRunning ending.Sink = Unit {0}
 EndsRunning other = EndsByInput other
 
 -- ---- the first message
 
--- A message wasn't written, or not whole: no memory was found, or the sink failed.
+-- A message wasn't written, or only in part: no memory was found, or the sink failed.
 abbrev pub IsUnsaid : Sinks → List ℕ → ServerEnding → Type 0
 IsUnsaid sink text ending.Memory = Wrote sink []
 IsUnsaid sink text ending.Sink = (sink.faults_before < sink.faults_after) × WroteFront sink text
@@ -68,27 +68,28 @@ abbrev pub Says : Sinks → List ℕ → Result (Unit {0}) ServerEnding → Type
 Says sink text (Ok done) = Wrote sink text
 Says sink text (Err e) = IsUnsaid sink text e
 
--- Why a node isn't started was said, and the run ends so by it; or its message wasn't written whole.
+-- The message why a node isn't started was written, and the run ends by that; or it wasn't written in full.
 abbrev pub IsRefusalSaid : Sinks → StartError → ServerEnding → Type 0
 IsRefusalSaid sink error ends = ((ends ≡ ending_of_start error) × Wrote sink (refused_text error)) ⊎ IsUnsaid sink (refused_text error) ends
 
--- ---- what a stop leaves
+-- ---- crash images
 
--- a stop after the run leaves this journal, and so reads the file
+-- every crash image after the run has this journal, and so has the file
 pub record LeavesJournal (disk : Disks) (J : List Record) : Type 0 where
   pub leaves : (image : List ℕ) → disk.may_leave_after image → HasRecords J image
   pub reads : HasRecords J disk.file_after
 
--- that is so where the disk tells its bytes
+-- that is so where the disk's bytes are visible
 abbrev pub StandsOn : Disks → List Record → Type 0
 StandsOn disk J = IsTrue disk.tells → LeavesJournal disk J
 
--- The run brings the records of the file to those of this journal: a stop at any moment of it leaves what it might have left before, or the records
--- of the file and a front of what is brought.
+-- The run extends the records of the file to those of this journal: each crash image was possible before, or has the
+-- records of the file and a prefix of what is brought.
 abbrev pub GrowsFromFile : Setting → Disks → List Record → Type 0
 GrowsFromFile here disk then = IsTrue disk.tells → (J : List Record) → IsLawful here J → HasRecords J disk.file → GrowsTo J then disk
 
--- Since this moment of the run, and after it, each stop leaves these records, and behind them a front of these; so the file reads.
+-- Since this moment of the run, and after it, each crash image has these records and a prefix of those; so has the
+-- file.
 pub record IsLeftSince (disk : Disks) (moment : ℕ) (J more : List Record) : Type 0 where
   pub began : disk.moment_before ≤ moment
   pub past : moment ≤ disk.moment_after
@@ -96,28 +97,28 @@ pub record IsLeftSince (disk : Disks) (moment : ℕ) (J more : List Record) : Ty
   pub leaves : (image : List ℕ) → disk.may_leave_after image → HasFront J more image
   pub reads : HasFront J more disk.file_after
 
--- From some moment of the run on each stop leaves these records, and behind them a front of what later requests bring.
+-- From some moment of the run on, each crash image has these records and a prefix of what later requests bring.
 pub record IsLeftOn (disk : Disks) (J then : List Record) : Type 0 where
   pub moment : ℕ
   pub more : List Record
   pub is : then ≡ J ++ more
   pub left : IsLeftSince disk moment J more
 
--- what the first requests brought, however many, is so from some moment on, where the disk tells its bytes
+-- what the first requests brought, for any number of them, is kept from some moment on, if the disk's bytes are visible
 abbrev pub AllAreLeft : ServesBody → List Record → Disks → List Message → List Record → Type 0
 AllAreLeft f J disk done then = IsTrue disk.tells → (k : ℕ) → k ≤ length done → IsLeftOn disk (came_of f J (bodies_of (take k done))).journal then
 
 -- ---- the run of a node that was started with a journal
 
--- Its message wasn't written whole. Nothing was read then, and the journal stands.
+-- Its message wasn't written in full. Nothing was read then, and the journal is unchanged.
 pub record IsStartUnsaid (here : Setting) (J : List Record) (disk : Disks) (same_input : Type 0) (sink : Sinks) (ends : ServerEnding) : Type 0 where
   pub unread : same_input
   pub unsaid : IsUnsaid sink (started_text here J) ends
   pub stands : StandsOn disk J
   pub grows : GrowsFromFile here disk J
 
--- All that came up to the end was requests, and each was answered: behind the first message the replies were written, in their order, and the journal
--- that the requests bring it to stands.
+-- All input up to its end was requests, and each was answered: after the first message the replies were written, in
+-- their order, and the journal is what the requests make of it.
 pub record IsServedWhole (here : Setting) (f : ServesBody) (J : List Record) (disk : Disks) (input : Inputs) (sink : Sinks) (ends : ServerEnding) : Type 0 where
   pub done : List Message
   pub ending_is : ends ≡ ending.Done
@@ -129,8 +130,9 @@ pub record IsServedWhole (here : Setting) (f : ServesBody) (J : List Record) (di
   pub grows : GrowsFromFile here disk (came_of f J (bodies_of done)).journal
   pub kept : AllAreLeft f J disk done (came_of f J (bodies_of done)).journal
 
--- The run was cut short. Some requests were answered, and behind the first message their replies stand whole. The next one may have been begun: a stop
--- leaves the journal after those that were answered, and a front of what the next one brings.
+-- The run was cut short. Some requests were answered, and after the first message their replies are complete. The next
+-- one may have been started: each crash image has the journal after the answered ones and a prefix of what the next one
+-- brings.
 pub record IsServedShort (here : Setting) (f : ServesBody) (J : List Record) (disk : Disks) (input : Inputs) (sink : Sinks) (ends : ServerEnding) : Type 0 where
   pub done : List Message
   pub why : ServeEnding
@@ -141,15 +143,15 @@ pub record IsServedShort (here : Setting) (f : ServesBody) (J : List Record) (di
   pub grows : GrowsFromFile here disk (came_of f (came_of f J (bodies_of done)).journal (bodies_of breaks.next)).journal
   pub kept : AllAreLeft f J disk done (came_of f (came_of f J (bodies_of done)).journal (bodies_of breaks.next)).journal
 
--- What became of it: its message wasn't written whole; or what came was served, to the end or in part.
+-- What became of it: its message wasn't written in full; or the input was served, to the end or in part.
 abbrev pub ServesJournal : Setting → ServesBody → List Record → Disks → Inputs → (same_input : Type 0) → Sinks → ServerEnding → Type 0
 ServesJournal here f J disk input same_input sink ends =
     IsStartUnsaid here J disk same_input sink ends ⊎ (IsServedWhole here f J disk input sink ends ⊎ IsServedShort here f J disk input sink ends)
 
 -- ---- how a run begins
 
--- A start was refused: the run says why and ends by it, and nothing was read. Where it is for what the key, the roster or the journal is, the file
--- reads as before, too.
+-- A start was refused: the run says why and ends, and nothing was read. If the key, the roster or the journal is the
+-- reason, the file reads as before, too.
 pub record IsServerRefused (here : Setting) (key : PublicKey) (disk : Disks) (same_input : Type 0) (sink : Sinks) (ends : ServerEnding) : Type 0 where
   pub error : StartError
   pub is : IsNotStarted here key (IsTrue disk.tells) disk.file error
@@ -158,9 +160,9 @@ pub record IsServerRefused (here : Setting) (key : PublicKey) (disk : Disks) (sa
   pub unchanged : LeavesFile error → disk.file_after ≡ disk.file
   pub unread : same_input
 
--- The node was started: the roster has its key for it, and its journal is lawful; where the disk tells its bytes, it is the file's, or a birth where
--- that has no records. The first message says so, and what comes is served from that journal on. Unless memory or the disk gave out, a journal is
--- settled.
+-- The node was started: the roster has its key, and its journal is lawful; if the disk's bytes are visible, it is the
+-- file's, or a birth if that has no records. The first message says so, and the input is served from that journal on.
+-- Unless memory ran out or the disk failed, a journal is settled.
 pub record IsServerStarted (here : Setting) (key : PublicKey) (f : ServesBody) (disk : Disks) (input : Inputs) (same_input : Type 0) (sink : Sinks) (ends : ServerEnding) : Type 0 where
   pub keyed : key_of here.listed here.me ≡ Some key
   pub journal : List Record
@@ -179,8 +181,8 @@ ServerBegins g signer here disk i before after sink ends =
 
 -- ---- what a run answers
 
--- The node wasn't started though the journal is lawful: no memory was found, or the disk failed. Nothing was read, and a stop leaves what it might have
--- left before, or the journal and its birth.
+-- The node wasn't started though the journal is lawful: no memory was found, or the disk failed. Nothing was read. Each
+-- crash image was possible before, or has the journal and its birth.
 pub record IsUnstarted (here : Setting) (J : List Record) (disk : Disks) (same_input : Type 0) (sink : Sinks) (ends : ServerEnding) : Type 0 where
   pub unread : same_input
   pub error : StartError
@@ -191,8 +193,8 @@ pub record IsUnstarted (here : Setting) (J : List Record) (disk : Disks) (same_i
   pub reads : disk.may_leave disk.file_after ⊎ HasFront J (birth_after here J) disk.file_after
   pub grows : GrowsTo J (started here J) disk
 
--- Over a lawful journal of this node, or none, under its key: what was given is requests, and what is written and what is left are what these come to
--- from that journal on; or the run was cut short.
+-- Over a lawful journal of this node under its key, or none: the input was requests, and what is written and kept is
+-- their outcome from that journal on; or the run was cut short.
 pub record AnswersInput (here : Setting) (key : PublicKey) (f : ServesBody) (disk : Disks) (input : Inputs) (same_input : Type 0) (sink : Sinks) (ends : ServerEnding) : Type 0 where
   pub over : IsTrue disk.tells → key_of here.listed here.me ≡ Some key → (J : List Record) → IsLawful here J → HasRecords J disk.file
       → IsUnstarted here J disk same_input sink ends ⊎ ServesJournal here f (started here J) disk input same_input sink ends

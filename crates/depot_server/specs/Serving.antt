@@ -1,4 +1,4 @@
--- How a process serves a node: what comes over a source is asked, and the replies go to a sink.
+-- How a process serves a node: requests come over a source, and the replies go to a sink.
 use Rattle.std.specs.Prelude.{◌≡◌, ◌<◌, ◌≤◌, ◌-◌, ◌^◌, min, ℕ, Option, Some, None, List, [], ◌∷◌, ◌++◌, length, map, take, Bool, true, IsTrue, Result, Ok, Err}
 use Rattle.std.specs.List.{flat_map}
 use Rattle.depot_base.specs.declared.record.Record.{Record}
@@ -30,39 +30,42 @@ abbrev pub AreAsking : List Message → Type 0
 AreAsking [] = Unit {0}
 AreAsking (m ∷ messages) = IsAsking m × AreAsking messages
 
--- what the requests of a node bring it to, from where it stands
+-- the journal that requests make of a node's journal
 abbrev pub came_at : {N : Type 0} → Ghosts N → ServesBody → N → List Message → Came
 came_at g f old messages = came_of f (g.records old) (bodies_of messages)
 
--- ---- what a stop leaves
+-- ---- crash images
 
--- The node's journal was to be brought to `then`. A stop at any moment of the run leaves the records from before and a front of what is brought.
+-- The node's journal was to be extended to `then`. Every crash image of the run has the records from before and a
+-- prefix of what is brought.
 pub record GrowsToward {N : Type 0} (g : Ghosts N) (old new : N) (then : List Record) : Type 0 where
   pub grown : List Record
   pub is : then ≡ g.records old ++ grown
   pub lasts : Lasts (journal_of g) old new grown
 
--- Since this moment of the run each stop leaves these records, and behind them a front of these.
+-- Since this moment of the run each crash image has these records and a prefix of those.
 pub record LeavesSince {N : Type 0} (g : Ghosts N) (old new : N) (moment : ℕ) (J more : List Record) : Type 0 where
   pub began : g.moment old ≤ moment
   pub past : moment ≤ g.moment new
   pub left : (image : List ℕ) → g.left_since new moment image → HasFront J more image
 
--- From some moment of the run on, each stop leaves these records, and behind them a front of what later requests bring.
+-- From some moment of the run on, each crash image has these records and a prefix of what later requests bring.
 pub record StaysKept {N : Type 0} (g : Ghosts N) (old new : N) (J then : List Record) : Type 0 where
   pub moment : ℕ
   pub more : List Record
   pub is : then ≡ J ++ more
   pub left : IsTrue (g.tells new) → LeavesSince g old new moment J more
 
--- What the first requests brought, however many, is kept from some moment of the run on, and so after it: also where the disk failed in a later one, or
--- no memory was found. So after the run no stop leaves less than what was replied.
+-- What the first requests brought, for any number of them, is kept from some moment of the run on and after it, also if
+-- the disk failed in a later one or no memory was found. So no crash image after the run has less than what was
+-- replied.
 abbrev pub AllStayKept : {N : Type 0} → Ghosts N → ServesBody → N → N → List Message → List Record → Type 0
 AllStayKept g f old new done then = (k : ℕ) → k ≤ length done → StaysKept g old new (came_at g f old (take k done)).journal then
 
 -- ---- a run to the end of its input
 
--- These requests came, and each was answered: the replies were written, in their order, the journal is what they bring it to, and a stop leaves it.
+-- These requests came, and each was answered: the replies were written, in their order, the journal is what they make
+-- of it, and each crash image has it.
 pub record AreAnswered {N : Type 0} (g : Ghosts N) (f : ServesBody) (old new : N) (input : Inputs) (sink : Sinks) (done : List Message) : Type 0 where
   pub each : AreAsking done
   pub given : input.after ≡ input.before ++ flat_map text_of_message done
@@ -98,7 +101,8 @@ pub record RunsWith {N : Type 0} (g : Ghosts N) (node : N) (J : List Record) : T
   pub running : IsServing g node
   pub journal : g.records node ≡ J
 
--- The sink failed in a reply: its request was carried out, the journal after it stands, and a front of the reply is written.
+-- The sink failed in a reply: its request was carried out, the journal after it is kept, and a prefix of the reply is
+-- written.
 pub record IsHalfTold (Stands : List Record → Type 0) (comes : Came) (next : List Message) (last : List ℕ) : Type 0 where
   pub message : Message
   pub begun : next ≡ message ∷ []
@@ -106,7 +110,7 @@ pub record IsHalfTold (Stands : List Record → Type 0) (comes : Came) (next : L
   pub count : ℕ
   pub front : last ≡ take count comes.text
 
--- What came is no request: nothing of it was begun or replied, and the journal after those before it stands.
+-- What came is no request: nothing of it was started or replied, and the journal after those before it is kept.
 pub record IsNotAsked (Stands : List Record → Type 0) (J : List Record) (next : List Message) (behind last : List ℕ) (over : Bool) (place at within : ℕ) : Type 0 where
   pub at_place : at ≡ place
   pub unbegun : next ≡ []
@@ -114,16 +118,17 @@ pub record IsNotAsked (Stands : List Record → Type 0) (J : List Record) (next 
   pub stands : Stands J
   pub came : NoRequestCame over behind within
 
--- The source failed, within a message or before it: nothing of it was begun or replied, and the journal after those before it stands.
+-- The source failed, within a message or before it: nothing of it was started or replied, and the journal after those
+-- before it is kept.
 pub record IsUnheard (Stands : List Record → Type 0) (J : List Record) (next : List Message) (behind last : List ℕ) : Type 0 where
   pub unbegun : next ≡ []
   pub untold : last ≡ []
   pub stands : Stands J
   pub part : IsPartOfMessage behind
 
--- Why it was cut short, and what stands then behind the replies, where `Stands` says what is known where a journal stands: no memory was found; the
--- source failed, within a message or before it; the disk or the sink failed; or what came is no request, and then all before it was answered. A front
--- of the next reply is written only where its request was carried out.
+-- Why it was cut short, and what holds after the replies, where `Stands` says what is known of the journal: no memory
+-- was found; the source failed, within a message or before it; the disk or the sink failed; or what came is no request,
+-- and then all before it was answered. A prefix of the next reply is written only if its request was carried out.
 abbrev pub IsCutOff : (List Record → Type 0) → List Record → Came → List Message → List ℕ → List ℕ → Bool → FaultsRisen → ℕ → ServeEnding → Type 0
 IsCutOff Stands J comes next behind last over risen place ending.Memory = last ≡ []
 IsCutOff Stands J comes next behind last over risen place ending.Source = risen.source × IsUnheard Stands J next behind last
@@ -131,7 +136,7 @@ IsCutOff Stands J comes next behind last over risen place ending.Disk = ((m : Me
 IsCutOff Stands J comes next behind last over risen place ending.Sink = risen.sink × IsHalfTold Stands comes next last
 IsCutOff Stands J comes next behind last over risen place (ending.Input at within) = IsNotAsked Stands J next behind last over place at within
 
--- Behind a journal and what was given before, the next request may have been begun, and the run was cut short.
+-- After a journal and earlier input, the next request may have been started, and the run was cut short.
 pub record BreaksOff (f : ServesBody) (Stands : List Record → Type 0) (J : List Record) (before after : List ℕ) (over : Bool) (risen : FaultsRisen) (place : ℕ) (ends : ServeEnding) : Type 0 where
   pub next : List Message
   pub behind : List ℕ
@@ -140,7 +145,7 @@ pub record BreaksOff (f : ServesBody) (Stands : List Record → Type 0) (J : Lis
   pub last : List ℕ
   pub cut : IsCutOff Stands J (came_of f J (bodies_of next)) next behind last over risen place ends
 
--- how many bytes the messages before a place have, as far as a number of 64 bits tells it
+-- how many bytes the messages before a place have, capped at 2^64 - 1
 abbrev pub place_after : List Message → ℕ
 place_after messages = min (length (flat_map text_of_message messages)) (2 ^ 64 - 1)
 
@@ -152,8 +157,8 @@ faults_risen disk_before disk_after input sink = record {
   sink = sink.faults_before < sink.faults_after;
 }
 
--- The run was cut short. Some requests were answered, and their replies stand whole. The next one may have been begun: a stop leaves the journal after
--- those that were answered, and a front of what the next one brings.
+-- The run was cut short. Some requests were answered, and their replies are complete. The next one may have been
+-- started: each crash image has the journal after the answered ones and a prefix of what the next one brings.
 pub record ServesShort {N : Type 0} (g : Ghosts N) (f : ServesBody) (old new : N) (input : Inputs) (sink : Sinks) (ends : ServeEnding) : Type 0 where
   pub done : List Message
   pub each : AreAsking done
@@ -164,7 +169,7 @@ pub record ServesShort {N : Type 0} (g : Ghosts N) (f : ServesBody) (old new : N
   pub lawful : LastsIn g (ends ≡ ending.Disk) old new
   pub kept : AllStayKept g f old new done (came_of f (came_at g f old done).journal (bodies_of breaks.next)).journal
 
--- What a run came to.
+-- The outcome of a run.
 abbrev pub ServesInput : {N : Type 0} → Ghosts N → ServesBody → N → N → Inputs → Sinks → Result (Unit {0}) ServeEnding → Type 0
 ServesInput g f old new input sink (Ok _) = ServesWhole g f old new input sink
 ServesInput g f old new input sink (Err e) = ServesShort g f old new input sink e
@@ -191,7 +196,7 @@ pub record IsTurnShort {N : Type 0} (g : Ghosts N) (f : ServesBody) (old new : N
   pub brings : GrowsToward g old new (came_of f (g.records old) (bodies_of breaks.next)).journal
   pub lawful : LastsIn g (ends ≡ ending.Disk) old new
 
--- What a turn came to: a message of so many bytes was answered; the end was found; or it was cut short.
+-- The outcome of a turn: a message of so many bytes was answered; the input ended; or it was cut short.
 abbrev pub TurnsRequest : {N : Type 0} → Ghosts N → ServesBody → N → N → Inputs → Sinks → ℕ → Result (Option ℕ) ServeEnding → Type 0
 TurnsRequest g f old new input sink place (Ok (Some long)) = (a : HasAnswered g f old new input sink) × (long ≡ length (text_of_message a.message))
 TurnsRequest g f old new input sink place (Ok None) = (new ≡ old) × ((input.after ≡ input.before) × ((input.over ≡ true) × Wrote sink []))

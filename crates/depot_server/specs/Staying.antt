@@ -1,4 +1,4 @@
--- A node is told of, and served.
+-- A message about a node is written, and then the node is served.
 use Rattle.std.specs.Prelude.{◌≡◌, ◌⊎◌, ◌++◌, ℕ, List, IsTrue, Result}
 use Rattle.depot_model.specs.declared.node_state.NodeState.{Ghosts}
 use Rattle.depot_outside.specs.Told.{Sinks}
@@ -16,7 +16,7 @@ pub record IsLeftAlone {N : Type 0} (first : List ℕ) (old new : N) (same_input
   pub unread : same_input
   pub unsaid : IsUnsaid sink first ends
 
--- a message was written, and what is written behind it is told of the sink as it stands then
+-- a message was written, and what is written after it is stated of the sink as it is then
 pub record IsFirstSaid (whole behind : Sinks) (text : List ℕ) : Type 0 where
   pub tells : behind.tells ≡ whole.tells
   pub first : IsTrue whole.tells → behind.before ≡ whole.before ++ text
@@ -35,6 +35,6 @@ pub record IsStayedWith {N : Type 0} (g : Ghosts N) (first : List ℕ) (f : Serv
 abbrev pub StaysBy : {N : Type 0} → Ghosts N → (first : List ℕ) → ServesBody → N → N → Inputs → (same_input : Type 0) → Sinks → ServerEnding → Type 0
 StaysBy g first f old new input same_input sink ends = IsLeftAlone first old new same_input sink ends ⊎ IsStayedWith g first f old new input sink ends
 
--- it is told of as it stands, and served by what it serves
+-- the same with the first message and the service that this node's setting, signer and journal give
 abbrev pub StaysWith : {N : Type 0} → Ghosts N → N → N → Inputs → (same_input : Type 0) → Sinks → ServerEnding → Type 0
 StaysWith g old new input same_input sink ends = StaysBy g (started_text (g.stands old) (g.records old)) (serves_of g old) old new input same_input sink ends

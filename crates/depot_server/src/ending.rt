@@ -13,9 +13,9 @@ pub enum ServeEnding {
     Sink,
     /// What came is no request.
     Input {
-        /// The offset of its message among all bytes that came, as far as a number of 64 bits tells it.
+        /// The offset of its message among all input bytes, capped at 2^64 - 1.
         at: u64,
-        /// The offset of the first fault in the message's body; 0 of what is no message.
+        /// The offset of the first fault in the message's body; 0 for what is no message.
         within: u32,
     },
 }
@@ -35,9 +35,9 @@ pub enum ServerEnding {
     Sink,
     /// What came is no request.
     Input {
-        /// The offset of its message among all bytes that came, as far as a number of 64 bits tells it.
+        /// The offset of its message among all input bytes, capped at 2^64 - 1.
         at: u64,
-        /// The offset of the first fault in the message's body; 0 of what is no message.
+        /// The offset of the first fault in the message's body; 0 for what is no message.
         within: u32,
     },
     /// The journal on the disk is damaged, or isn't lawful.

@@ -11,14 +11,14 @@ use depot_base::DecodeError;
 use depot_source::{HearError, Source, hear};
 use std::alloc::Global;
 
-/// What is asked by a message that came, and how many bytes the message has.
+/// What a message asks, and how many bytes the message has.
 #[derive(Drop)]
 pub struct Heard {
     pub asked: Asked,
     pub long: u64,
 }
 
-/// What is asked next, or None at the end. Its message begins at an offset.
+/// Reads what is asked next, `None` at the end. Its message begins at this offset.
 pub fn hear_request<I: Source>(
     alloc: Global,
     input: &mut I,

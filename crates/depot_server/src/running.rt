@@ -37,7 +37,7 @@ fn ended(served: Result<(), ServeEnding>) -> ServerEnding
     }
 }
 
-/// Says that a node was started, and serves it to the end of the input.
+/// Writes that a node was started, and serves it to the end of the input.
 fn stay<I: Source, K: Sink, N: LocalNode>(
     alloc: Global,
     node: &mut N,
@@ -112,10 +112,13 @@ fn run_over<D: Disk, I: Source, K: Sink, S: Scheme + Copy, G: Signer<Of = S>>(
     }
 }
 
-/// Runs a server: starts the node `me` of a roster from the journal on a disk, says by one message whether it was started, and then serves
-/// it: hears a request over the source, has it carried out, writes the reply to the sink, and so on to the end of the input.
+/// Runs a server: starts the node `me` of a roster from the journal on a disk, says by one message whether it was
+/// started, and then serves it: reads a request from the source, has it carried out, writes the reply to the sink, and
+/// so on to the end of the input.
 ///
-/// Want of memory, faults of the disk, the source and the sink, and what is no request cut a run short; of a start that is refused the
+/// Lack of memory, faults of the disk, the source and the sink, and input that is no request cut a run short. If a
+/// start is refused, the reason is written and the source isn't read; if the key, the roster or the journal is the
+/// reason, the disk's file then reads as before. The messages are those of docs/FORMATS.md ("Requests").
 /// reason is said and the source isn't read; where it is for the key, the roster or the journal, the disk's file then reads as before. The messages are those of docs/FORMATS.md ("Requests").
 pub fn run_server<D: Disk, I: Source, K: Sink, S: Scheme + Copy, G: Signer<Of = S>>(
     alloc: Global,
@@ -127,26 +130,28 @@ pub fn run_server<D: Disk, I: Source, K: Sink, S: Scheme + Copy, G: Signer<Of = 
     input: &mut I,
     out: &mut K,
 ) -> ServerEnding
-    // What a stop at any moment of the run leaves on the disk it left before, or it is a lawful journal that begins with the one that was
-    // there; where the run ended by its input or its source, all that it leaves afterwards is one such journal.
+    // Any crash image of the run was possible before the run, or is a lawful journal that extends the old one. If the
+    // run ended by its input or its source, all later crash images are one such journal.
     ensures file { IsTrue (D.tells disk.old) → KeepsFile (placed S.verifies me roster) (disks D.Disk disk.old disk.new) }
     ensures stable { IsTrue (D.tells disk.old) → EndsByInput result → Settles (placed S.verifies me roster) (disks D.Disk disk.old disk.new) }
 
-    // The node is refused, for its key, its roster or its journal: this is said, and nothing of the source is read. Or it starts and says so, and what
-    // is given is served from its journal on, also over a disk that doesn't tell its bytes. The disk isn't touched where the roster hasn't its key.
+    // The node is refused, for its key, its roster or its journal: this is written, and nothing of the source is read.
+    // Or it starts and says so, and the input is served from its journal on, also over a disk whose bytes aren't
+    // visible. The disk isn't touched if the roster lacks its key.
     ensures untouched { (key_of roster me ≡ Some (G.key_of signer) → ⊥) → disk.new ≡ disk.old }
     ensures begins { ServerBegins G.Signer signer (placed S.verifies me roster) (disks D.Disk disk.old disk.new) I.Source input.old input.new (sinks K.Sink out.old out.new) result }
 
-    // Over a lawful journal of this node, or none, the replies that are written are those to the requests that were given, in their order, and the
-    // journal is what these bring it to; or the run is cut short. A stop at any moment leaves the journal and a front of what the requests bring;
-    // since a moment of the run, for each request that was answered, at least what it brought.
+    // Over a lawful journal of this node, or none: the replies that are written are those to the requests, in their
+    // order, and the journal is what these make of it; or the run is cut short. Every crash image has the journal and a
+    // prefix of what the requests bring; since a moment of the run, for each answered request, at least what it
+    // brought.
     ensures answers { ServerAnswers G.Signer signer (placed S.verifies me roster) (disks D.Disk disk.old disk.new) I.Source input.old input.new (sinks K.Sink out.old out.new) result }
 
-    // What the source gave, and what it gives yet, is what it had to give.
+    // The input that was read and the input still to come are together the input before.
     ensures whole { IsTrue (I.tells input.old) → I.given input.new ++ I.rest input.new ≡ I.given input.old ++ I.rest input.old }
 
-    // A fault of the sink or the source is answered exactly where its count rose; one of the disk only where it rose, and then nothing but Disk, Sink or
-    // Memory is. No count falls.
+    // A fault of the sink or the source is answered exactly when its count rose, one of the disk only if it rose; then
+    // only `Disk`, `Sink` or `Memory` is answered. No count falls.
     ensures disk_failed { result ≡ ServerEnding.Disk → D.faults disk.old < D.faults disk.new }
     ensures disk_fault { D.faults disk.old < D.faults disk.new → IsAfterDiskFault result }
     ensures disk_later { D.faults disk.old ≤ D.faults disk.new }

@@ -16,8 +16,8 @@ use depot_requests::Halt;
 use depot_source::Source;
 use std::alloc::Global;
 
-/// Hears a request, has it carried out and writes the reply. Gives how many bytes the message of the request has, or None at the end. The message
-/// begins at an offset.
+/// Reads a request, has it carried out and writes the reply. Returns how many bytes the message of the request has,
+/// `None` at the end. The message begins at this offset.
 fn turn<I: Source, K: Sink, N: LocalNode>(
     alloc: Global,
     node: &mut N,
@@ -52,10 +52,10 @@ fn turn<I: Source, K: Sink, N: LocalNode>(
     }
 }
 
-/// Serves a node that runs: hears a request, has it carried out, writes the reply, and so on to the end of the input. What is replied, and the journal
-/// then, is what is defined of the requests. A stop at any moment leaves the records from before and a front of what the requests bring; since a
-/// moment of the run, for each reply that was written, at least what it tells. A fault of the disk, the sink or the source is answered exactly where
-/// its count rose.
+/// Serves a running node: reads a request, has it carried out, writes the reply, and so on to the end of the input. The
+/// replies and the journal are the defined ones. Every crash image has the records from before and a prefix of what the
+/// requests bring; since a moment of the run, for each written reply, at least what it reports. A fault of the disk,
+/// the sink or the source is answered exactly when its count rose.
 pub fn serve_all<I: Source, K: Sink, N: LocalNode>(
     alloc: Global,
     node: &mut N,

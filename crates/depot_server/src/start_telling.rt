@@ -16,7 +16,7 @@ use std::alloc::Global;
 /// The version of the messages.
 pub const MESSAGE_VERSION: u8 = 1;
 
-/// The message of a body. Of one with more than 4,294,967,295 bytes memory is said to lack.
+/// The message of a body. With more than 4,294,967,295 bytes, it returns `Memory`.
 #[tactic(auto, using(depot_base::proofs::Writing::texts))]
 fn message(alloc: Global, body: &[u8]) -> Result<Bytes, Memory>
     ensures { IfOk result (λ text. text ≡ message_of body.now) }

@@ -1,4 +1,4 @@
--- How a reader is fed frame by frame, and what is told of it.
+-- How a reader is fed frame by frame, and what is printed of it.
 use Rattle.std.proofs.Common.{◌≡◌, ◌≢◌, ℕ, zero, suc, ◌+◌, ◌-◌, ◌<◌, ◌≤◌, List, [], ◌∷◌, ◌++◌, length, take, drop, get_or, map, Bool, true, false, not, cond, ◌||◌, Option, Some, None, Result, Ok, Err, refl, sym, ap, subst, ◌∙◌, append_assoc, length-append, arith}
 use Rattle.std.specs.Option.{option_map_or}
 use Rattle.std.specs.Prelude.{nat_lt, slice_get, ◌==◌}
@@ -65,7 +65,7 @@ payload_by_tests false false false tag n bytes f is e =
     let long : length (take n (drop 4 bytes)) ≡ n = let low = enough n (length (drop 4 bytes)) is in omega (arith, length-take n (drop 4 bytes), low) in
     subst (λ (g : Frame). g.payload ≡ take (length g.payload) (drop 4 bytes)) same (ap (λ (m : ℕ). take m (drop 4 bytes)) (sym long))
 
--- the payload of a whole frame stands behind its five bytes
+-- the payload of a whole frame follows its five bytes
 pub payload_behind : (bytes : List ℕ) (f : Frame) → frame_at bytes ≡ whole_frame f → f.payload ≡ take (length f.payload) (drop 5 bytes)
 unfolding frame_at
 payload_behind [] f e = absurd cc
@@ -107,7 +107,7 @@ part_is at end tag stream payload is ends =
     let long : end - (at + 5) ≡ length payload = omega (arith, ends) in
     sym (payload_behind (drop at stream) (record { tag = tag; payload = payload }) is ∙ ap (take (length payload)) (drop-drop 5 at stream) ∙ ap (λ (k : ℕ). take k (drop (at + 5) stream)) (sym long))
 
--- a frame stands within its stream
+-- a frame is within its stream
 pub ends_within : (at end : ℕ) (tag : FrameTag) (stream : List ℕ) → at ≤ length stream → StandsAt (frame_at (drop at stream)) at (place.Frame tag end) → end ≤ length stream
 ends_within at end tag stream low stands =
     let within = whole_within (drop at stream) (record { tag = frame_byte tag; payload = stands.0 }) stands.1.0 in
@@ -123,7 +123,7 @@ is_no_end frame_tag.Statement isnt = refl
 is_no_end frame_tag.Value isnt = refl
 is_no_end frame_tag.End isnt = absurd (isnt refl)
 
--- where no frame stands no more are taken
+-- where there is no frame, no more are taken
 pub no_frame_stands : (n at : ℕ) (bytes : List ℕ) (p : Place) → StandsAt (frame_at bytes) at p → ((tag : FrameTag) (end : ℕ) → p ≡ place.Frame tag end → ⊥) → frames_from n bytes ≡ []
 no_frame_stands n at bytes place.Open is never = no_more_frames n bytes is
 no_frame_stands n at bytes place.Ill is never = no_frame_more n bytes is
@@ -144,7 +144,7 @@ full_step : (s : ReaderFeed) (f : Frame) (fs : List Frame) (what : Full) → rea
 unfolding reader_fed
 full_step s f fs what is = rw (is, reader_fed) refl
 
--- none of these frames met a limit, so those behind them are taken too
+-- none of these frames met a limit, so those after them are taken too
 behind_one : (s : ReaderFeed) (f : Frame) (fs rest : List Frame) (after : ReaderFeed) (outcome : ReaderOutcome) → reader_takes s.reader (form_of f.tag) f.payload ≡ outcome → reader_fed s (f ∷ fs) ≡ after → after.full ≡ None
     → ((then : ReaderFeed) → reader_fed then fs ≡ after → reader_fed then (fs ++ rest) ≡ reader_fed after rest) → reader_fed s (f ∷ (fs ++ rest)) ≡ reader_fed after rest
 behind_one s f fs rest after (told answer R) is fed none behind = told_step s f (fs ++ rest) answer R is ∙ behind (told_more answer R s) (sym (told_step s f fs answer R is) ∙ fed)
@@ -160,7 +160,7 @@ fed_behind s (f ∷ fs) rest after fed none = behind_one s f fs rest after (read
 
 -- ---- a reader that is fed
 
--- The frames in front were taken: so it stands, and these are the frames behind.
+-- The frames before were taken: this is the reader, and these are the remaining frames.
 pub record IsFedSoFar {S : Type 0} (verifies : Verifies) (R : Reader) (stream : List ℕ) (n : ℕ) (bytes : List ℕ) (t : ReaderFeedResult) (reader : Trimmed S) : Type 0 where
   pub front : List Frame
   pub parts : frames_from MOST_FRAMES stream ≡ front ++ frames_from n bytes
@@ -188,25 +188,25 @@ whole_is : {S : Type 0} (verifies : Verifies) (R : Reader) (stream : List ℕ) (
 unfolding reader_feed_of
 whole_is verifies R stream n bytes t reader so = ap (reader_fed (reader_feed_from R)) so.parts ∙ fed_behind (reader_feed_from R) so.front (frames_from n bytes) so.feed so.fed so.none_full
 
--- A stream is being taken from this place on, with so many frames behind.
+-- A stream is being taken from this place on, with so many frames after.
 pub record IsTaking {S : Type 0} (verifies : Verifies) (start : Trimmed S) (stream : List ℕ) (at taken : ℕ) (t : ReaderFeedResult) (reader : Trimmed S) : Type 0 where
   pub within : at ≤ length stream
   pub counts : AreCountedWithin taken t
   pub somebodys : (R : Reader) × IsReaderOf verifies R reader
   pub so_far : (R : Reader) → IsReaderOf verifies R start → IsFedSoFar verifies R stream (MOST_FRAMES - taken) (drop at stream) t reader
 
--- nothing is behind
+-- nothing is passed
 pub fed_all : {S : Type 0} (verifies : Verifies) (R : Reader) (stream : List ℕ) (n : ℕ) (bytes : List ℕ) (t : ReaderFeedResult) (reader : Trimmed S) → IsFedSoFar verifies R stream n bytes t reader → frames_from n bytes ≡ [] → IsReaderFed verifies R stream (Ok t) reader
 unfolding reader_fed
 fed_all verifies R stream n bytes t reader so none =
     let same : reader_feed_of R stream ≡ so.feed = whole_is verifies R stream n bytes t reader so ∙ ap (reader_fed so.feed) none in
     subst (λ (s : ReaderFeed). IsReaderTold s t × IsReaderOf verifies s.reader reader) (sym same) (so.is_told, so.is_reader)
 
--- the frame in front was answered, and it is one more of those that were taken
+-- the preceding frame was answered, and it is one more of those that were taken
 one_front : (R : Reader) (stream bytes behind : List ℕ) (n : ℕ) (front : List Frame) (f : Frame) → frames_from MOST_FRAMES stream ≡ front ++ frames_from n bytes → frames_from n bytes ≡ f ∷ frames_from (n - 1) behind → frames_from MOST_FRAMES stream ≡ (front ++ f ∷ []) ++ frames_from (n - 1) behind
 one_front R stream bytes behind n front f parts next = parts ∙ ap (λ (l : List Frame). front ++ l) next ∙ sym (append_assoc front (f ∷ []) (frames_from (n - 1) behind))
 
--- the frame in front was answered, and those behind it are taken too
+-- the preceding frame was answered, and those after it are taken too
 pub fed_on : {S : Type 0} (verifies : Verifies) (R : Reader) (stream : List ℕ) (n : ℕ) (bytes behind : List ℕ) (f : Frame) (t : ReaderFeedResult) (answer : Result Taken TrimTake) (old new : Trimmed S) (so : IsFedSoFar verifies R stream n bytes t old)
     → frames_from n bytes ≡ f ∷ frames_from (n - 1) behind → ReaderTakes verifies so.feed.reader (form_of f.tag) f.payload answer new → goes_on answer ≡ true → IsFedSoFar verifies R stream (n - 1) behind (after_frame answer t) new
 unfolding reader_fed
@@ -249,7 +249,7 @@ fed_on verifies R stream n bytes behind f t (Err (failed.BelowCheckpoint id)) ol
 fed_on verifies R stream n bytes behind f t (Err (failed.Full what)) old new so next takes on = absurd cc
 fed_on verifies R stream n bytes behind f t (Err failed.Memory) old new so next takes on = absurd cc
 
--- there was no room for the frame in front
+-- there was no room for the preceding frame
 pub fed_to_full : {S : Type 0} (verifies : Verifies) (R : Reader) (stream : List ℕ) (n : ℕ) (bytes behind : List ℕ) (f : Frame) (t : ReaderFeedResult) (answer : Result Taken TrimTake) (old new : Trimmed S) (so : IsFedSoFar verifies R stream n bytes t old)
     → frames_from n bytes ≡ f ∷ frames_from (n - 1) behind → ReaderTakes verifies so.feed.reader (form_of f.tag) f.payload answer new → goes_on answer ≡ false → answer ≢ Err failed.Memory → IsReaderFed verifies R stream (Ok (after_frame answer t)) new
 fed_to_full verifies R stream n bytes behind f t (Ok New) old new so next takes on found = absurd cc
@@ -262,7 +262,7 @@ fed_to_full verifies R stream n bytes behind f t (Err (failed.Full what)) old ne
     subst (λ (s : ReaderFeed). IsReaderTold s (record t { full = Some what }) × IsReaderOf verifies s.reader new) (sym same)
     (record { accepted = so.is_told.accepted; known = so.is_told.known; refused = so.is_told.refused; below = so.is_told.below; full = refl }, takes.1)
 
--- no memory was found for the frame in front
+-- no memory was found for the preceding frame
 fed_to_front : {S : Type 0} (verifies : Verifies) (R : Reader) (stream : List ℕ) (n : ℕ) (bytes : List ℕ) (f : Frame) (behind : List Frame) (t : ReaderFeedResult) (old new : Trimmed S) (so : IsFedSoFar verifies R stream n bytes t old)
     → frames_from n bytes ≡ f ∷ behind → IsReaderOf verifies so.feed.reader new → HasTakenFront verifies R stream new
 fed_to_front verifies R stream n bytes f behind t old new so next reads =

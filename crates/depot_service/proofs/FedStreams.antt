@@ -1,4 +1,4 @@
--- A stream that is fed to a node in pieces: what is told of it, and what the node is left as.
+-- A stream that is fed to a node in pieces: what is printed of it, and what becomes of the node.
 use Rattle.std.proofs.Common.{◌≡◌, ◌≢◌, ◌↔◌, ℕ, Bool, false, List, [], ◌++◌, append_assoc, is_some, Some, None, Result, Ok, Err, refl, sym, ap, subst, ◌∙◌}
 use Rattle.std.specs.Prelude.{IfErr, IfOk, IsErrOf}
 use Rattle.std.proofs.lemmas.List.{append-nil}
@@ -18,9 +18,9 @@ use Rattle.depot_model.specs.declared.node_state.NodeState.{Ghosts}
 use Rattle.depot_model.proofs.FeedLaws.{fed_in_pieces}
 use Rattle.depot_service.specs.Printing.{IsToldOf}
 
--- ---- what is told
+-- ---- what is reported
 
--- what a feed keeps tells its report
+-- what a feed keeps determines its report
 pub kept_tells : (s : Feeding) → report_of s ≡ report_of_stream (stream_of s)
 unfolding report_of ending_of
 kept_tells s = refl
@@ -55,7 +55,7 @@ goes_on here s piece S J f = ap (λ (T : Stream). T.closed) f.1.stream ∙ ap is
 all_fed : (here : Setting) (s now : Feeding) (bytes rest : List ℕ) → rest ≡ [] → IsUnderWay here s bytes rest now → fed here s bytes ≡ now
 all_fed here s now bytes rest none u = ap (fed here s) (u.parts ∙ ap (λ (b : List ℕ). u.done ++ b) none ∙ append-nil u.done) ∙ u.is
 
--- what is told of it then
+-- what is reported of it then
 pub told_all : (here : Setting) (s : Feeding) (bytes rest : List ℕ) (S : Stream) (J : List Record) (report : Report) → rest ≡ [] → IsUnderWay here s bytes rest (at_work S J) → S.closed ≡ false → report ≡ report_of_stream S
     → IsToldOf (fed here s bytes) (record { report = report; closing = None })
 told_all here s bytes rest S J report none u going is =

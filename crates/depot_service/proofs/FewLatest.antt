@@ -1,4 +1,5 @@
--- The latest writes of a key in a lawful journal are no more than its leaves: no two of them lead to one leaf.
+-- A key has at most as many latest writes in a lawful journal as the journal has leaves: no two of them lead to one
+-- leaf.
 use Rattle.std.proofs.Common.{◌≡◌, ◌≤◌, ℕ, suc, List, [], ◌∷◌, length, Bool, true, false, not, cond, refl, sym, ap, subst, ◌∙◌, inl, inr, ◌⊎◌, arith}
 use Rattle.std.specs.Ordering.{is_lt}
 use Rattle.std.specs.Str.{bytes_eq}
@@ -77,7 +78,7 @@ record HasTip (us : List Update) (t : Update) : Type 0 where
   pub last : is_prev_in us (id_of_update tip) ≡ false
   pub up : IsUpTo us t tip
 
--- an update in front is the prev of none of those behind
+-- an earlier update is the prev of none of those after
 tip_behind : (ids : List (List ℕ)) (x : Update) (xs : List Update) (t : Update) → IsCausal ids (x ∷ xs) → HasTip xs t → HasTip (x ∷ xs) t
 tip_behind ids x xs t c l = record {
   tip = l.tip;
@@ -112,7 +113,7 @@ tip_of ids (x ∷ xs) t c (inl here) = elim (cases_Bool (is_prev_in (x ∷ xs) (
 
 -- ---- updates none of which precedes another
 
--- none of these precedes another, and none stands twice
+-- none of these precedes another, and none occurs twice
 record AreSideBySide (us ts : List Update) : Type 0 where
   pub on : (t : Update) → IsIn t ts → IsIn t us
   pub apart : AreApart ts
@@ -168,7 +169,7 @@ tips_of us (t ∷ ts) c side =
 
 -- ---- latest writes
 
--- what rises strictly stands once
+-- what rises strictly occurs once
 rising_apart : (us : List Update) → RisesStrictly us → AreApart us
 rising_apart [] rise = tt
 rising_apart (u ∷ us) rise = (λ on. let before = all_at (λ t. is_lt (listed u t) ≡ true) us u rise.0 on in listed_one_way u u before before, rising_apart us rise.1)

@@ -1,4 +1,4 @@
--- A stream that is asked to be taken.
+-- A request to take a stream.
 use Rattle.std.proofs.Common.{◌≡◌, ◌↔◌, ℕ, List, Result, Ok, Err, refl, sym, ap, ◌∙◌}
 use Rattle.std.specs.Prelude.{IfErr, IfOk, IsErrOf}
 use Rattle.depot_base.specs.declared.record.Record.{Record}

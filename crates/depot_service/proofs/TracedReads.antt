@@ -1,4 +1,4 @@
--- Reads as a trace tells them: each has a text, and tells what the node's journal shows.
+-- Reads as a trace records them: each has a text, and states what the node's journal shows.
 use Rattle.std.proofs.Common.{◌≡◌, ◌<◌, ◌≤◌, ℕ, ◌+◌, List, [], ◌∷◌, ◌++◌, length, map, take, get_or, Option, Some, None, refl, sym, ap, subst, ◌∙◌, arith}
 use Rattle.std.specs.List.{AllByRecursion}
 use Rattle.std.specs.Option.{option_map_or}
@@ -71,7 +71,7 @@ answered_fits id told_shown.NotHeld fits value = (fits, ((omega arith, omega ari
 answered_fits id (told_shown.Held v) fits value = (fits, ((omega arith, omega arith), ((omega arith, value), (refl, refl))))
 answered_fits id told_shown.Gone fits value = (fits, ((omega arith, omega arith), refl))
 
--- and tells of the update's write
+-- and records the update's write
 pub is_answered : (here : Setting) (J : List Record) (key id : List ℕ) (item : ℕ) (u : Update) (s : told.Shown) (seen : Sighting) → IsLawful here J → at (accepted J) item (λ t. id_of_update t ≡ id) → slice_get (accepted J) item ≡ Some u → seen ≡ seen_under J key u → sighting_of s ≡ seen
     → answered_text.fits (record { id = id; shown = s }) × (answered_of (record { id = id; shown = s }) ≡ traces.answered (record { update = u; seen = seen_under J key u }))
 is_answered here J key id item u s seen l has on sees shows =
@@ -84,7 +84,7 @@ is_answered here J key id item u s seen l has on sees shows =
 
 -- ---- a read
 
--- one more of the latest writes was told
+-- one more of the latest writes was reported
 pub told_more : (J : List Record) (us : List Update) (key items : List ℕ) (i item : ℕ) (u : Update) (listed : List Answered) (a : Answered) → i < length items → item ≡ get_or items i 0 → slice_get us item ≡ Some u
     → answered_of a ≡ traces.answered (record { update = u; seen = seen_under J key u }) → map answered_of listed ≡ map traces.answered (shown_as J key (updates_at us (take i items)))
     → map answered_of (listed ++ a ∷ []) ≡ map traces.answered (shown_as J key (updates_at us (take (i + 1) items)))
@@ -100,7 +100,7 @@ read_fits : (r : ReadTrace) → r.length ≤ 4294967295 → IsKey r.key → leng
 unfolding read_text number bytes_of
 read_fits r low key few each = ((omega arith, low), ((key.0, key.1), (refl, ((omega arith, few), (all_listed answered_text r.answer each, refl)))))
 
--- all were told
+-- all were reported
 pub is_read : (here : Setting) (J : List Record) (key items : List ℕ) (count : ℕ) (listed : List Answered) → IsLawful here J → AreLatestIn key (accepted J) (updates_at (accepted J) items) → IsKey key → count ≡ length J → AllByRecursion answered_text.fits listed
     → map answered_of listed ≡ map traces.answered (shown_as J key (updates_at (accepted J) items))
     → read_text.fits (record { length = count; key = key; answer = listed }) × (read_of (record { length = count; key = key; answer = listed }) ≡ traced_read (effects.read_at_end J key))

@@ -1,4 +1,4 @@
--- What is told of reads and streams.
+-- What is reported of reads and streams.
 use Rattle.std.specs.Prelude.{◌≡◌, ℕ, List, Option, Some, None, Err}
 use Rattle.std.specs.List.{flat_map}
 use Rattle.depot_base.specs.declared.record.Record.{Record}
@@ -15,7 +15,7 @@ use Rattle.depot_service.specs.declared.feeds.FeedResult.{FeedResult}
 
 -- ---- reads
 
--- what a read shows of a write that is no deletion: its value, if that is held
+-- what a read shows of a write that is no deletion: its value, if held
 abbrev pub shown_value : Option (List ℕ) → Sighting
 shown_value (Some v) = held_value v
 shown_value None = not_held
@@ -26,18 +26,18 @@ shown_text ws = flat_map (λ w. spaced (text_of_write w)) ws
 
 -- ---- streams
 
--- these are the errors by which a stream isn't told of
+-- these are the errors by which a stream isn't reported of
 abbrev pub IsMemoryOrDisk : FeedError → Type 0
 IsMemoryOrDisk feed_error.Memory = Unit {0}
 IsMemoryOrDisk feed_error.Disk = Unit {0}
 IsMemoryOrDisk other = ⊥
 
--- what is told of a stream is what became of this feed, and why it was closed
+-- the line of a stream says what became of this feed, and why it was closed
 pub record IsToldOf (s : Feeding) (f : FeedResult) : Type 0 where
   pub report : report_of s ≡ f.report
   pub closing : s.closed ≡ closing_of f.closing
 
--- Whatever bytes were fed to the feed that this error closed, this is told of it, and its journal is that of the node.
+-- For any bytes fed to the feed that this error closed: this is printed of it, and its journal is the node's.
 abbrev pub IsToldClosed : Stream → FeedError → FeedResult → Type 0
 IsToldClosed feed error told = (here : Setting) (s : Feeding) (bytes : List ℕ) (J : List Record) → Feeds here s bytes (Err error) feed J
     → IsToldOf (fed here s bytes) told × (J ≡ (fed here s bytes).journal)

@@ -1,4 +1,4 @@
--- What a node's trace tells.
+-- What a node's trace records.
 use Rattle.std.specs.Prelude.{◌≡◌, ℕ, List, map, Some, slice_get}
 use Rattle.depot_base.specs.declared.record.Record.{Record}
 use Rattle.depot_base.specs.declared.update.Update.{Update}
@@ -11,7 +11,7 @@ use Rattle.depot_traces.specs.declared.trace.Answered.{Answered}
 use Rattle.depot_traces.specs.declared.trace.ReadTrace.{ReadTrace}
 use Rattle.depot_traces.specs.declared.trace.Trace.{Trace}
 
--- This is how a trace tells the write of a key by the accepted update of a place: its id, and what a read shows of it.
+-- A trace records a write of a key, by the accepted update of a place, as its id and what a read shows of it.
 abbrev pub IsTracedWrite : List Record → ℕ → List ℕ → Answered → Type 0
 IsTracedWrite J item key a = (u : Update) × ((slice_get (accepted J) item ≡ Some u) × (answered_text.fits a
     × (seen_traces.answered_of a ≡ audits.answered (record { update = u; seen = seen_under J key u }))))

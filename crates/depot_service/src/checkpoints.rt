@@ -69,7 +69,7 @@ fn unsigned_line(alloc: Global, node: NodeId) -> Result<Bytes, Memory>
     Ok(line)
 }
 
-/// The line of why no reader is made, where it isn't for want of memory.
+/// The line of why no reader is made, unless for want of memory.
 fn untrimmed_line(alloc: Global, error: &TrimError) -> Result<Bytes, Memory>
     ensures settled { IfOk result (λ _. SettlesTrim {X = Unit {0}} (Err error.now)) }
     ensures printed { IfOk result (λ line. IsUntrimmedLine error.now line) }
@@ -83,7 +83,7 @@ fn untrimmed_line(alloc: Global, error: &TrimError) -> Result<Bytes, Memory>
     }
 }
 
-/// The line of what a node answers where a reader is to be made of it.
+/// The line of what a node answers when a reader is to be made of it.
 pub fn trim_line<S: Scheme>(
     alloc: Global,
     made: &Result<Trimmed<S>, TrimError>,

@@ -16,7 +16,7 @@ pub struct FeedResult {
     pub closing: Option<Closing>,
 }
 
-/// A feed that was closed by an error of the stream, or by want of room.
+/// A feed that an error of the stream, or lack of room, closed.
 fn closed(feed: Feed, error: FeedError) -> Result<FeedResult, FeedError>
     requires { error ≢ FeedError.Stopped }
     ensures told { IfOk result (λ told. IsToldClosed feed error told) }
@@ -36,7 +36,8 @@ fn closed(feed: Feed, error: FeedError) -> Result<FeedResult, FeedError>
     })
 }
 
-/// Feeds a stream to a node, in pieces of so many bytes, until an error closes the feed. Memory and Disk alone are answered.
+/// Feeds a stream to a node in pieces of so many bytes, until an error closes the feed. Only `Memory` and `Disk` are
+/// returned.
 pub fn feed_all<R: Replica>(
     alloc: Global,
     node: &mut R,
@@ -51,7 +52,7 @@ pub fn feed_all<R: Replica>(
     ensures runs { IfOk result (λ _. R.stopped node.new ≡ false) }
     ensures call { IsFeedCall R.NodeState (feeding_from (R.records node.old)) stream.now node.old node.new result }
 {
-    // That a stop leaves its records is what this call says of the node.
+    // This call gives the clause that each crash image has the node's records.
     node.is_stopped();
     let Ok(mut feed) = Feed::new(alloc) else {
         return Err(FeedError::Memory);

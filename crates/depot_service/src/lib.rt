@@ -1,11 +1,13 @@
 //! A node does what it is asked.
 //!
-//! `serve` does a `Request` over any `LocalNode` and gives its `Reply`. What that is, and what the journal is then, is defined in `depot_requests`;
-//! what a stop at any moment of the call leaves is said of each request in one way (`specs/RequestCalls.antt`). `serving` has the one dispatch over
-//! requests, and `replying` makes replies of what the calls below answer; `feeds`, `reads` and `receipts` have what a stream, a read and a question
-//! for receipts take beside such a call.
+//! `serve` carries out a `Request` over any `LocalNode` and returns its `Reply`. The reply and the journal afterwards
+//! are defined in `depot_requests`, and the crash images of the call in one way for all requests
+//! (`specs/RequestCalls.antt`). `serving` has the one dispatch over requests, and `replying` makes replies of the
+//! results of the calls below; `feeds`, `reads` and `receipts` have what a stream, a read and a question for receipts
+//! need besides one call.
 //!
-//! Beside it stands what scripts and schedules print alike that is no reply: `readers` and `checkpoints` of a reader that was made by a checkpoint,
+//! Here is also what scripts and schedules print alike that is no reply: `readers` and `checkpoints` for readers made
+//! by a checkpoint, and `traces` for what a node hands in for an audit.
 //! and `traces` of what a node hands in for an audit.
 //!
 //! What it doesn't do: it decides nothing, and it keeps nothing.

@@ -7,7 +7,7 @@ use depot_answers::numbered;
 use depot_base::{Bytes, Memory};
 use std::alloc::Global;
 
-/// The line of a number of records behind a name.
+/// The line of a number of records after a name.
 #[tactic(auto, using(depot_base::proofs::Writing::texts))]
 pub fn counted_line(alloc: Global, name: &str, count: u32) -> Result<Bytes, Memory>
     ensures { IfOk result (λ line. line ≡ ended (spaced (text_of_number name.now count))) }

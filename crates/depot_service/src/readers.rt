@@ -26,7 +26,7 @@ use std::alloc::Global;
 
 // ---- taking
 
-/// What a reader made of a stream: how many frames came to the same, and the limit that one met.
+/// What a reader made of a stream: how many frames had each outcome, and the limit that one met.
 #[derive(Clone, Copy, Debug)]
 pub struct ReaderFeedResult {
     /// The frames, by what came of them.
@@ -51,7 +51,7 @@ impl ReaderFeedResult {
         }
     }
 
-    /// Counts a frame by its answer, and tells whether those behind it are taken too.
+    /// Counts a frame by its answer. Returns whether those after it are taken too.
     fn count(&mut self, answer: Result<Taken, TrimTake>) -> Result<bool, Memory>
         requires few { AreCountedWithin MOST_FRAMES self.old }
         ensures counted { IfOk result (λ on. (self.new ≡ after_frame answer self.old) × (on ≡ goes_on answer)) }
@@ -84,7 +84,7 @@ impl ReaderFeedResult {
     }
 }
 
-/// The payload of the frame that stands at a place of a stream and ends at another.
+/// The payload of the frame that is at a place of a stream and ends at another.
 fn payload_at(stream: &[u8], at: usize, end: usize) -> &[u8]
     requires begins { at + 5 ≤ end }
     requires ends { end ≤ length stream.now }
@@ -111,8 +111,9 @@ fn take_frame<S: Scheme>(
     }
 }
 
-/// Gives a reader the frames of a stream one by one, up to the first that isn't whole or finds no room, at most 524,288, and none behind
-/// an End frame. After Memory the reader has taken the frames in front of the one for which there was none.
+/// Gives a reader the frames of a stream one by one, up to the first that is incomplete or finds no room, at most
+/// 524,288, and none after an End frame. On `Memory` the reader has taken the frames before the one for which there was
+/// none.
 pub fn feed_reader<S: Scheme>(
     reader: &mut Trimmed<S>,
     stream: &[u8],
@@ -150,7 +151,7 @@ pub fn reader_feed_line(alloc: Global, told: &ReaderFeedResult) -> Result<Bytes,
 
 // ---- reading
 
-/// What a reader shows of an update's write of a key, of which this value is held, if one is.
+/// What a reader shows of an update's write of a key, given the held value, if any.
 fn seen_by_reader<'a>(update: &Update, key: &Key, value: Option<&'a [u8]>) -> Seen<'a>
     ensures { (R : Reader) → option_copied value.entry ≡ value_seen (seen_by_reader R key.now update.now) → sighting_of_seen result ≡ seen_by_reader R key.now update.now }
 {
@@ -161,7 +162,7 @@ fn seen_by_reader<'a>(update: &Update, key: &Key, value: Option<&'a [u8]>) -> Se
     }
 }
 
-/// The line of what a reader shows of a key: the latest writes, each behind a space.
+/// The line of what a reader shows of a key: the latest writes, each preceded by a space.
 pub fn reader_shown_line<S: Scheme>(
     alloc: Global,
     reader: &Trimmed<S>,

@@ -14,7 +14,7 @@ use depot_local::LocalNode;
 use depot_model::Past;
 use std::alloc::Global;
 
-/// What a read shows of an update's write of a key, of which this value is held, if one is.
+/// What a read shows of an update's write of a key, given the held value, if any.
 pub fn seen<'a>(update: &Update, key: &Key, value: Option<&'a [u8]>) -> Seen<'a>
     ensures { (J : List Record) → option_copied value.entry ≡ value_seen (seen_under J key.now update.now) → sighting_of_seen result ≡ seen_under J key.now update.now }
 {
@@ -25,7 +25,7 @@ pub fn seen<'a>(update: &Update, key: &Key, value: Option<&'a [u8]>) -> Seen<'a>
     }
 }
 
-/// A value that is held, or that none is.
+/// A held value, or that none is held.
 pub(crate) fn held(value: Option<&[u8]>) -> Seen<'_>
     ensures { sighting_of_seen result ≡ shown_value (option_copied value.entry) }
 {
@@ -35,7 +35,7 @@ pub(crate) fn held(value: Option<&[u8]>) -> Seen<'_>
     }
 }
 
-/// Adds a write that a read shows, behind a space.
+/// Adds a write that a read shows, after a space.
 #[tactic(auto, using(depot_base::proofs::Writing::texts))]
 pub(crate) fn add_write(
     alloc: Global,
@@ -49,7 +49,7 @@ pub(crate) fn add_write(
     write(alloc, line, update, seen)
 }
 
-/// The words of a read: the latest writes of a key, each behind a space.
+/// The words of a read: the latest writes of a key, each preceded by a space.
 pub fn shown_words<N: LocalNode>(alloc: Global, node: &N, key: &Key) -> Result<Bytes, Memory>
     requires { N.stopped node.now ≡ false }
     ensures { IfOk result (λ words. words ≡ shown_text (shown_of (N.records node.now) key.now)) }

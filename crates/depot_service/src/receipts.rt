@@ -7,7 +7,7 @@ use depot_local::LocalNode;
 use depot_receipts::Book;
 use std::alloc::Global;
 
-/// Whether at least `k` nodes gave receipts for an id, among all updates that a node accepted, which a new book reads.
+/// Whether at least `k` nodes gave receipts for an id, among all updates that a node accepted. It makes a new book.
 pub fn has_receipts<N: LocalNode>(
     alloc: Global,
     node: &N,

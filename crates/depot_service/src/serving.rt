@@ -150,9 +150,10 @@ fn put_checkpoint<N: LocalNode>(alloc: Global, node: &mut N, text: Bytes) -> Res
     reply_of_checkpoint(text, node.put_all(changes))
 }
 
-/// Does what a node is asked, and replies. `Stopped` comes exactly where the disk failed in an earlier call. What is replied, and the journal then, is
-/// what is defined of the request; `Memory` may come in place of it, and `Disk` where the disk failed in this call, and then the node is stopped. A
-/// stop at any moment leaves the records from before, and a front of those that the request brings.
+/// Carries out a request, and returns its reply. `Stopped` is returned exactly when the disk failed in an earlier call.
+/// The reply and the journal are the defined ones; `Memory` may come instead, or `Disk` if the disk failed in this
+/// call, and then the node is stopped. Every crash image has the records from before and a prefix of those that the
+/// request brings.
 pub fn serve<N: LocalNode>(alloc: Global, node: &mut N, request: Request) -> Result<Reply, Halt>
     requires request { IsRequest request }
     ensures serves { Serves (N.stands node.old) (N.signature_of node.old) (N.records node.old) request result (N.records node.new) }

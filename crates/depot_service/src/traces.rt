@@ -1,4 +1,4 @@
-//! What a node hands in for an audit: its record texts, and its reads as a trace tells them.
+//! What a node hands in for an audit: its record texts, and its reads as a trace records them.
 ghost use Rattle.std.specs.Prelude.{◌≡◌, ◌<◌, ◌≤◌, length, map, false, Some, IfOk, slice_get};
 ghost use Rattle.std.specs.List.{AllByRecursion};
 ghost use Rattle.depot_answers.specs.AnswerTexts.{spaced, text_of_traced};
@@ -23,7 +23,7 @@ use depot_model::{Past, Replica};
 use depot_traces::{Answered, Listing, ReadTrace, Reads, Shown, Trace};
 use std::alloc::Global;
 
-/// What a read shows of a write, as a trace tells it: a value is copied.
+/// What a read shows of a write, as a trace records it: a value is copied.
 fn shown(alloc: Global, seen: Seen<'_>) -> Result<Shown, Memory>
     requires { IfHeld (sightings.sighting_of_seen seen) IsValue }
     ensures { IfOk result (λ shown. seen_traces.sighting_of shown ≡ sightings.sighting_of_seen seen.entry) }
@@ -35,7 +35,7 @@ fn shown(alloc: Global, seen: Seen<'_>) -> Result<Shown, Memory>
     }
 }
 
-/// A write of a key that a read lists, the one of an item, as a trace tells it.
+/// A write of a key that a read lists, the one of an item, as a trace records it.
 fn answered<N: LocalNode>(alloc: Global, node: &N, item: u32, key: &Key) -> Result<Answered, Memory>
     requires runs { N.stopped node.now ≡ false }
     requires item { item < length (accepted (N.records node.now)) }
@@ -50,8 +50,8 @@ fn answered<N: LocalNode>(alloc: Global, node: &N, item: u32, key: &Key) -> Resu
     })
 }
 
-/// A read of a key, as a trace tells it: how many records the node has, the key, and the latest writes, each with what is shown of it. Key and
-/// values are copied.
+/// A read of a key, as a trace records it: how many records the node has, the key, and the latest writes, each with
+/// what is shown of it. Key and values are copied.
 pub fn read_traced<N: LocalNode>(alloc: Global, node: &N, key: &Key) -> Result<ReadTrace, Memory>
     requires { N.stopped node.now ≡ false }
     ensures { IfOk result (λ r. read_text.fits r × (seen_traces.read_of r ≡ traced_read (read_at_end (N.records node.now) key.now))) }
@@ -118,7 +118,7 @@ fn record_texts<R: Replica>(alloc: Global, node: &R) -> Result<Texts, Memory>
     Ok(texts)
 }
 
-/// The trace of a node with these reads, which are copied. It doesn't matter whether the node is stopped.
+/// The trace of a node with these reads, which are copied. It works for a stopped node too.
 pub fn node_trace<R: Replica>(alloc: Global, node: &R, reads: &[ReadTrace]) -> Result<Trace, Memory>
     requires few { length reads.now ≤ MOST_READS }
     requires fit { AllByRecursion read_text.fits reads.now }

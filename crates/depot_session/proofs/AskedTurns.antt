@@ -1,4 +1,4 @@
--- How a command turns out that asks the node.
+-- The outcome of a command that asks the node.
 use Rattle.std.proofs.Common.{◌≡◌, ◌<◌, ◌≤◌, ℕ, false, IsTrue, List, [], ◌∷◌, ◌++◌, take, Option, Some, None, Result, Ok, Err, refl, sym, ap, subst, ◌∙◌, inl, inr}
 use Rattle.std.specs.Prelude.{IfSome, IsErrOf}
 use Rattle.std.specs.Result.{IsErrAnd}
@@ -100,7 +100,7 @@ module _ {N : Type 0} (g : Ghosts N) (counts_now : (v : N) (t : ℕ) (file : Lis
     brings : step.session.correct.journal ≡ g.records old ++ call.appends
     brings = ap (λ (x : Step). x.session.correct.journal) step_asked ∙ ap (λ (K : List Record). (served (g.stands old) (g.signature_of old) K r).journal) at.journal ∙ call.brings
 
-    -- a stop leaves a front of it
+    -- Each crash image has a prefix of it
     leaves : LeavesBrought g old new call.appends
     leaves = leaves_front g counts_now old new call.appends running.runs (appended g old new call.appends (take call.lasts.is.count call.lasts.appends) _ _ _ running.runs call.node.journal call.lasts.is.front)
 
@@ -108,7 +108,7 @@ module _ {N : Type 0} (g : Ghosts N) (counts_now : (v : N) (t : ℕ) (file : Lis
     pub asked_without_memory : IsUnchanged shelf → (result : Result (Unit {0}) ScriptEnding) → IsErrAnd result (λ e. e ≡ ending.Memory) → sink.after ≡ sink.before → Turns g old new c step shelf sink result
     asked_without_memory unchanged result is same = without_memory g old new c step shelf sink call.appends brings leaves (λ name. inl (unchanged name)) result is (nothing_written sink same)
 
-    -- the disk failed, and it was told, or not
+    -- the disk failed, and it was reported, or not
     pub asked_to_disk : IsUnchanged shelf → (e : ScriptEnding) → IsErrOf done halt.Disk → IsFaultTold sink disk_line ending.Disk e → Turns g old new c step shelf sink (Err e)
     asked_to_disk unchanged e failed fault = disk_told g old new c step shelf sink call.appends brings leaves (λ name. inl (unchanged name)) e (call.node.journal.disk.cause.rose failed) fault
 
@@ -120,7 +120,7 @@ module _ {N : Type 0} (g : Ghosts N) (counts_now : (v : N) (t : ℕ) (file : Lis
       runs : g.stopped new ≡ false
       runs = runs_on (g.stopped old) running.runs call.node.journal.stops well
 
-      -- what the request came to
+      -- the outcome of the request
       came : served (g.stands old) (g.signature_of old) (g.records old) r ≡ record { journal = g.records new; reply = told_reply }
       came = subst (λ (x : Result Reply Halt). Serves (g.stands old) (g.signature_of old) (g.records old) r x (g.records new)) replied serves
 
@@ -137,7 +137,7 @@ module _ {N : Type 0} (g : Ghosts N) (counts_now : (v : N) (t : ℕ) (file : Lis
       grown : g.records new ≡ g.records old ++ call.appends
       grown = ap (λ (d : Served). d.journal) (sym came) ∙ call.brings
 
-      -- what is handed out, if anything is, was stored and then told, or not
+      -- what is handed out, if anything is, was stored and then reported, or not
       abbrev TellsSo : Option (List ℕ) → Option (List ℕ) → Result (Unit {0}) ScriptEnding → Type 0
       TellsSo out name result = TellsHanded shelf sink (command_text c (lines_of_reply told_reply)) (ending_of_reply told_reply) out name result
 
@@ -197,11 +197,11 @@ module _ (shelf : Shelves) (sink : Sinks) (text : List ℕ) (ends : Option Scrip
   handed_without_memory (Some bytes) None (Err e) unchanged is same = (unchanged, inr (subst (IsUnwritten sink text) (sym is) (nothing_written sink same)))
   handed_without_memory None o (Err e) unchanged is same = (unchanged, inr (subst (IsUnwritten sink text) (sym is) (nothing_written sink same)))
 
-  -- what is handed out was stored and told
+  -- what is handed out was stored and reported
   pub handed_told : (name bytes : List ℕ) (out o : Option (List ℕ)) (result : Result (Unit {0}) ScriptEnding) → out ≡ Some bytes → o ≡ Some name → Stores shelf sink text name bytes result → TellsHanded shelf sink text ends out o result
   handed_told name bytes out o result is named st = subst (λ (x : Option (List ℕ)). TellsHanded shelf sink text ends x o result) (sym is) (subst (λ (x : Option (List ℕ)). TellsHanded shelf sink text ends (Some bytes) x result) (sym named) st)
 
-  -- nothing is to be stored, and it was told alone
+  -- nothing is to be stored, and it was reported alone
   pub only_told : (out o : Option (List ℕ)) (result : Result (Unit {0}) ScriptEnding) → names_after out o ≡ [] → IsUnchanged shelf → Tells sink text ends result → TellsHanded shelf sink text ends out o result
   only_told (Some bytes) (Some name) result none unchanged tells = absurd cc
   only_told (Some bytes) None result none unchanged tells = (unchanged, tells)

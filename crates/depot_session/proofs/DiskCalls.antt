@@ -1,4 +1,4 @@
--- What the calls on a node do on its disk.
+-- What calls on the node do on its disk.
 use Rattle.std.proofs.Common.{◌≡◌, ◌<◌, ℕ, true, false, List, [], ◌++◌, append_assoc, sym, ap, subst, ◌∙◌, arith, inr, inl}
 use Rattle.std.proofs.lemmas.List.{append-nil, append_cancel_left}
 use Rattle.depot_base.specs.Calls.{Call, Made, made}

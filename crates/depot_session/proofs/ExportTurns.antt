@@ -1,4 +1,4 @@
--- How the command of a trace turns out.
+-- The outcome of the command that exports a trace.
 use Rattle.std.proofs.Common.{◌≡◌, ℕ, IsTrue, List, Option, None, Result, length, map, refl, sym, ap, subst, ◌∙◌}
 use Rattle.std.proofs.lemmas.List.{length-map}
 use Rattle.depot_base.specs.declared.record.Record.{Record}
@@ -54,7 +54,7 @@ export_stays : (here : Setting) (sign : Signs) (s : Session) (file : List ℕ) �
 unfolding step_of
 export_stays here sign s file = refl
 
--- the trace was stored and its line told, or not
+-- the trace was stored and its line reported, or not
 pub export_turns : {N : Type 0} (g : Ghosts N) (v : N) (s : Session) (reads : List ReadTrace) (file text line : List ℕ) (shelf : Shelves) (sink : Sinks) (r : Result (Unit {0}) ScriptEnding) → IsRunning g v → IsAt (g.stands v) (g.records v) shelf.file s
     → map read_of reads ≡ map traced_read (reads_of_run s) → text ≡ file_of_trace (trace_at (g.stands v).me (g.records v) reads) → line ≡ ended (spaced (text_of_traced (length (g.records v)) (length reads))) → IsTrue shelf.tells
     → Stores shelf sink (command_text (command.Export file) line) file text r → Turns g v v (command.Export file) (step_of (g.stands v) (g.signature_of v) s (command.Export file)) shelf sink r

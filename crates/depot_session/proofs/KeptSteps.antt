@@ -68,7 +68,7 @@ no_get other not = tt
 pub keeps_silent : (here : Setting) (sign : Signs) (J : List Record) (reads : Option (List ReadTrace)) (c : Command) → ((key : List ℕ) → c ≡ command.Get key → ⊥) → KeepsReads here sign J c reads reads
 keeps_silent here sign J reads c not = keeps_same here sign J c reads (no_get c not)
 
--- one more stands behind those of the run
+-- one more follows those of the run
 more_of_run : (s : Session) (J : List Record) (key : List ℕ) (rs : List ReadTrace) (r : ReadTrace) (all : List Read) → all ≡ s.correct.reads ++ read_at_end s.correct.journal key ∷ [] → s.correct.journal ≡ J → seen.read_of r ≡ traced_read (read_at_end J key) → AreOfRun s (Some rs)
     → (s.earlier ≤ length all) × (map seen.read_of (rs ++ r ∷ []) ≡ map traced_read (drop s.earlier all))
 more_of_run s J key rs r all all_is at is are =

@@ -1,4 +1,4 @@
--- How the commands of readers turn out: of the one that makes a reader, and of those that the last one made carries out.
+-- The outcomes of the commands of readers: the one that makes a reader, and those that the last reader carries out.
 use Rattle.std.proofs.Common.{◌≡◌, ℕ, List, [], Option, Some, None, Result, Ok, Err, refl, sym, ap, subst, ◌∙◌}
 use Rattle.std.specs.Prelude.{OnOk}
 use Rattle.std.specs.Result.{IsErrAnd}
@@ -119,7 +119,7 @@ module _ {N : Type 0} (g : Ghosts N) (v : N) (running : IsRunning g v) (s : Sess
     pub trim_reader : (step_of (g.stands v) (g.signature_of v) s (command.Trim file)).session.reader ≡ reader_after s.reader answer
     trim_reader = ap (λ (x : Step). x.session.reader) trim_is
 
-    -- its line was told, or not
+    -- its line was reported, or not
     pub trim_told : (line : List ℕ) (ends : Option ScriptEnding) (r : Result (Unit {0}) ScriptEnding) → line ≡ ended (spaced (text_of_trim answer)) → ends ≡ ending_of_trim answer → Tells sink (command_text (command.Trim file) line) ends r
         → Turns g v v (command.Trim file) (step_of (g.stands v) (g.signature_of v) s (command.Trim file)) shelf sink r
     trim_told line ends r line_is ends_is tells =
@@ -167,7 +167,7 @@ module _ {N : Type 0} (g : Ghosts N) (v : N) (running : IsRunning g v) (s : Sess
       pub fed_reader : (step_of (g.stands v) (g.signature_of v) s (command.Tgive file)).session.reader ≡ Some fed.reader
       fed_reader = ap (λ (x : Step). x.session.reader) fed_is
 
-      -- its line was told, or not
+      -- its line was reported, or not
       pub fed_told : (line : List ℕ) (ends : Option ScriptEnding) (r : Result (Unit {0}) ScriptEnding) → line ≡ ended (spaced (text_of_reader_feed fed)) → ends ≡ ending_of_tgive fed.full → Tells sink (command_text (command.Tgive file) line) ends r
           → Turns g v v (command.Tgive file) (step_of (g.stands v) (g.signature_of v) s (command.Tgive file)) shelf sink r
       fed_told line ends r line_is ends_is tells =
@@ -196,7 +196,7 @@ shown_is : (here : Setting) (sign : Signs) (s : Session) (key : List ℕ) → st
 unfolding step_of
 shown_is here sign s key = shown_by here sign s key s.reader
 
--- its line was told, or not
+-- its line was reported, or not
 pub tget_turns : {N : Type 0} (g : Ghosts N) (v : N) (s : Session) (key line : List ℕ) (shelf : Shelves) (sink : Sinks) (r : Result (Unit {0}) ScriptEnding) → IsRunning g v → IsAt (g.stands v) (g.records v) shelf.file s → IsUnchanged shelf → line ≡ tget_lines key s.reader
     → Tells sink (command_text (command.Tget key) line) None r → Turns g v v (command.Tget key) (step_of (g.stands v) (g.signature_of v) s (command.Tget key)) shelf sink r
 tget_turns g v s key line shelf sink r running at unchanged line_is tells =

@@ -46,7 +46,7 @@ is_right here J last r lawful later is =
 
 -- ---- the reads of a run
 
--- what stands behind so many of them never falls either
+-- what follows so many of them never falls either
 rest_never_falls : (n : ℕ) (rs : List Read) → NeverFall rs → NeverFall (drop n rs)
 rest_never_falls zero rs all = all
 rest_never_falls (suc n) [] all = tt

@@ -15,7 +15,7 @@ module _ (here : Setting) (J : List Record) (disk : Disks) where
   abbrev starting : List Call
   starting = calls_to_start_node here disk.file J
 
-  -- behind them those that append more
+  -- after them those that append more
   in_run : (added : List Record) → starting ++ calls_to_record (started here J) added ≡ calls_of_run disk J (birth_after here J ++ added)
   in_run added =
       append_assoc (calls_to_start disk.file) (calls_to_record J (birth_after here J)) (calls_to_record (started here J) added)
@@ -29,7 +29,7 @@ module _ (here : Setting) (J : List Record) (disk : Disks) where
   pub fails_at_start : (added : List Record) → DiskFailsAmong disk starting → DiskFailsAmong disk (calls_of_run disk J (birth_after here J ++ added))
   fails_at_start added f = subst (DiskFailsAmong disk) (in_run added) (fails_wider {D = Unit {0}} (λ _ calls _. disk.after calls) tt tt starting (calls_to_record (started here J) added) f)
 
-  -- one behind them did
+  -- one after them did
   pub fails_in_run : {N : Type 0} (after : N → List Made → N → Type 0) (old new : N) (added : List Record) → ((more : List Made) → after old more new → disk.after (made starting ++ more)) → FailsAmong after old new (calls_to_record (started here J) added)
       → DiskFailsAmong disk (calls_of_run disk J (birth_after here J ++ added))
   fails_in_run after old new added behind f =

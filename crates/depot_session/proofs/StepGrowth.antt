@@ -1,4 +1,4 @@
--- Whatever a script makes a node do, its journal keeps its records, and the node stays who it is.
+-- Whatever a script makes a node do, its journal keeps its records, and the node keeps its identity.
 use Rattle.std.proofs.Common.{◌≡◌, List, [], ◌∷◌, Option, Some, None, refl}
 use Rattle.depot_model.specs.Bundle.{Signs}
 use Rattle.depot_model.specs.Checks.{Setting}

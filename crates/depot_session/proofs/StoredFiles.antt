@@ -1,4 +1,4 @@
--- How a command turns out that stores a file.
+-- The outcome of a command that stores a file.
 use Rattle.std.proofs.Common.{◌≡◌, ◌⊎◌, ℕ, Bool, true, false, IsTrue, List, ◌++◌, Some, None, Result, Ok, Err, refl, sym, ap, subst, ◌∙◌, inl, inr}
 use Rattle.std.specs.Prelude.{if◌then◌else◌}
 use Rattle.std.specs.Str.{bytes_eq}
@@ -37,7 +37,7 @@ stored_is_named other name is = absurd is
 module _ {N : Type 0} (g : Ghosts N) (old new : N) (c : Command) (step : Step) (shelf : Shelves) (sink : Sinks) (more : List Record) (brings : step.session.correct.journal ≡ g.records old ++ more)
     (leaves : LeavesBrought g old new more) (name bytes : List ℕ) (own : (other : List ℕ) → name ≡ other → StoresAs c other)
     (goes : step.ending ≡ None) (runs : g.stopped new ≡ false) (journal : g.records new ≡ step.session.correct.journal) (stable : IsTrue (g.tells old) → LeavesAll (g.records new) (g.stopped new) (g.may_leave new)) where
-  -- no other file has changed, and under the name stands what is stored, or the shelf failed on it
+  -- no other file has changed, and under the name is what was stored, or the shelf failed on it
   others_same : LeavesOthers shelf name → HasFailedOn shelf name ⊎ (shelf.file_after name ≡ step.session.files name) → (other : List ℕ) → (shelf.file_after other ≡ shelf.file other) ⊎ IsHandedOut (LeftBy g old new) shelf c step other
   others_same others bytes other = by_name (one_name name other) where
     by_name : (name ≡ other) ⊎ (name ≡ other → ⊥) → (shelf.file_after other ≡ shelf.file other) ⊎ IsHandedOut (LeftBy g old new) shelf c step other

@@ -1,4 +1,4 @@
--- A command in whose way nothing stands goes on, and a script of such commands comes to its end.
+-- A command that nothing prevents goes on, and a script of such commands completes.
 use Rattle.std.proofs.Common.{◌≡◌, List, [], ◌∷◌, ℕ, true, not, Option, Some, None, refl, ap, ◌∙◌}
 use Rattle.std.proofs.lemmas.Bool.{cond-false, cond-true}
 use Rattle.std.proofs.lemmas.Slice.Eq.{bytes_eq-Decides}

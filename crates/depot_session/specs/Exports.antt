@@ -6,8 +6,8 @@ use Rattle.depot_model.specs.Traces.{AreRightReads, Trace, at_node}
 use Rattle.depot_session.specs.Sessions.{Files, Session}
 use Rattle.depot_traces.specs.ToldTraces.{file_of_trace}
 
--- Under this name stands a trace of the session's node: its texts are those of the node's journal, which is lawful, and its reads are what that
--- showed.
+-- Under this name is a trace of the session's node: its texts are those of the node's lawful journal, and its reads are
+-- what that journal showed.
 pub record HasExported (here : Setting) (s : Session) (files : Files) (name : List ℕ) : Type 0 where
   pub trace : Trace
   pub node : trace.node ≡ s.correct.node

@@ -40,7 +40,7 @@ use Rattle.depot_session.specs.declared.requesting.TheConstants.{TAKEN_PIECE}
 abbrev pub Files : Type 0
 Files = List ℕ → Option (List ℕ)
 
--- the files with these bytes under a name, in place of those that were there
+-- the files with these bytes under a name, replacing those that were there
 abbrev pub stored : Files → List ℕ → List ℕ → Files
 stored files name bytes other = if bytes_eq other name then Some bytes else files other
 
@@ -51,7 +51,7 @@ pub record Session : Type 0 where
   pub files : Files
   pub reader : Option Reader
 
--- A node as it is started from a journal, which gets a birth where it has no records. Its reads of earlier runs go on.
+-- A node as it is started from a journal, which gets a birth if it has no records. Its reads of earlier runs go on.
 abbrev pub session_from : Setting → List Record → List Read → Files → Session
 session_from here J reads files = record {
   correct = record { node = here.me; journal = started here J; reads = reads };
@@ -70,7 +70,8 @@ trace_of_run s = trace_with s.correct (reads_of_run s)
 
 -- ---- one command
 
--- A command as it goes: what it prints, the names under which it stores, the session after it, and how it ends the run, if it does.
+-- A command as it goes: what it prints, the names under which it stores, the session after it, and how it ends the run,
+-- if it does.
 pub record Step : Type 0 where
   pub text : List ℕ
   pub stores : List (List ℕ)
@@ -84,7 +85,7 @@ printed_count (command.Puts changes) = 1
 printed_count (command.Settled id k) = 3
 printed_count other = 2
 
--- what is printed of a command: its words but for a value, and these lines behind the arrow
+-- what is printed of a command: its words except a value, and these lines after the arrow
 abbrev pub command_text : Command → List ℕ → List ℕ
 command_text c lines = join 32 (take (printed_count c) (command_words c)) ++ codes " ->" ++ lines
 
@@ -108,7 +109,7 @@ Names (command.Trim file) name = file ≡ name
 Names (command.Tgive file) name = file ≡ name
 Names other name = ⊥
 
--- the names of the files that a command loads, where a reader was made before or none was
+-- the names of the files that a command loads, depending on whether a reader was made before
 abbrev pub loads_of : Bool → Command → List (List ℕ)
 loads_of made (command.Bundle hello file) = hello ∷ []
 loads_of made (command.Take file) = file ∷ []
@@ -117,7 +118,7 @@ loads_of made (command.Trim file) = file ∷ []
 loads_of true (command.Tgive file) = file ∷ []
 loads_of made other = []
 
--- those of some first commands, by whether a reader was made before each of these
+-- those of a prefix of the commands, given whether a reader was made before each
 abbrev pub loads_given : List Bool → List Command → List (List ℕ)
 loads_given [] commands = []
 loads_given (made ∷ more) [] = []
@@ -154,7 +155,7 @@ abbrev pub with_file : (List ℕ → Asking) → List ℕ → Option (List ℕ) 
 with_file asks name None = lacks name
 with_file asks name (Some bytes) = asks bytes
 
--- The last reader is given a stream. Where none was made, no file is asked for.
+-- The last reader is given a stream. If none was made, no file is loaded.
 abbrev pub given_by_name : Session → List ℕ → Option Reader → Asking
 given_by_name s name None = no_reader
 given_by_name s name (Some R) = with_file (feeds R) name (s.files name)
@@ -219,7 +220,7 @@ ending_of_trim (unopened (opened ids)) = None
 ending_of_trim (unsigned node) = None
 ending_of_trim (reading R) = None
 
--- a stream for which a reader has no room ends the run; nothing else of it does
+-- a stream for which a reader has no room ends the run; nothing else about it does
 abbrev pub ending_of_tgive : Option Full → Option ScriptEnding
 ending_of_tgive None = None
 ending_of_tgive (Some what) = Some ending.Limit
@@ -241,7 +242,7 @@ name_stored (command.Export file) = Some file
 name_stored (command.Checkpoint file) = Some file
 name_stored other = None
 
--- what is handed out, if anything is, becomes a file, if there is a name for it
+-- what is handed out, if anything, becomes a file, if there is a name for it
 abbrev pub files_after : Files → Option (List ℕ) → Option (List ℕ) → Files
 files_after files (Some bytes) (Some name) = stored files name bytes
 files_after files bytes name = files
@@ -252,7 +253,7 @@ names_after bytes name = []
 
 -- ---- what each command does
 
--- A command of which these lines stand behind the arrow, and by which this is handed out.
+-- A command with these lines after the arrow, which hands this out.
 abbrev pub told_step : Session → Command → List ℕ → Option (List ℕ) → Option ScriptEnding → Step
 told_step s c lines out ends = record {
   text = command_text c lines;
@@ -289,7 +290,7 @@ trim_step s c answer = step_with_reader (reader_after s.reader answer) (told_ste
 abbrev pub tgive_step : Session → Command → ReaderFeed → Step
 tgive_step s c fed = step_with_reader (Some fed.reader) (told_step s c (ended (spaced (text_of_reader_feed fed))) None (ending_of_tgive fed.full))
 
--- the line of what the last reader shows of a key: nothing, where none was made
+-- the line of what the last reader shows of a key: empty if none was made
 abbrev pub tget_lines : List ℕ → Option Reader → List ℕ
 tget_lines key None = ended []
 tget_lines key (Some R) = ended (answer_of_reader R key)
@@ -309,13 +310,13 @@ step_of here sign s c = step_by here sign s c (asked_in s c)
 
 -- ---- a script
 
--- what a script comes to: the lines, the session after it, and how the run ends
+-- the outcome of a script: the lines, the session after it, and how the run ends
 pub record Answers : Type 0 where
   pub text : List ℕ
   pub session : Session
   pub ending : ScriptEnding
 
--- a step that ends the run or not, and what comes behind it
+-- a step that ends the run or not, and what comes after it
 abbrev pub followed_by : Option ScriptEnding → Step → Answers → Answers
 followed_by (Some ends) step rest = record { text = step.text; session = step.session; ending = ends }
 followed_by None step rest = record { text = step.text ++ rest.text; session = rest.session; ending = rest.ending }

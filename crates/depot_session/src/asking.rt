@@ -1,4 +1,4 @@
-//! What a command asks the node, and how the reply is told.
+//! What a command asks the node, and how the reply is reported.
 ghost use Rattle.std.specs.Prelude.{◌≡◌, ◌<◌, ◌≤◌, ◌++◌, Bool, [], ◌∷◌, IfSome, IsErrOf, None, OnOk, Some, option_copied};
 ghost use Rattle.depot_outside.specs.Told.{shelves, sinks};
 ghost use Rattle.depot_requests.specs.Replies.{bytes_of_reply};
@@ -38,7 +38,7 @@ fn ending_of_reply(reply: &Reply) -> Option<ScriptEnding>
     }
 }
 
-/// How a stream ends the run, whose feed was closed for this, if it was.
+/// How a stream whose feed was closed for this reason, if any, ends the run.
 fn ending_of_closing(closing: &Option<Closing>) -> Option<ScriptEnding>
     ensures { result ≡ sessions.ending_of_closing closing.now }
 {
@@ -49,7 +49,7 @@ fn ending_of_closing(closing: &Option<Closing>) -> Option<ScriptEnding>
     }
 }
 
-/// The name under which a command stores what is handed out to it, if there is one.
+/// The name under which a command stores what is handed out to it, if any.
 fn name_stored(command: &Command) -> Option<&FileName>
     ensures { option_copied result ≡ name_stored command.now }
 {
@@ -62,7 +62,7 @@ fn name_stored(command: &Command) -> Option<&FileName>
     }
 }
 
-/// The name under which what a reply hands out is to be stored, if it hands something out.
+/// The name under which what a reply hands out is stored, if it hands something out.
 fn name_for<'c>(command: &'c Command, reply: &Reply) -> Option<&'c FileName>
     ensures some { IfSome result (λ file. (name_stored command.now ≡ Some file.now) × (handed_over reply.now ≡ Some (bytes_of_reply reply.now))) }
     ensures none { result ≡ None → names_after (handed_over reply.now) (name_stored command.now) ≡ [] }
@@ -75,7 +75,7 @@ fn name_for<'c>(command: &'c Command, reply: &Reply) -> Option<&'c FileName>
     }
 }
 
-/// Stores what a reply to a command hands out, if it does, and tells of it.
+/// Stores what a reply to a command hands out, if anything, and prints its lines.
 fn tell_reply<F: Shelf, K: Sink>(
     alloc: Global,
     command: &Command,
@@ -112,7 +112,7 @@ fn tell_reply<F: Shelf, K: Sink>(
     }
 }
 
-/// Asks the node for what a command asks for, stores what it hands out, and tells of the reply.
+/// Asks the node for what a command asks for, stores what it hands out, and prints the reply.
 fn ask<R: LocalNode, F: Shelf, K: Sink>(
     alloc: Global,
     node: &mut R,
@@ -165,7 +165,7 @@ fn ask_alone<R: LocalNode, F: Shelf, K: Sink>(
     ask(alloc, node, command, request, shelf, out)
 }
 
-/// Carries out a command that asks the node with the bytes of a file.
+/// Carries out a command that asks the node, given the bytes of a file.
 fn ask_with_file<R: LocalNode, F: Shelf, K: Sink>(
     alloc: Global,
     node: &mut R,
@@ -198,7 +198,7 @@ fn ask_with_file<R: LocalNode, F: Shelf, K: Sink>(
     )
 }
 
-/// Carries out a command that asks the node. The read of one that reads is kept if reads are.
+/// Carries out a command that asks the node. Keeps the read of one that reads, if reads are kept.
 pub fn ask_node<R: LocalNode, F: Shelf, K: Sink>(
     alloc: Global,
     node: &mut R,

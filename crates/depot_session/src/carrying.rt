@@ -21,8 +21,8 @@ use depot_script::Command;
 use depot_traces::Reads;
 use std::alloc::Global;
 
-/// Carries out a command of a script. Ok where the run goes on, and else how it ends. The reads of the run are kept if they were before; one that
-/// hands in a trace wants them.
+/// Carries out a command of a script. Returns `Ok` if the run goes on, else how it ends. The reads of the run are kept
+/// if they were before; a command that hands in a trace needs them.
 pub fn carry_out<S: Scheme + Copy, R: LocalNode<Of = S>, F: Shelf, K: Sink>(
     alloc: Global,
     node: &mut R,

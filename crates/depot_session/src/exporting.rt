@@ -31,7 +31,7 @@ fn trace_text<R: LocalNode>(alloc: Global, node: &R, reads: &[ReadTrace]) -> Res
     encode_trace(alloc, &trace)
 }
 
-/// Stores the node's trace with these reads, and tells of it.
+/// Stores the node's trace with these reads, and reports it.
 pub fn export<R: LocalNode, F: Shelf, K: Sink>(
     alloc: Global,
     node: &R,

@@ -1,20 +1,22 @@
 //! Runs scripts: a node over a disk, with files on a shelf, and what it prints.
 //!
-//! What a script comes to is defined in `specs/Sessions.antt`, command by command (`step_of`) and whole (`answers_of`): the lines, the
-//! journal, the files, and how the run ends. `run` starts the node from its disk and does just that, or is cut short by want of memory or
-//! by a fault of the disk, the shelf or the sink; `specs/SessionRuns.antt` says what stands then, on the disk at any stop too.
+//! `specs/Sessions.antt` defines the outcome of a script, command by command (`step_of`) and as a whole (`answers_of`):
+//! the lines, the journal, the files, and how the run ends. `run` starts the node from its disk and does just that, or
+//! is cut short by lack of memory or by a fault of the disk, the shelf or the sink. `specs/SessionRuns.antt` says what
+//! holds then, of every crash image too.
 //!
-//! Where the receipts of the file's journal are true (`depot_receipts`), so they are in every image of a run: only the command `receipt` writes
-//! their keys, and `checkpoint` and `sign` alone write those of checkpoints, which are others. `session_laws` says what stands in each image then, and which scripts come to their end (`specs/Unhindered.antt`).
+//! - If the receipts of the file's journal are true (`depot_receipts`), they are true in every crash image: only the
+//!   command `receipt` writes their keys, and only `checkpoint` and `sign` write those of checkpoints. `session_laws`
+//!   says what each image then has, and which scripts complete (`specs/Unhindered.antt`).
+//! - If a script hands in a trace, the reads of the run are kept, as traces record them (`kept_reads`); other scripts
+//!   keep none.
+//! - The last reader that a script made is kept in memory, beside the node (`last_reader`).
 //!
-//! Where a script hands in a trace, the reads of the run are kept, as traces tell them (`kept_reads`); a run of another script keeps none.
-//!
-//! The last reader that a script made is kept in memory, beside the node (`last_reader`).
-//!
-//! The node is known as a `LocalNode`; `running` alone starts one from its disk. `whole_script` has a whole script, and `carrying` a command. Most
-//! commands ask the node: `requesting` makes their requests, and `asking` loads the file of one, asks, stores what the node hands out, and tells of
-//! it last. The others are those of readers (`reader_commands`) and of the trace (`exporting`). `telling` writes lines, and `command_heads` the
-//! words of a command.
+//! The node is known as a `LocalNode`; only `running` starts one from its disk. `whole_script` carries out a script,
+//! and `carrying` one command. Most commands ask the node: `requesting` makes their requests, and `asking` loads a
+//! command's file, asks, stores what the node hands out, and prints the reply last. The others are those of readers
+//! (`reader_commands`) and of the trace (`exporting`). `telling` writes lines, and `command_heads` the words of a
+//! command.
 #![tactic(auto)]
 
 mod asking;

@@ -34,7 +34,8 @@ fn ending_of_trim<S: Scheme>(made: &Result<Trimmed<S>, TrimError>) -> Option<Scr
     }
 }
 
-/// Makes a reader of the node, below the checkpoint whose text a file has, and tells of it. A refused one leaves the last reader in place.
+/// Makes a reader of the node, below the checkpoint whose text a file has, and prints the answer. If it is refused, the
+/// last reader stays.
 pub fn trim<S: Scheme + Copy, R: LocalNode<Of = S>, F: Shelf, K: Sink>(
     alloc: Global,
     node: &R,
@@ -75,7 +76,7 @@ pub fn trim<S: Scheme + Copy, R: LocalNode<Of = S>, F: Shelf, K: Sink>(
     tell(alloc, command, &line, ends, out)
 }
 
-/// The line of a command that has nothing behind the arrow.
+/// The line of a command that has nothing after the arrow.
 fn empty_line(alloc: Global) -> Result<Bytes, Memory>
     ensures { IfOk result (λ line. line ≡ ended []) }
 {
@@ -92,7 +93,7 @@ fn ending_of_tgive(told: &ReaderFeedResult) -> Option<ScriptEnding>
     }
 }
 
-/// Gives the last reader the stream in a file, and tells of it. Before one is made no file is loaded.
+/// Gives the last reader the stream in a file, and prints the answer. If none was made, no file is loaded.
 pub fn tgive<S: Scheme + Copy, R: LocalNode<Of = S>, F: Shelf, K: Sink>(
     alloc: Global,
     node: &R,
@@ -143,7 +144,7 @@ fn last_shown_line<S: Scheme + Copy>(
     }
 }
 
-/// Tells what the last reader shows of a key.
+/// Prints what the last reader shows of a key.
 pub fn tget<S: Scheme + Copy, R: LocalNode<Of = S>, K: Sink>(
     alloc: Global,
     node: &R,

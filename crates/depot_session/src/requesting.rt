@@ -12,7 +12,7 @@ use depot_requests::Request;
 use depot_script::Command;
 use std::alloc::Global;
 
-/// How many bytes of a stream a script hands to a feed at once. What is taken doesn't depend on it.
+/// How many bytes of a stream a script hands to a feed at once. The result doesn't depend on it.
 pub const TAKEN_PIECE: u32 = 65_536;
 
 /// The one change that gives a key a value, both copied.
@@ -31,7 +31,7 @@ fn one_id(alloc: Global, id: &Hash32) -> Result<Ids, Memory>
     Ok(ids)
 }
 
-/// The file with whose bytes a command asks a node, if there is one.
+/// The file whose bytes a command gives a node, if any.
 pub fn file_asked(command: &Command) -> Option<&FileName>
     ensures { option_copied result ≡ sessions.file_asked command.now }
 {
@@ -42,7 +42,7 @@ pub fn file_asked(command: &Command) -> Option<&FileName>
     }
 }
 
-/// The request of a command that asks a node with no file. What it names is copied.
+/// The request of a command without a file. What it names is copied.
 pub fn request_alone(alloc: Global, command: &Command) -> Result<Request, Memory>
     requires asks { AsksTheNode command.now }
     requires alone { sessions.file_asked command.now ≡ None }
@@ -62,7 +62,7 @@ pub fn request_alone(alloc: Global, command: &Command) -> Result<Request, Memory
     }
 }
 
-/// The request of a command that asks a node with these bytes of its file.
+/// The request of a command with these bytes of its file.
 pub fn request_with(command: &Command, bytes: Bytes) -> Request
     requires { (name : List ℕ) × (sessions.file_asked command.now ≡ Some name) }
     ensures request { IsRequest result }

@@ -1,4 +1,4 @@
--- What an event that asks a node leaves of a simulation, and a node's start from its disk.
+-- What an event that asks a node makes of a simulation, and a node's start from its disk.
 use Rattle.std.proofs.Common.{◌≡◌, ℕ, true, eqb, List, [], ◌∷◌, ◌++◌, codes, take, Option, Some, None, refl, sym, ap, subst, ◌∙◌}
 use Rattle.std.specs.Prelude.{IfSome, insert, position}
 use Rattle.depot_model.specs.Journal.{accepted}
@@ -71,7 +71,7 @@ module _ (A : Type 0) {R : Type 0} (view : A → ActorView) (reads : Reader → 
 -- ---- the node that is asked
 
 module _ (A : Type 0) {R : Type 0} (view : A → ActorView) (reads : Reader → R → Type 0) (setup : Setup) (run : Run) (node : ℕ) (left : Simulation A R) (acting : ActingNode A) (i : IsLeft A view reads setup run node left acting) (after : A) (lines bytes : List ℕ) where
-  -- it did it where it stands
+  -- it did it in its place
   abbrev pub DidRequest : Request → Type 0
   DidRequest r = CameTo setup (event_result i.host (effect_of (stands_on setup i.host.correct.node) (signs_on setup i.host.correct.node) i.host.correct r)) (view after) lines bytes
 

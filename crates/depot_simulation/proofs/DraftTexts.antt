@@ -47,9 +47,9 @@ use Rattle.depot_simulation.specs.Asking.{asks_past}
 use Rattle.depot_simulation.proofs.EventFields.{voucher_sizes}
 use Rattle.depot_simulation.proofs.LabelledUpdates.{AreNamedWell, IsNamed, as_many, as_many_ids, each_is, id_named}
 
--- ---- updates without those that stand earlier
+-- ---- updates without those that occur earlier
 
--- none has an id that stands in front of them
+-- none has an id that precedes them
 new_firsts : (ids : List (List ℕ)) (us : List Update) (u : Update) → IsIn u (firsts_behind ids us) → is_among (id_of_update u) ids ≡ false
 unfolding firsts_behind
 new_firsts ids [] u never = absurd never
@@ -62,7 +62,7 @@ new_firsts ids (x ∷ us) u on = choice (is_among (id_of_update x) ids) refl on 
       let h = id_of_update u in
       both_ways (is_among h (ids ++ id_of_update x ∷ [])) (more there) (among-append h ids (id_of_update x ∷ []) ∙ or_left (is_among h ids) (is_among h (id_of_update x ∷ [])) e))
 
--- no id stands twice
+-- no id occurs twice
 apart_firsts : (ids : List (List ℕ)) (us : List Update) → HaveOwnIds (firsts_behind ids us)
 unfolding firsts_behind
 apart_firsts ids [] = tt
@@ -112,7 +112,7 @@ entries_are run writer refs es e = by_all (all_referred run refs) refl e where
   by_all None are is = absurd cc
   by_all (Some us) are is = by_test us (list_any (λ u. eqb u.writer writer) us) are refl is
 
--- each of them is named, and no id stands twice
+-- each of them is named, and no id occurs twice
 record AreGood (writer : ℕ) (seen : List Update) (es : List Update) : Type 0 where
   pub named : (u : Update) → IsIn u es → IsNamed seen u
   pub fit : (deps_of writer (length (map entry_of es))).fits (map entry_of es)
@@ -225,7 +225,7 @@ unfolding past
 past-with_history u h [] = refl
 past-with_history u h (t ∷ ts) = ap (λ (ps : List Update). cond (is_named t (u ∷ ps)) (t ∷ ps) ps) (past-with_history u h ts)
 
--- it doesn't matter what stood in its place
+-- it doesn't matter what was in its place
 history_by-with_history : (seen : List Update) (history : HistoryWord) (u : Update) (h : List ℕ) → history_by seen history (with_history u h) ≡ history_by seen history u
 history_by-with_history seen history_word.Right u h = ap (λ (ps : List Update). history_hash ps) (past-with_history u h seen)
 history_by-with_history seen (history_word.Given hash) u h = refl

@@ -1,4 +1,5 @@
--- What a schedule says of what faulty nodes sign, of stops, and of what nodes are asked for: of each field of an event, by the field's name.
+-- What a schedule guarantees of what faulty nodes sign, of stops, and of what nodes are asked for: for each field of an
+-- event, by the field's name.
 use Rattle.std.proofs.Common.{◌≡◌, ℕ, ◌<◌, ◌≤◌, ◌^◌, true, List, [], ◌∷◌, length, Option, arith}
 use Rattle.std.proofs.lemmas.Bool.Decides.{nat_tests}
 use Rattle.depot_base.specs.Shown.{IsPairKind}

@@ -1,4 +1,4 @@
--- Labels that no event to come names are forgotten.
+-- Labels that no later event names are forgotten.
 use Rattle.std.proofs.Common.{◌≡◌, ℕ, Bool, true, List, [], ◌∷◌, ◌++◌, length, Vec, refl, sym, ap, subst, ◌∙◌, inl, inr}
 use Rattle.std.specs.List.{slice_get}
 use Rattle.std.specs.declared.alloc.Global.{Global}
@@ -75,17 +75,17 @@ more_forgotten view reads old some new uses then left many front back es long ar
 pub uses_left : (uses : List (Vec ℕ Global × ℕ)) (all rest : List Event) (e : Event) → all ≡ rest ++ e ∷ [] → AreUses uses all → AreUses uses rest
 uses_left uses all rest e more are place x label low at named = are place x label low (ap (λ (xs : List Event). slice_get xs place) more ∙ (get_front rest (e ∷ []) place (slice_get_within rest place x at) ∙ at)) named
 
--- the next event stands in front of the others
+-- the next event precedes the others
 next_first : (rest : List Event) (e x : Event) → IsIn x (e ∷ rest) → IsIn x (rest ++ e ∷ [])
 next_first rest e x (inl here) = in_right x rest (e ∷ []) (inl here)
 next_first rest e x (inr there) = in_left x rest (e ∷ []) there
 
--- an event of a run is told as of the one that a simulation stands at, and they go on alike
+-- an event prints the same lines for this run as for the one that a simulation is at, and they go on alike
 pub next_alike : (setup : Setup) (all rest : List Event) (e : Event) (whole few : Run) → all ≡ rest ++ e ∷ [] → IsAlikeFor all whole few → GoesAlike setup rest e whole few
 next_alike setup all rest e whole few more alike =
     goes_alike setup rest e whole few (alike_for_fewer all (e ∷ rest) whole few (λ x on. subst (λ (xs : List Event). IsIn x xs) (sym more) (next_first rest e x on)) alike)
 
--- an event was played of the run that a simulation stands at, and labels were forgotten
+-- an event was played of the run that a simulation is at, and labels were forgotten
 pub played_for : {A R : Type 0} (view : A → ActorView) (reads : Reader → R → Type 0) (setup : Setup) (all rest : List Event) (e : Event) (whole : Run) (old some new : Simulation A R) (lines : List ℕ) (uses left : List (Vec ℕ Global × ℕ)) (many : ℕ) → all ≡ rest ++ e ∷ []
     → (s : IsSimulationFor view reads setup all whole old) → HasTold A view reads setup e (done setup s.few e) lines some → ForgetsLabels view reads many uses some left new → AreUses uses rest → length rest ≡ many
     → IsSimulationFor view reads setup rest (done setup whole e).run new

@@ -42,7 +42,7 @@ read_whole here sign s key waits =
 adds_none : (s : Host) (d : Effect) → d.reads ≡ s.correct.reads → map traced_read (event_result s d).host.correct.reads ≡ map traced_read s.correct.reads ++ []
 adds_none s d same = ap (map traced_read) (result_reads s d same) ∙ sym (append-nil (map traced_read s.correct.reads))
 
--- the reads of a node behind a request are those before it, and the one that it makes for it
+-- the reads of a node after a request are those before it, and the one that it makes for it
 request_adds : (here : Setting) (sign : Signs) (s : Host) (r : Request) → ((a : PendingStop) → s.pending ≡ Some a → 1 ≤ a.call) → map traced_read (event_result s (effect_of here sign s.correct r)).host.correct.reads ≡ map traced_read s.correct.reads ++ reads_by s.correct.journal r
 request_adds here sign s (request.Get key) waits =
     ap (map traced_read) (read_whole here sign s key waits ∙ request_reads here sign s.correct (request.Get key)) ∙ map-append traced_read s.correct.reads (read_at_end s.correct.journal key ∷ [])

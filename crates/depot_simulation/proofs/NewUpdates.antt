@@ -1,4 +1,4 @@
--- Of the updates that a node accepted only those that are new to it need to be added to those that were seen, one by one.
+-- Of the updates that a node accepted, only those new to it have to be added to the updates seen, one by one.
 use Rattle.std.proofs.Common.{◌≡◌, ℕ, ◌+◌, ◌<◌, ◌≤◌, List, [], ◌∷◌, ◌++◌, take, length, Some, sym, ap, ◌∙◌, arith}
 use Rattle.std.specs.List.{slice_get}
 use Rattle.std.proofs.Math.Seq.{take-append_seam}
@@ -25,7 +25,7 @@ use Rattle.depot_simulation.proofs.Remembered.{IdsWereSeen, seen_with-append, se
 pub accepted_more : (J K : List Record) (e : IsGrown J K) → accepted K ≡ accepted J ++ accepted e.more
 accepted_more J K e = ap (λ (x : List Record). accepted x) e.is ∙ flat_map-append accepted_by J e.more
 
--- what it accepted before stands in front
+-- what it accepted before comes first
 pub accepted_front : (J K : List Record) → IsGrown J K → take (length (accepted J)) (accepted K) ≡ accepted J
 accepted_front J K e = ap (λ (x : List Update). take (length (accepted J)) x) (accepted_more J K e) ∙ take-append_seam (accepted J) (accepted e.more)
 

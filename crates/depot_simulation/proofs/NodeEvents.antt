@@ -1,4 +1,4 @@
--- What an event of a node leaves of a simulation.
+-- What an event of a node makes of a simulation.
 use Rattle.std.proofs.Common.{◌≡◌, ◌≤◌, ℕ, false, eqb, List, [], ◌∷◌, ◌++◌, codes, take, length, map, Option, Some, None, refl, sym, ap, subst, ◌∙◌, arith}
 use Rattle.std.specs.Prelude.{insert, position}
 use Rattle.std.proofs.lemmas.List.Edits.{length-remove}
@@ -90,7 +90,7 @@ left_is A {R = R} view reads setup run node before left acting l at =
       accepted_were = at.remembered.accepted_were host_place.host f.on;
     }
 
--- its place is one among the others, or behind them
+-- its place is one among the others, or after them
 pub place_within : (A : Type 0) {R : Type 0} (view : A → ActorView) (node : ℕ) (before left : Simulation A R) (acting : ActingNode A) → HasLeft A view node before left acting → acting.seat.place ≤ length left.participants.items
 place_within A view node before left acting l =
     let within = slice_get_within before.participants.items acting.seat.place (participant_of acting) l.part_is in

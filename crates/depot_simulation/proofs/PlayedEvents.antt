@@ -57,12 +57,12 @@ printed_more setup run es i e old before lines new within is so_far told written
 rest_printed : (setup : Setup) (run : Run) (es : List Event) (i : ℕ) → printed setup run es ≡ printed setup run (take i es) ++ printed setup (run_after setup run (take i es)) (drop i es)
 rest_printed setup run es i = ap (printed setup run) (sym (take-append-drop i es)) ∙ printed-append setup run (take i es) (drop i es)
 
--- a front of it, where an event found no memory
+-- a prefix of it, where an event found no memory
 pub front_before : (setup : Setup) (run : Run) (es : List Event) (i : ℕ) (old before : List ℕ) → before ≡ old ++ printed setup run (take i es) → AddsFrontOf old (printed setup run es) before
 front_before setup run es i old before so_far =
     subst (λ (t : List ℕ). AddsFrontOf old t before) (sym (rest_printed setup run es i)) (begins_with old (printed setup run (take i es)) (printed setup (run_after setup run (take i es)) (drop i es)) before so_far)
 
--- a front of it, where an event's lines weren't all written
+-- a prefix of it, where an event's lines weren't all written
 pub front_within : (setup : Setup) (run : Run) (es : List Event) (i : ℕ) (e : Event) (old before lines new : List ℕ) → i < length es → e ≡ get_or es i e → before ≡ old ++ printed setup run (take i es) → lines ≡ lines_of e (done setup (run_after setup run (take i es)) e)
     → AddsFrontOf before lines new → AddsFrontOf old (printed setup run es) new
 unfolding printed
@@ -100,7 +100,7 @@ none_so_far es = let none : length es - length (reverse es) ≡ 0 = omega (arith
 pub all_so_far : (es rest : List Event) → length rest ≡ 0 → so_far es rest ≡ es
 all_so_far es rest none = take_all (length es - length rest) es (omega (arith, none))
 
--- an event is the next one of a list, and these are to come behind it
+-- an event is the next one of a list, and these are to come after it
 pub record IsNext (es all rest : List Event) (e : Event) : Type 0 where
   pub within : length es - length all < length es
   pub is : e ≡ get_or es (length es - length all) e
@@ -131,13 +131,13 @@ no_fault before now failed cause none = let not_less : before < now → ⊥ = λ
 
 -- ---- one event
 
--- the lines that an event came to were written
+-- the lines of an event were written
 pub lines_written : {X E P : Type 0} (result : Result X E) (Plays : List ℕ → P → Type 0) (sink : Sinks) (new : P) (text lines : List ℕ) → lines ≡ text → Plays lines new → (IsTrue sink.tells → OnOk result (sink.after ≡ sink.before ++ text))
     → OnOk result (WritesLines Plays sink new)
 lines_written (Ok done) Plays sink new text lines is plays wrote = (text, (subst (λ (ls : List ℕ). Plays ls new) is plays, wrote))
 lines_written (Err e) Plays sink new text lines is plays wrote = tt
 
--- or a front of them
+-- or a prefix of them
 pub front_written : {X E P : Type 0} (result : Result X E) (Plays : List ℕ → P → Type 0) (sink : Sinks) (new : P) (text lines : List ℕ) → lines ≡ text → Plays lines new → (IsTrue sink.tells → OnErr result (AddsFrontOf sink.before text sink.after))
     → OnErr result (WritesFront Plays sink new)
 front_written (Ok done) Plays sink new text lines is plays wrote = tt

@@ -1,4 +1,4 @@
--- What the events of readers leave of a simulation.
+-- What the events of readers make of a simulation.
 use Rattle.std.proofs.Common.{◌≡◌, ℕ, eqb, List, [], ◌∷◌, ◌++◌, get_or, Option, Some, None, Result, Ok, Err, refl, sym, ap, subst, ◌∙◌}
 use Rattle.std.specs.Prelude.{position, IfOk, OnOk}
 use Rattle.std.specs.Option.{option_map_or}
@@ -46,7 +46,7 @@ pub if_and_on : {T E Q : Type 0} {P S : T → Type 0} (r : Result T E) → IfOk 
 if_and_on (Ok x) p q more = more x p q
 if_and_on (Err e) p q more = tt
 
--- a line with nothing behind it
+-- a line with nothing after it
 alone : (answer : List ℕ) → ended answer ≡ ended answer ++ []
 alone answer = sym (append-nil (ended answer))
 
@@ -85,7 +85,7 @@ same_trim A view reads setup run node place text name simulation p at found is =
     trim_there setup run node text name host_place.host host_place.found
     ∙ ap (λ (J : List Record). trimmed_with run name (trim_of (stands_on setup node) J text)) (sym journal) ∙ ap (λ (h : Setting). trimmed_with run name (trim_of h (view p.actor).journal text)) (sym here)
 
--- a node was there: its answer is told, and its reader kept
+-- a node was there: its answer is reported, and its reader kept
 pub reader_trimmed : (A : Type 0) {R : Type 0} (view : A → ActorView) (reads : Reader → R → Type 0) (setup : Setup) (run : Run) (node place : ℕ) (text name : List ℕ) (old : Simulation A R) (readers : Readers R) (p : Participant A) (t : Trimming R) → IsSimulationAt view reads setup run old
     → position (λ q. eqb (view q.actor).here.me node) old.participants.items ≡ Some place → p ≡ get_or old.participants.items place p → HasTrimmed reads (trim_of (view p.actor).here (view p.actor).journal text) t
     → ((rs : List NamedReader) (made : Option Reader) → AreReaders reads old.readers.map.entries rs → IsMade reads t.reader made → AreReaders reads readers.map.entries (rs ++ record { name = name; reader = made } ∷ []))

@@ -1,4 +1,4 @@
--- Readers in a map that keeps their names in order, and in a run.
+-- Readers in an ordered map, and in a run.
 use Rattle.std.proofs.Common.{◌≡◌, ℕ, List, [], ◌∷◌, ◌++◌, Bool, true, false, cond, Option, Some, None, is_some, Vec, refl, sym, ap, subst, ◌∙◌}
 use Rattle.std.specs.BTreeMap.{BTreeMap, UpdatesBy}
 use Rattle.std.specs.Cmp.Lexicographic.{slice_cmp}

@@ -1,4 +1,4 @@
--- Updates that were seen: they stay seen, and where the parents of those that come were seen, each stands behind its parents.
+-- Updates that were seen: they stay seen, and if the parents of new ones were seen, each follows its parents.
 use Rattle.std.proofs.Common.{◌≡◌, ℕ, zero, suc, Bool, true, false, cond, List, [], ◌∷◌, ◌++◌, ◌+◌, ◌≤◌, length, take, map, Some, refl, ap, subst, ◌∙◌, inr, length-append, arith}
 use Rattle.std.specs.List.{AllByRecursion, slice_get}
 use Rattle.depot_base.specs.declared.update.Update.{Update}
@@ -54,7 +54,7 @@ unfolding seen_with
 all_are_seen seen [] = tt
 all_are_seen seen (u ∷ us) = (stays_seen (with_one seen u) us (id_of_update u) (one_is_seen seen u), all_are_seen (with_one seen u) us)
 
--- ---- one behind the other
+-- ---- one after the other
 
 -- what comes in two parts
 pub seen_with-append : (seen us vs : List Update) → seen_with seen (us ++ vs) ≡ seen_with (seen_with seen us) vs
@@ -82,7 +82,7 @@ seen_at_most seen (u ∷ us) = omega (arith, seen_at_most (with_one seen u) us, 
 
 -- ---- parents
 
--- the parents of each that comes were seen, or stand before it among those that come
+-- the parents of each that comes were seen, or precede it among those that come
 abbrev pub ParentsCome : List Update → List Update → Type 0
 ParentsCome seen [] = Unit {0}
 ParentsCome seen (u ∷ us) = IdsWereSeen seen (parents u) × ParentsCome (with_one seen u) us
@@ -96,7 +96,7 @@ come_behind ids seen (u ∷ us) known c = (
       (one_is_seen seen u, all_from (λ (h : List ℕ). has_id (with_one seen u) h ≡ true) ids (λ h on. one_stays seen u h (all_at (λ (k : List ℕ). has_id seen k ≡ true) ids h known on))) c.1.1,
 )
 
--- so it is where each parent stands before its children, whatever was seen
+-- so it is where each parent precedes its children, whatever was seen
 pub causal_come : (seen us : List Update) → IsCausal [] us → ParentsCome seen us
 causal_come seen us c = come_behind [] seen us tt c
 

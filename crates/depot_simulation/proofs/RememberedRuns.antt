@@ -1,4 +1,4 @@
--- Runs that remember what was seen, and how one host, one label or one update more leaves them so.
+-- Runs that remember what was seen, with one more host, label or update.
 use Rattle.std.proofs.Common.{◌≡◌, ◌-◌, ℕ, Bool, true, false, not, eqb, leb, cond, List, [], ◌∷◌, map, Option, Some, None, refl, ap, subst, ◌∙◌, inl, inr}
 use Rattle.std.specs.Prelude.{filter}
 use Rattle.std.specs.Str.{bytes_eq}
@@ -32,7 +32,7 @@ each_put P s (t ∷ ss) one each x on = by_test (eqb t.correct.node s.correct.no
   by_test false rest (inl here) = each x (inl here)
   by_test false rest (inr there) = rest there
 
--- a host whose accepted updates stand behind their parents
+-- a host whose accepted updates follow their parents
 pub host_remembers : (run : Run) (s : Host) → IsRemembered run → IsCausal [] (accepted s.correct.journal) → IsRemembered (with_host run s)
 unfolding with_host
 host_remembers run s r causal =

@@ -1,4 +1,4 @@
--- How many updates a run sees: those that its nodes accepted, and one an event at most.
+-- How many updates a run sees: those that its nodes accepted, and at most one for each event.
 use Rattle.std.proofs.Common.{◌≡◌, ◌+◌, ◌*◌, ◌<◌, ◌≤◌, ℕ, Bool, true, false, eqb, cond, List, [], ◌∷◌, ◌++◌, codes, length, take, Option, Some, None, Result, Ok, Err, refl, sym, ap, subst, ◌∙◌, inl, inr, length-append, arith}
 use Rattle.depot_answers.specs.AnswerTexts.{spaced}
 use Rattle.depot_base.specs.Writes.{one_change}
@@ -188,7 +188,7 @@ unfolding run_after
 counted_after setup run [] n c = record { were = c.were; few = omega (arith, c.few) }
 counted_after setup run (e ∷ es) n c = let rest = counted_after setup (done setup run e).run es (n + 1) (event_counts setup run e n c) in record { were = rest.were; few = omega (arith, rest.few) }
 
--- the run that a simulation stands at behind some of the events that may be played
+-- the run that a simulation is at after some of the events that may be played
 pub few_seen : (setup : Setup) (run few : Run) (es to_come : List Event) (i : ℕ) → IsRemembered run → length run.seen + length es ≤ MOST_LINES → IsSound setup (run_after setup run (take i es)) → IsAlikeFor to_come (run_after setup run (take i es)) few → length few.seen ≤ most_seen
 few_seen setup run few es to_come i r lines sound alike =
     let then = run_after setup run (take i es) in

@@ -125,7 +125,7 @@ judged_done A view reads setup run label bytes text lines simulation at same is 
 
 -- ---- lines
 
--- the lines of an event: the front of the first, and those from the arrow on
+-- the lines of an event: the head of the first, and those from the arrow on
 pub lines_told : (e : Event) (d : Done) (none front behind whole : List ℕ) → none ≡ [] → front ≡ none ++ (join 32 (head_words e) ++ codes " ->") → behind ≡ lines_after_arrow d.answer d.behind → whole ≡ front ++ behind → whole ≡ lines_of e d
 unfolding lines_of
 lines_told e d none front behind whole is_none is_front is_behind is_whole =

@@ -19,7 +19,7 @@ use Rattle.depot_world.specs.ScheduleStops.{EventResult, event_result}
 use Rattle.depot_world.specs.Setups.{Setup, stands_on, signs_on}
 use Rattle.depot_simulation.specs.declared.actor.EventOutcome.{EventOutcome}
 
--- where a node stands, how it signs, its journal, and the stop that waits on its disk
+-- a node's setting, its signer, its journal, and the stop that is set on its disk
 pub record ActorView : Type 0 where
   pub here : Setting
   pub sign : Signs
@@ -46,12 +46,12 @@ pub record IsHosted (setup : Setup) (s : Host) (v : ActorView) : Type 0 where
 abbrev pub HaveTexts : List ReadTrace → Type 0
 HaveTexts = AllByRecursion (λ r. read_text.fits r)
 
--- these are the reads of a node, as a trace tells them
+-- these are the reads of a node, as a trace records them
 pub record TellReads (rs : List Read) (told : List ReadTrace) : Type 0 where
   pub are : map read_of told ≡ map traced_read rs
   pub fit : HaveTexts told
 
--- a node as a simulation has it: how it is seen, and the reads that were kept of it
+-- a node as a simulation has it: how contracts see it, and the reads that were kept of it
 pub record ParticipantView : Type 0 where
   pub view : ActorView
   pub reads : List ReadTrace
@@ -68,13 +68,14 @@ AreHosted setup [] (p ∷ ps) = ⊥
 AreHosted setup (s ∷ ss) [] = ⊥
 AreHosted setup (s ∷ ss) (p ∷ ps) = IsParticipant setup s p × AreHosted setup ss ps
 
--- An event of a node came to this: the node after it, these lines, and these bytes for a label.
+-- This is the outcome of a node's event: the node after it, these lines, and these bytes for a label.
 pub record CameTo (setup : Setup) (w : EventResult) (v : ActorView) (lines bytes : List ℕ) : Type 0 where
   pub hosted : IsHosted setup w.host v
   pub lines_are : lines ≡ lines_after_arrow w.answer w.behind
   pub bytes_are : bytes ≡ w.bytes
 
--- Of whatever host this was the node, an event came to what it lets a correct node do, by where it stands and how it signs.
+-- For any host that this was: the outcome of an event is one that a correct node may have, by its setting and its
+-- signer.
 abbrev pub Acts : {A : Type 0} → (A → ActorView) → A → (Setting → Signs → Correct → Effect) → EventOutcome A → Type 0
 Acts view actor effect outcome = (setup : Setup) (s : Host) → IsHosted setup s (view actor)
     → CameTo setup (event_result s (effect (stands_on setup s.correct.node) (signs_on setup s.correct.node) s.correct)) (view outcome.actor) outcome.lines outcome.bytes

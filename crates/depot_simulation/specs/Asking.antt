@@ -12,12 +12,12 @@ names_parents (Some r) rs = true
 names_parents None [] = false
 names_parents None (r ∷ rs) = true
 
--- the right history is asked for of an update with parents
+-- the right history of an update with parents is needed
 abbrev pub asks_past : Option Ref → List Ref → HistoryWord → Bool
 asks_past prev deps history.Right = names_parents prev deps
 asks_past prev deps (history.Given h) = false
 
--- an event asks for that of the update that it lets a faulty node sign
+-- an event needs that of the update that a faulty node signs
 abbrev pub asks_right_history : Event → Bool
 asks_right_history (event.Update label writer seq clock prev key value deps history) = asks_past prev deps history
 asks_right_history (event.Updates label writer seq clock prev changes deps history) = asks_past prev deps history

@@ -32,7 +32,7 @@ use Rattle.depot_simulation.specs.declared.simulation.Simulation.{Simulation}
 
 -- ---- all events
 
--- This was done: these lines say so from the arrow on, and the simulation is at the run after it.
+-- This was done: these are its lines from the arrow on, and the simulation is at the run afterwards.
 pub record HasDone (A : Type 0) {R : Type 0} (view : A → ActorView) (reads : Reader → R → Type 0) (setup : Setup) (d : Done) (lines : List ℕ) (simulation : Simulation A R) : Type 0 where
   pub lines_are : lines ≡ lines_after_arrow d.answer d.behind
   pub at : IsSimulationAt view reads setup d.run simulation
@@ -48,7 +48,7 @@ pub record HasTold (A : Type 0) {R : Type 0} (view : A → ActorView) (reads : R
 abbrev pub MayAskNode : Event → Type 0
 MayAskNode e = (run : Run) → IfSome (request_in run e) IsRequest
 
--- the read that a node makes for a request, as a trace tells it, if it makes one
+-- the read that a node makes for a request, as a trace records it, if any
 abbrev pub reads_by : List Record → Request → List ReadTrace
 reads_by J (request.Get key) = traced_read (read_at_end J key) ∷ []
 reads_by J r = []

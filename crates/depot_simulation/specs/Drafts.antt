@@ -12,7 +12,7 @@ use Rattle.depot_schedule.specs.declared.event.Ref.{Ref}
 use Rattle.depot_schedule.specs.declared.member.Member.{Member}
 use Rattle.depot_schedule.specs.declared.schedule.Schedule.{Schedule}
 
--- what is said of an update that a faulty node signs is in the ranges of a schedule
+-- the fields of an update that a faulty node signs are in the ranges of a schedule
 pub record MaySign (writer seq clock : ℕ) (changes : List Change) (refs : List Ref) (history : HistoryWord) : Type 0 where
   pub writer_is : (1 ≤ writer) × (writer ≤ 65535)
   pub seq_most : seq ≤ 4294967295
@@ -27,7 +27,7 @@ pub record IsNumbered (writer seq : ℕ) (u : Update) : Type 0 where
   pub writer_is : u.writer ≡ writer
   pub seq_is : u.seq ≡ seq
 
--- who signs a statement is a member, and the number of the statement is that of a leaf
+-- the signer of a statement is a member, and the statement's number is that of a leaf
 pub record HasLeaf (height : ℕ) (members : List Member) (writer seq : ℕ) : Type 0 where
   pub declared : is_declared members writer ≡ true
   pub leaf : seq < 2 ^ height

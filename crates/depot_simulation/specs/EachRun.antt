@@ -1,4 +1,4 @@
--- What a call gives of whatever run a simulation stands at.
+-- What a call makes of any run that a simulation may be at.
 use Rattle.std.specs.Prelude.{◌≡◌, ◌⊎◌, ℕ, List, [], length, Vec}
 use Rattle.std.specs.declared.alloc.Global.{Global}
 use Rattle.depot_base.specs.declared.key.PublicKey.{PublicKey}
@@ -25,15 +25,15 @@ use Rattle.depot_simulation.specs.declared.simulation.Simulation.{Simulation}
 
 -- ---- the runs
 
--- this holds of whatever run a simulation stands at, in whatever setup
+-- this holds for any run that the simulation is at, in any setup
 abbrev pub OfEachRun : {A R : Type 0} → (A → ActorView) → (Reader → R → Type 0) → Simulation A R → (Setup → Run → Type 0) → Type 0
 OfEachRun view reads simulation Of = (setup : Setup) (run : Run) → IsSimulationAt view reads setup run simulation → Of setup run
 
--- it holds of whatever setup a scenario has
+-- it holds for any setup of a scenario
 abbrev pub OfEachSetupOn : {S G : Type 0} → Verifies → (G → PublicKey) → (G → Signs) → Scenario S G → (Setup → Type 0) → Type 0
 OfEachSetupOn verifies key sign scenario Of = (setup : Setup) → IsScenarioOf verifies key sign setup scenario → Of setup
 
--- it holds of whatever run a simulation stands at, in whatever setup a scenario has
+-- it holds for any run that the simulation is at, in any setup of a scenario
 abbrev pub OfEachRunOn : {A R S G : Type 0} → Verifies → (G → PublicKey) → (G → Signs) → Scenario S G
     → (A → ActorView) → (Reader → R → Type 0) → Simulation A R → (Setup → Run → Type 0) → Type 0
 OfEachRunOn verifies key sign scenario view reads simulation Of = (setup : Setup) (run : Run) → IsScenarioOf verifies key sign setup scenario
@@ -45,19 +45,21 @@ abbrev pub OfEachSoundRunOn : {A R S G : Type 0} → Verifies → (G → PublicK
 OfEachSoundRunOn verifies key sign scenario view reads simulation Of = (setup : Setup) (run : Run) → IsScenarioOf verifies key sign setup scenario
     → IsSound setup run → IsSimulationAt view reads setup run simulation → Of setup run
 
--- it holds of what is printed of events that may be played from whatever run a simulation stands at, in whatever setup a scenario has
+-- it holds of what is printed of events that may be played from any run that the simulation is at, in any setup of a
+-- scenario
 abbrev pub OfEachPrinted : {A R S G : Type 0} → Verifies → (G → PublicKey) → (G → Signs) → Scenario S G → List Event
     → (A → ActorView) → (Reader → R → Type 0) → Simulation A R → (List ℕ → Type 0) → Type 0
 OfEachPrinted verifies key sign scenario events view reads simulation Of = (setup : Setup) (run : Run) → IsScenarioOf verifies key sign setup scenario
     → StaysSound setup run events → IsSimulationAt view reads setup run simulation → Of (printed setup run events)
 
--- ---- what a simulation comes to
+-- ---- the outcome of a simulation
 
--- Whatever run a simulation stood at, it stands at the one that this makes of it.
+-- For any run that the simulation was at, it is now at the one that this makes of it.
 abbrev pub GoesTo : {A R : Type 0} → (A → ActorView) → (Reader → R → Type 0) → Simulation A R → (Setup → Run → Run) → Simulation A R → Type 0
 GoesTo view reads old then new = OfEachRun view reads old (λ setup run. IsSimulationAt view reads setup (then setup run) new)
 
--- Of whatever run a simulation stood at, this was done: these lines say so from the arrow on, and it stands at the run after it.
+-- For any run that the simulation was at, this was done: these are its lines from the arrow on, and it is at the run
+-- afterwards.
 abbrev pub Simulates : {A R : Type 0} → (A → ActorView) → (Reader → R → Type 0) → Simulation A R → (Setup → Run → Done) → List ℕ → Simulation A R → Type 0
 Simulates view reads old what lines new = OfEachRun view reads old (λ setup run. HasDone _ view reads setup (what setup run) lines new)
 
@@ -73,7 +75,7 @@ abbrev pub SimulatesSoundOn : {A R S G : Type 0} → Verifies → (G → PublicK
 SimulatesSoundOn verifies key sign scenario view reads old what lines new =
     OfEachSoundRunOn verifies key sign scenario view reads old (λ setup run. HasDone _ view reads setup (what setup run) lines new)
 
--- Of these, an event was done: the lines are its lines, and the simulation stands at the run after it.
+-- An event was done of these: the lines are its lines, and the simulation is at the run afterwards.
 abbrev pub PlaysEvent : {A R S G : Type 0} → Verifies → (G → PublicKey) → (G → Signs) → Scenario S G
     → (A → ActorView) → (Reader → R → Type 0) → Simulation A R → Event → List ℕ → Simulation A R → Type 0
 PlaysEvent verifies key sign scenario view reads old e lines new =
@@ -83,13 +85,13 @@ PlaysEvent verifies key sign scenario view reads old e lines new =
 abbrev pub WritesLines : {P : Type 0} → (List ℕ → P → Type 0) → Sinks → P → Type 0
 WritesLines Plays sink new = (lines : List ℕ) × (Plays lines new × Wrote sink lines)
 
--- a front of them was written, or there were none and nothing was
+-- a prefix of them was written, or there were none and nothing was
 abbrev pub WritesFront : {P : Type 0} → (List ℕ → P → Type 0) → Sinks → P → Type 0
 WritesFront Plays sink new = Wrote sink [] ⊎ ((lines : List ℕ) × (Plays lines new × WroteFront sink lines))
 
 -- ---- the node that left its place for an event
 
--- Of whatever the simulation was before the node left, this was done.
+-- Whatever the simulation was before the node left, this was done.
 abbrev pub Completes : {A R : Type 0} → (A → ActorView) → (Reader → R → Type 0) → ℕ → Simulation A R → ActingNode A → (Setup → Run → Done)
     → List ℕ → Simulation A R → Type 0
 Completes {A = A} {R = R} view reads node left acting what lines new = (before : Simulation A R) → HasLeft A view node before left acting
@@ -97,7 +99,7 @@ Completes {A = A} {R = R} view reads node left acting what lines new = (before :
 
 -- ---- what a label is given
 
--- Of whatever run a simulation stands at, in whatever setup a scenario has, this is what an event makes.
+-- For any run that the simulation is at, in any setup of a scenario, an event makes this.
 abbrev pub MakesOn : {A R S G : Type 0} → Verifies → (G → PublicKey) → (G → Signs) → Scenario S G
     → (A → ActorView) → (Reader → R → Type 0) → Simulation A R → (Setup → Run → Text) → made_text.Text → Type 0
 MakesOn verifies key sign scenario view reads simulation made text =
@@ -105,8 +107,8 @@ MakesOn verifies key sign scenario view reads simulation made text =
 
 -- ---- labels that are forgotten
 
--- Of whatever so many events are to come, and whatever run a simulation stood at: it stands at that run for them, and the uses of labels that
--- are left are theirs.
+-- For any number of remaining events, and any run that the simulation was at: it is at that run for them, and the
+-- remaining uses of labels are theirs.
 abbrev pub ForgetsLabels : {A R : Type 0} → (A → ActorView) → (Reader → R → Type 0) → ℕ → List (Vec ℕ Global × ℕ) → Simulation A R → List (Vec ℕ Global × ℕ) → Simulation A R → Type 0
 ForgetsLabels view reads many uses old left new = (to_come : List Event) → length to_come ≡ many → AreUses uses to_come
     → AreUses left to_come × OfEachRun view reads old (λ setup run. IsSimulationFor view reads setup to_come run new)

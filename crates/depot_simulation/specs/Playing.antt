@@ -32,8 +32,8 @@ use Rattle.std.specs.declared.alloc.Global.{Global}
 abbrev pub WereSeen : List Update → List Update → Type 0
 WereSeen seen us = AllByRecursion (λ u. has_id seen (id_of_update u) ≡ true) us
 
--- What was seen are updates whose parents were seen before them; what correct nodes accepted was seen; each signed statement of a label has a
--- text, and its update was seen.
+-- What was seen: each update comes after its parents; all that correct nodes accepted is there; each signed statement
+-- of a label has a text, and its update is there.
 pub record IsRemembered (run : Run) : Type 0 where
   pub causal : IsCausal [] run.seen
   pub accepted_were : (s : Host) → IsIn s run.hosts → WereSeen run.seen (accepted s.correct.journal)
@@ -56,13 +56,14 @@ participant_by view p = record { view = view p.actor; reads = p.reads }
 abbrev pub IsSimulationAt : {A R : Type 0} → (A → ActorView) → (Reader → R → Type 0) → Setup → Run → Simulation A R → Type 0
 IsSimulationAt view reads setup run simulation = IsRunAt reads setup run (map (participant_by view) simulation.participants.items) simulation.labels.map.entries simulation.seen.listed.updates simulation.readers.map.entries
 
--- a simulation is at a run that is this one, but for labels that none of these events names
+-- a simulation is at this run, except for labels that none of these events names
 pub record IsSimulationFor {A R : Type 0} (view : A → ActorView) (reads : Reader → R → Type 0) (setup : Setup) (es : List Event) (run : Run) (simulation : Simulation A R) : Type 0 where
   pub few : Run
   pub alike : IsAlikeFor es run few
   pub at : IsSimulationAt view reads setup few simulation
 
--- how many updates a run sees at most: a record of a correct node tells of one at most, and so does a line of a schedule
+-- how many updates a run sees at most: a record of a correct node accepts at most one, and a line of a schedule makes
+-- at most one
 abbrev pub most_seen : ℕ
 most_seen = MOST_CORRECT * MOST_RECORDS + MOST_LINES
 
@@ -86,8 +87,8 @@ pub record IsPlayedOn {A R S G : Type 0} (verifies : Verifies) (key : G → Publ
 abbrev pub StaysSound : Setup → Run → List Event → Type 0
 StaysSound setup run events = (n : ℕ) → IsSound setup (run_after setup run (take n events))
 
--- a simulation is at some point of some run, in the setup of this scenario, from which these events may be played: with the updates that
--- were seen they are no more than the lines of a schedule
+-- a simulation is at some point of some run, in the setup of this scenario, from which these events may be played: with
+-- the updates seen they are no more than the lines of a schedule
 pub record MayPlay {A R S G : Type 0} (verifies : Verifies) (key : G → PublicKey) (sign : G → Signs) (scenario : Scenario S G) (events : List Event) (view : A → ActorView) (reads : Reader → R → Type 0) (simulation : Simulation A R) : Type 0 where
   pub setup : Setup
   pub run : Run

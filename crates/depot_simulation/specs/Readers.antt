@@ -1,4 +1,4 @@
--- Readers of a simulation, and what is told of them.
+-- Readers of a simulation, and what is reported of them.
 use Rattle.std.specs.Prelude.{◌≡◌, ℕ, List, [], ◌∷◌, ◌++◌, Option, Some, None, Vec, if◌then◌else◌}
 use Rattle.std.specs.Str.{bytes_eq}
 use Rattle.std.specs.declared.alloc.Global.{Global}
@@ -13,14 +13,14 @@ use Rattle.depot_simulation.specs.declared.reading.Trimming.{Trimming}
 
 -- ---- one reader
 
--- what is kept of a reader is that reader, where there is one
+-- the state kept for a reader is that reader, if there is one
 abbrev pub IsMade : {R : Type 0} → (Reader → R → Type 0) → Option R → Option Reader → Type 0
 IsMade reads None None = Unit {0}
 IsMade reads None (Some r) = ⊥
 IsMade reads (Some x) None = ⊥
 IsMade reads (Some x) (Some r) = reads r x
 
--- what a node answered where a reader was to be made of it: that is told, and the reader is there if it was made
+-- what a node answered when a reader was to be made of it: that is printed, and the reader is there if it was made
 pub record HasTrimmed {R : Type 0} (reads : Reader → R → Type 0) (answer : TrimAnswer) (t : Trimming R) : Type 0 where
   pub lines_are : t.lines ≡ ended (spaced (text_of_trim answer))
   pub reader_is : IsMade reads t.reader (reader_made answer)
@@ -47,7 +47,7 @@ unfoldable pub first_named : List NamedReader → List ℕ → Option NamedReade
 first_named [] name = None
 first_named (r ∷ rs) name = if bytes_eq r.name name then Some r else first_named rs name
 
--- what is kept of a name is what was made under it
+-- what is kept under a name is what was made under it
 abbrev pub IsNamed : {R : Type 0} → (Reader → R → Type 0) → Option (Option R) → Option NamedReader → Type 0
 IsNamed reads None None = Unit {0}
 IsNamed reads None (Some r) = ⊥
@@ -58,19 +58,19 @@ IsNamed reads (Some o) (Some r) = IsMade reads o r.reader
 abbrev pub AreReaders : {R : Type 0} → (Reader → R → Type 0) → List (Vec ℕ Global × Option R) → List NamedReader → Type 0
 AreReaders reads entries readers = (name : List ℕ) → IsNamed reads (named_in name entries) (first_named readers name)
 
--- the reader of a name in place of the one before, if there was one
+-- the reader of a name, replacing the one before, if any
 abbrev pub readers_with : List ℕ → Option Reader → List NamedReader → List NamedReader
 readers_with name None readers = readers
 readers_with name (Some r) readers = put_reader name r readers
 
 -- ---- what calls leave of them
 
--- Of whatever readers these were kept, and whatever one was made: they are kept of the same with that one behind, under its name.
+-- Whatever readers were kept, and whatever was made: the same are kept, and this one at the end, under its name.
 abbrev pub KeepsMade : {R : Type 0} → (Reader → R → Type 0) → List (Vec ℕ Global × Option R) → List ℕ → Option R → List (Vec ℕ Global × Option R) → Type 0
 KeepsMade reads old name reader new = (readers : List NamedReader) (made : Option Reader) → AreReaders reads old readers → IsMade reads reader made
     → AreReaders reads new (readers ++ record { name = name; reader = made } ∷ [])
 
--- Of whatever readers these were kept: they are kept of the same, of which that of this name has taken a stream.
+-- Whatever readers were kept: the same are kept, after the one of this name took a stream.
 abbrev pub TakesStream : {R : Type 0} → (Reader → R → Type 0) → List (Vec ℕ Global × Option R) → List ℕ → List ℕ → List (Vec ℕ Global × Option R) → Type 0
 TakesStream reads old name stream new = (readers : List NamedReader) → AreReaders reads old readers
     → AreReaders reads new (readers_with name (gone_on (reader_in readers name) stream) readers)

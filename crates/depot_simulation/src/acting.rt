@@ -2,7 +2,7 @@
 
 use depot_traces::Reads;
 
-/// Where a node comes back to: its place among the others, from 0, and how many updates it had accepted when it left.
+/// Where a node returns to: its place among the others, from 0, and how many updates it had accepted when it left.
 #[derive(Clone, Copy)]
 pub struct Seat {
     pub place: usize,

@@ -24,24 +24,25 @@ use depot_requests::Request;
 use depot_scenario::Numbered;
 use depot_traces::{ReadTrace, Trace};
 
-/// What an event of a node came to.
+/// The outcome of an event of a node.
 #[derive(Drop)]
 pub struct EventOutcome<A> {
     /// The node after it.
     pub actor: A,
-    /// What is printed behind the arrow, and the lines behind that line, each with its LF.
+    /// What is printed after the arrow, and the lines after that line, each with its LF.
     pub lines: Bytes,
     /// What a label is given.
     pub bytes: Bytes,
 }
 
-/// A correct node at work, which keeps its journal on a disk in memory. Each event that it takes part in makes of it what the
-/// definitions of runs say (`depot_world`): where a stop falls into it the node is started again. After Memory it is gone.
+/// A correct node at work, with its journal on a disk in memory. Each event that it takes part in has the outcome that
+/// the definitions of runs give (`depot_world`): after a stop in an event the node is started again. On `Memory` it is
+/// gone.
 pub trait Actor: Drop + Numbered {
     /// A reader that is made of it.
     type Reader: Reading;
 
-    /// Where it stands, how it signs, its journal, and the stop that waits on its disk.
+    /// Its setting, its signer, its journal, and the stop that is set on its disk.
     ghost view: { Self → ActorView };
 
     /// How many updates it accepted. It takes no memory.
@@ -58,7 +59,7 @@ pub trait Actor: Drop + Numbered {
         requires { item < length (accepted (view self.now).journal) }
         ensures { at (accepted (view self.now).journal) item (λ u. id_of_update u ≡ result.now) };
 
-    /// Its own update of a number. None exactly where there is none. It takes no memory.
+    /// Its own update of a number. `None` exactly when there is none. It takes no memory.
     fn own_update(&self, seq: u32) -> Option<&Update>
         ensures { option_copied result ≡ own_update (view self.now).journal seq };
 
@@ -67,11 +68,11 @@ pub trait Actor: Drop + Numbered {
         requires { IsRequest request }
         ensures { IfOk result (λ outcome. Acts view self (λ here sign correct. effect_of here sign correct request) outcome) };
 
-    /// A read of a key at its records as they are, as a trace tells it.
+    /// A read of a key at its current records, as a trace records it.
     fn read(&self, key: &Key) -> Result<ReadTrace, Memory>
         ensures { IfOk result (λ r. read_text.fits r × (seen_traces.read_of r ≡ traced_read (read_at_end (view self.now).journal key.now))) };
 
-    /// What it hands in for an audit: its records, and these of its reads, which are copied.
+    /// Returns what it hands in for an audit: its records, and these of its reads, which are copied.
     fn trace(&self, reads: &[ReadTrace]) -> Result<Trace, Memory>
         requires few { length reads.now ≤ MOST_READS }
         requires fit { HaveTexts reads.now }
@@ -85,8 +86,8 @@ pub trait Actor: Drop + Numbered {
     fn restart(self) -> Result<EventOutcome<Self>, Memory>
         ensures { IfOk result (λ outcome. Acts view self (λ here sign correct. restart_by correct) outcome) };
 
-    /// A stop is set on its disk, and it is started again: in which call from then on the stop comes, from 1, and which image it leaves, in
-    /// place of one that waits.
+    /// Sets a stop on its disk and starts it again. The stop comes in this call from then on, from 1, and leaves this
+    /// image; it replaces one that was set.
     fn stop_at(self, call: u32, image: u8) -> Result<Self, Memory>
         requires call { 1 ≤ call }
         requires most { call ≤ MOST_STOP_CALL }
@@ -99,6 +100,6 @@ pub trait Actor: Drop + Numbered {
     /// Its journal is lawful.
     ghost lawful: { (a : Self) → IsLawful (view a).here (view a).journal };
 
-    /// A stop that waits on its disk comes in a call to come.
+    /// A stop that is set on its disk comes in a later call.
     ghost to_come: { (a : Self) (stop : PendingStop) → (view a).pending ≡ Some stop → 1 ≤ stop.call };
 }

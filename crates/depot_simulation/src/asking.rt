@@ -18,7 +18,7 @@ fn names_parents(prev: &Option<Ref>, deps: &[Ref]) -> bool
     }
 }
 
-/// Whether the right history is asked for of an update with this prev and these entries, and it has parents.
+/// Whether the right history of an update with this prev and these entries is needed, and it has parents.
 fn asks_past(prev: &Option<Ref>, deps: &[Ref], history: HistoryWord) -> bool
     ensures { result ≡ asks_past prev.now deps.now history }
 {
@@ -49,7 +49,7 @@ fn asks_right_history(event: &Event) -> bool
     }
 }
 
-/// Whether one of these events asks for the right history of an update with parents.
+/// Whether one of these events needs the right history of an update with parents.
 pub fn any_asks_right_history(events: &[Event]) -> bool
     ensures { result ≡ list_any asks_right_history events.now }
 {

@@ -21,7 +21,7 @@ use depot_traces::{Finding, Traces};
 use std::alloc::Global;
 
 impl<A: Actor> Simulation<A> {
-    /// All nodes are audited, by their records and the reads that were kept of them. The lines are those from the arrow on.
+    /// Audits all nodes, by their records and the reads that were kept of them. Returns the lines from the arrow on.
     pub fn audit<S: Scheme, G: Signer>(
         &self,
         scenario: &Scenario<'_, S, G>,
@@ -48,7 +48,7 @@ impl<A: Actor> Simulation<A> {
     }
 }
 
-/// What an audit finds, behind a space and with its LF.
+/// What an audit finds, after a space and with its LF.
 #[tactic(auto, using(depot_base::proofs::Writing::texts))]
 fn finding_line(alloc: Global, found: Finding) -> Result<Bytes, Memory>
     ensures { IfOk result (λ line. line ≡ ended (spaced (text_of_finding (finding_of found)))) }

@@ -23,8 +23,8 @@ use depot_update::id_of;
 use std::alloc::Global;
 
 impl<A: Actor> Simulation<A> {
-    /// The update that a faulty node signs, for the fields of an event that a schedule may have. None exactly where its prev or an
-    /// entry names nothing, or an entry an update of the node's own.
+    /// The update that a faulty node signs, from the fields of an event that a schedule may have. `None` exactly when
+    /// its prev or an entry names nothing, or an entry names an update of the node's own.
     pub fn updated(
         &self,
         writer: NodeId,
@@ -54,7 +54,7 @@ impl<A: Actor> Simulation<A> {
         Ok(Some(self.seen.with_history(draft, history)?))
     }
 
-    /// The ids that references name for a voucher, in rising order, each once. None exactly where one names nothing.
+    /// The ids that references name for a voucher, in rising order, each once. `None` exactly when one names nothing.
     pub fn vouched_ids(&self, refs: &[Ref]) -> Result<Option<Ids>, Memory>
         requires { IsPlayed A.view A.Reader.reads self.now }
         ensures is { IfOk result (λ made. OfEachRun A.view A.Reader.reads self.now (λ setup run. made ≡ option_map rising (all_of (map (id_referred run) refs.now)))) }
@@ -66,7 +66,7 @@ impl<A: Actor> Simulation<A> {
         Ok(Some(rising_ids(self.alloc, ids.as_slice())?))
     }
 
-    /// The ids that references name for a voucher, in their order. None exactly where one names nothing.
+    /// The ids that references name for a voucher, in their order. `None` exactly when one names nothing.
     fn ids_of(&self, refs: &[Ref]) -> Result<Option<Ids>, Memory>
         requires { IsPlayed A.view A.Reader.reads self.now }
         ensures { IfOk result (λ ids. OfEachRun A.view A.Reader.reads self.now (λ setup run. ids ≡ all_of (map (id_referred run) refs.now))) }
@@ -81,7 +81,7 @@ impl<A: Actor> Simulation<A> {
         Ok(Some(ids))
     }
 
-    /// The ids of the updates that references name, in rising order, each once. None exactly where one names nothing.
+    /// The ids of the updates that references name, in rising order, each once. `None` exactly when one names nothing.
     pub fn receipt_ids(&self, refs: &[Ref]) -> Result<Option<Ids>, Memory>
         requires { IsPlayed A.view A.Reader.reads self.now }
         ensures { IfOk result (λ made. OfEachRun A.view A.Reader.reads self.now (λ setup run. made ≡ option_map (λ us. rising (map id_of_update us)) (all_referred run refs.now))) }
@@ -93,8 +93,8 @@ impl<A: Actor> Simulation<A> {
         Ok(Some(rising_ids(self.alloc, ids.as_slice())?))
     }
 
-    /// The id that a reference names for a voucher: SHA-256 of the bytes of a plain label, or an update's. None exactly where it names
-    /// nothing.
+    /// The id that a reference names for a voucher: SHA-256 of the bytes of a plain label, or an update's. `None`
+    /// exactly when it names nothing.
     fn id_referred(&self, r: &Ref) -> Result<Option<Hash32>, Memory>
         requires { IsPlayed A.view A.Reader.reads self.now }
         ensures { IfOk result (λ id. OfEachRun A.view A.Reader.reads self.now (λ setup run. id ≡ id_referred run r.now)) }
@@ -105,7 +105,7 @@ impl<A: Actor> Simulation<A> {
         }
     }
 
-    /// The id of the update that a reference names. None exactly where it names nothing.
+    /// The id of the update that a reference names. `None` exactly when it names nothing.
     pub fn update_id(&self, r: &Ref) -> Result<Option<Hash32>, Memory>
         requires { IsPlayed A.view A.Reader.reads self.now }
         ensures { IfOk result (λ id. OfEachRun A.view A.Reader.reads self.now (λ setup run. id ≡ option_map id_of_update (referred run r.now))) }
@@ -116,7 +116,7 @@ impl<A: Actor> Simulation<A> {
         Ok(Some(id_of(self.alloc, update)?))
     }
 
-    /// The id that a prev names: zeros where there is none. None exactly where its reference names nothing.
+    /// The id that a prev names, zeros if there is none. `None` exactly when its reference names nothing.
     fn prev_of(&self, prev: &Option<Ref>) -> Result<Option<Hash32>, Memory>
         requires { IsPlayed A.view A.Reader.reads self.now }
         ensures { IfOk result (λ id. OfEachRun A.view A.Reader.reads self.now (λ setup run. id ≡ prev_of_ref run prev.now)) }
@@ -127,8 +127,8 @@ impl<A: Actor> Simulation<A> {
         }
     }
 
-    /// The entries that references name, in rising order, each once. None exactly where one names nothing, or an update of this
-    /// writer.
+    /// The entries that references name, in rising order, each once. `None` exactly when one names nothing, or an
+    /// update of this writer.
     fn entries_of(&self, writer: NodeId, refs: &[Ref]) -> Result<Option<Deps>, Memory>
         requires { IsPlayed A.view A.Reader.reads self.now }
         ensures { IfOk result (λ deps. OfEachRun A.view A.Reader.reads self.now (λ setup run. deps ≡ option_map (λ us. map entry_of us) (entries_of run writer refs.now))) }
@@ -139,7 +139,7 @@ impl<A: Actor> Simulation<A> {
         entries_of_others(self.alloc, writer, named.as_slice())
     }
 
-    /// The entries of the updates that references name, in their order. None exactly where one names nothing.
+    /// The entries of the updates that references name, in their order. `None` exactly when one names nothing.
     fn named(&self, refs: &[Ref]) -> Result<Option<Deps>, Memory>
         requires { IsPlayed A.view A.Reader.reads self.now }
         ensures { IfOk result (λ named. OfEachRun A.view A.Reader.reads self.now (λ setup run. named ≡ option_map (λ us. map entry_of us) (all_referred run refs.now))) }

@@ -12,8 +12,8 @@ use depot_base::{Bytes, Key, Memory, NodeId};
 use depot_lines::Label;
 
 impl<A: Actor> Simulation<A> {
-    /// A reader is made of a node, below the checkpoint whose text a label has. The node stays at its place, since it stays as it is. The
-    /// lines are those from the arrow on.
+    /// Makes a reader of a node, below the checkpoint whose text a label has. The node is unchanged and stays in its
+    /// place. Returns the lines from the arrow on.
     pub fn trim(&mut self, node: NodeId, label: &Label, name: &Label) -> Result<Bytes, Memory>
         ensures lines { IfOk result (λ lines. Simulates A.view A.Reader.reads self.old (λ setup run. trim_at setup run node (bytes_of_label run label.now) name.now) lines self.new) }
         ensures asked { self.new.seen.asked ≡ self.old.seen.asked }
@@ -27,7 +27,7 @@ impl<A: Actor> Simulation<A> {
         Ok(lines)
     }
 
-    /// The reader of a name takes the bytes of a label. The lines are those from the arrow on.
+    /// Gives the reader of a name the bytes of a label. Returns the lines from the arrow on.
     pub fn tgive(&mut self, name: &Label, label: &Label) -> Result<Bytes, Memory>
         requires { IsPlayed A.view A.Reader.reads self.old }
         ensures lines { IfOk result (λ lines. Simulates A.view A.Reader.reads self.old (λ setup run. tgive_by run name.now (bytes_of_label run label.now)) lines self.new) }
@@ -37,7 +37,7 @@ impl<A: Actor> Simulation<A> {
         self.readers.tgive(name, stream)
     }
 
-    /// The reader of a name reads a key. The lines are those from the arrow on.
+    /// Reads a key at the reader of a name. Returns the lines from the arrow on.
     pub fn tget(&self, name: &Label, key: &Key) -> Result<Bytes, Memory>
         requires { IsPlayed A.view A.Reader.reads self.now }
         ensures { IfOk result (λ lines. Simulates A.view A.Reader.reads self.now (λ setup run. tget_by run name.now key.now) lines self.now) }

@@ -13,7 +13,7 @@ use crate::simulation::Simulation;
 use depot_base::{Bytes, Memory, NodeId};
 
 impl<A: Actor> Simulation<A> {
-    /// A stop is set on a node's disk. The lines are those from the arrow on.
+    /// Sets a stop on a node's disk. Returns the lines from the arrow on.
     pub fn stop(&mut self, node: NodeId, call: u32, image: u8) -> Result<Bytes, Memory>
         requires call { 1 ≤ call }
         requires most { call ≤ MOST_STOP_CALL }

@@ -16,7 +16,7 @@ use depot_scenario::{Scenario, event_head, judged};
 use depot_schedule::Event;
 
 impl<A: Actor> Simulation<A> {
-    /// Does an event, and gives its lines. After Memory the simulation isn't one any more.
+    /// Does an event, and returns its lines. On `Memory` the simulation isn't one any more.
     pub fn event<S: Scheme, G: Signer>(
         &mut self,
         scenario: &Scenario<'_, S, G>,
@@ -68,7 +68,7 @@ impl<A: Actor> Simulation<A> {
         }
     }
 
-    /// The bytes of a label are judged as a proof. The lines are those from the arrow on.
+    /// Judges the bytes of a label as a proof. Returns the lines from the arrow on.
     fn judge<S: Scheme, G: Signer>(
         &self,
         scenario: &Scenario<'_, S, G>,

@@ -10,7 +10,7 @@ use depot_scenario::{LabelUses, labels_of};
 use depot_schedule::Event;
 
 impl<A: Actor> Simulation<A> {
-    /// Forgets those labels of an event that none of so many events to come names.
+    /// Forgets those labels of an event that none of the remaining events, so many, names.
     pub fn forget_labels(
         &mut self,
         event: &Event,

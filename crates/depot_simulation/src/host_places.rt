@@ -12,7 +12,7 @@ use crate::simulation::Simulation;
 use depot_base::{Memory, NodeId};
 
 impl<A: Actor> Simulation<A> {
-    /// Takes the first node of this number from its place. None exactly where there is none. It takes no memory.
+    /// Takes the first node of this number from its place. `None` exactly when there is none. It takes no memory.
     pub fn leave(&mut self, node: NodeId) -> Option<ActingNode<A>>
         ensures { MatchOption result ((self.new ≡ self.old) × (place_of_node A.view node self.old.participants.items ≡ None)) (λ acting. HasLeft A A.view node self.old self.new acting) }
     {
@@ -23,7 +23,7 @@ impl<A: Actor> Simulation<A> {
         Some(ActingNode { seat, actor, reads })
     }
 
-    /// Puts a node back at its place, with its reads. The updates that it accepted are seen; those that it had accepted when it left were.
+    /// Puts a node back in its place, with its reads, and notes the updates that it accepted since it left as seen.
     pub fn come_back(&mut self, seat: Seat, participant: Participant<A>) -> Result<(), Memory>
         requires place { seat.place ≤ vec_len self.old.participants }
         requires seen { WereSeen self.old.seen.listed.updates (take seat.count (accepted (A.view participant.actor).journal)) }

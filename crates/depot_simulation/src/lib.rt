@@ -1,16 +1,21 @@
 //! Plays schedules over correct nodes, whichever they are, event by event.
 //!
-//! What a schedule makes happen is defined in `depot_world`; here it runs, and what is written of it is the defined text. A correct node is
-//! an `Actor`, known by its contract alone: what an event makes of it is what the definitions of runs say, whether a stop falls into it
-//! or not. No disk stands here: what a stop leaves is the actor's to say.
+//! `depot_world` defines what a schedule makes happen; here it runs, and what is written is the defined text. A correct
+//! node is an `Actor`, known by its contract alone: an event has the outcome that the definitions of runs give, whether
+//! a stop falls into it or not. There is no disk here: what a crash leaves is up to the actor.
 //!
-//! A `Simulation` is a run at work (`IsSimulationAt`): the correct nodes, each with the reads that it made (`Participant`), what labels name, the
-//! updates that were seen, and the `Readers` by their names, each known by its contract alone too (`Reading`). `events` does one event and
-//! gives its lines: `requests` those that ask a node for something, by what labels and references name; the node leaves its place for them
-//! (`host_places`), does what is asked, and comes back. `event_stops` does those that set a stop on a disk, `event_readers` those of readers, `audits` the audit of all nodes, `updates` and `made` those that only make a
-//! label, and `drafting` finds what their references name. `asking` tells which events ask for right histories, `playing` begins a run
-//! and plays all events, and `forgetting` gives up labels that no event to come names. What needs no node stands in `depot_scenario`;
-//! the nodes are `depot_replay`'s.
+//! A `Simulation` is a run at work (`IsSimulationAt`): the correct nodes, each with its reads (`Participant`), what
+//! labels name, the updates seen, and the `Readers` by their names, each known by its contract alone too (`Reading`).
+//!
+//! - `events` does one event and returns its lines.
+//! - `requests` does those that ask a node for something, by what labels and references name: the node leaves its place
+//!   (`host_places`), does what is asked, and returns.
+//! - `event_stops` sets stops on disks, `event_readers` does the events of readers, `audits` audits all nodes, and
+//!   `updates` and `made` do the events that only make a label; `drafting` finds what their references name.
+//! - `asking` says which events need right histories, `playing` begins a run and plays all events, and `forgetting`
+//!   drops labels that no later event names.
+//!
+//! What needs no node is in `depot_scenario`; the nodes are those of `depot_replay`.
 #![tactic(auto)]
 
 mod acting;

@@ -24,7 +24,7 @@ use depot_scenario::{Scenario, texts};
 use depot_schedule::{Event, Ref};
 
 impl<A: Actor> Simulation<A> {
-    /// An event that only makes a label. The lines are those from the arrow on.
+    /// Does an event that only makes a label. Returns the lines from the arrow on.
     pub fn make<S: Scheme, G: Signer>(
         &mut self,
         scenario: &Scenario<'_, S, G>,

@@ -4,7 +4,7 @@ use depot_base::NodeId;
 use depot_scenario::Numbered;
 use depot_traces::Reads;
 
-/// A correct node, and the reads that it made so far, as a trace tells them. A node keeps none itself.
+/// A correct node and its reads so far, as a trace records them. A node itself keeps none.
 #[derive(Drop)]
 pub struct Participant<A> {
     pub actor: A,

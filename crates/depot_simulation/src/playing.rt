@@ -1,4 +1,4 @@
-//! A run from its begin on: events are played, and what they print is written.
+//! A run from its beginning: plays events, and writes what they print.
 ghost use Rattle.std.specs.Prelude.{◌≡◌, ◌++◌, true, IsTrue, OnOk, OnErr, IsErrOf, IfOk};
 ghost use Rattle.depot_base.specs.Faults.{HasCause};
 ghost use Rattle.depot_base.specs.Reading.{AddsFrontOf};
@@ -27,7 +27,7 @@ use depot_schedule::{Event, Events, Schedule};
 use depot_traces::Reads;
 use std::alloc::Global;
 
-/// The run before its first event; `asked` says whether its events will ask for right histories of updates with parents.
+/// The run before its first event. `asked` says whether its events need right histories of updates with parents.
 pub fn begun<'a, A: StartsFresh<S, &'a G>, S: Scheme + Copy, G: Signer<Of = S>>(
     alloc: Global,
     schedule: &Schedule,
@@ -62,9 +62,9 @@ pub fn begun<'a, A: StartsFresh<S, &'a G>, S: Scheme + Copy, G: Signer<Of = S>>(
     })
 }
 
-/// Plays events, one after the other, and writes the lines of each after it was done. After an error a front of them all went out.
-/// An event that was played is given up, and so are the labels that no event behind it names: the memory of a schedule goes while its
-/// run grows.
+/// Plays events, one after the other, and writes the lines of each once it was done. After an error a prefix of all
+/// lines went out. An event is dropped once it was played, and so are the labels that no later event names: the memory
+/// of the schedule shrinks while its run grows.
 pub fn play_all<A: Actor, S: Scheme, G: Signer, K: Sink>(
     simulation: &mut Simulation<A>,
     scenario: &Scenario<'_, S, G>,
@@ -86,7 +86,8 @@ pub fn play_all<A: Actor, S: Scheme, G: Signer, K: Sink>(
     while let Some(event) = to_come.pop() {
         give_back(&mut to_come);
         let played = play_one(simulation, scenario, &event, out);
-        // The labels are lent from the event: they are forgotten before it is given up, whatever its playing answered.
+        // The labels are borrowed from the event: they are forgotten before it is dropped, whatever playing it
+        // returned.
         let forgotten = simulation.forget_labels(&event, &mut uses, to_come.len());
         drop(event);
         played?;
@@ -95,7 +96,8 @@ pub fn play_all<A: Actor, S: Scheme, G: Signer, K: Sink>(
     Ok(())
 }
 
-/// Plays an event, and writes its lines. After an error a front of them went out, and none where no memory was found for them.
+/// Plays an event and writes its lines. After an error a prefix of them went out, and none if no memory was found for
+/// them.
 fn play_one<A: Actor, S: Scheme, G: Signer, K: Sink>(
     simulation: &mut Simulation<A>,
     scenario: &Scenario<'_, S, G>,
@@ -116,7 +118,7 @@ fn play_one<A: Actor, S: Scheme, G: Signer, K: Sink>(
     write(out, lines.as_slice())
 }
 
-/// Gives back the memory of events that are gone, as soon as they are half of those that it was found for.
+/// Frees the memory of played events, as soon as they are half of those that it was allocated for.
 fn give_back(events: &mut Vec<Event>)
     ensures { events.new.items ≡ events.old.items }
 {
@@ -125,7 +127,7 @@ fn give_back(events: &mut Vec<Event>)
     }
 }
 
-/// Writes bytes to a sink. After an error a front of them went out; `Sink` has its cause in a call that failed.
+/// Writes bytes to a sink. After an error a prefix of them went out; `Sink` is caused by a call that failed.
 pub fn write<K: Sink>(out: &mut K, bytes: &[u8]) -> Result<(), ReplayError>
     ensures done { IsTrue (K.tells out.old) → OnOk result (K.written out.new ≡ K.written out.old ++ bytes.now) }
     ensures front { IsTrue (K.tells out.old) → OnErr result (AddsFrontOf (K.written out.old) bytes.now (K.written out.new)) }

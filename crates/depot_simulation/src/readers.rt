@@ -10,9 +10,9 @@ use depot_lines::Label;
 use std::alloc::Global;
 use std::collections::BTreeMap;
 
-/// What was made under each name of a reader, in a map that keeps the names in order: the reader, or none where it was refused.
-/// Who writes a schedule picks the names, so none is hashed: a look-up takes logarithmic time, whatever they are. What was made first
-/// under a name stays.
+/// What was made under each name of a reader, in an ordered map: the reader, or none if it was refused. Whoever writes
+/// a schedule picks the names, so none is hashed: a look-up takes logarithmic time, whatever they are. What was made
+/// first under a name stays.
 #[derive(Drop)]
 pub struct Readers<R> {
     alloc: Global,
@@ -42,7 +42,7 @@ impl<R: Reading> Readers<R> {
         Ok(())
     }
 
-    /// The reader of a name takes a stream. The lines are those from the arrow on; nothing is told where there is none.
+    /// Gives the reader of a name a stream. Returns the lines from the arrow on, empty if there is no reader.
     pub fn tgive(&mut self, name: &Label, stream: &[u8]) -> Result<Bytes, Memory>
         requires { (readers : List NamedReader) × AreReaders R.reads self.old.map.entries readers }
         ensures lines { IfOk result (λ lines. (readers : List NamedReader) → AreReaders R.reads self.old.map.entries readers → lines ≡ reader_lines (reader_in readers name.now) stream.now) }
@@ -54,7 +54,7 @@ impl<R: Reading> Readers<R> {
         }
     }
 
-    /// The reader of a name reads a key. The lines are those from the arrow on; nothing is told where there is none.
+    /// Reads a key at the reader of a name. Returns the lines from the arrow on, empty if there is no reader.
     pub fn tget(&self, name: &Label, key: &Key) -> Result<Bytes, Memory>
         requires { (readers : List NamedReader) × AreReaders R.reads self.now.map.entries readers }
         ensures { IfOk result (λ lines. (readers : List NamedReader) → AreReaders R.reads self.now.map.entries readers → lines ≡ reader_shown (reader_in readers name.now) key.now) }

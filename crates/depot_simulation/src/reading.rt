@@ -6,12 +6,13 @@ ghost use Rattle.depot_simulation.specs.Readers.{reader_shown, reader_lines};
 
 use depot_base::{Bytes, Key, Memory};
 
-/// What is kept of a reader of a node, in memory alone. It takes what the definitions of readers say (`depot_model`), and shows it.
+/// The state of a reader of a node, in memory alone. It takes and shows what the definitions of readers say
+/// (`depot_model`).
 pub trait Reading: Drop {
     /// Whose reader it is.
     ghost reads: { Reader → Self → Type 0 };
 
-    /// It takes a stream. The lines are those from the arrow on. After Memory it isn't a reader any more.
+    /// Takes a stream. Returns the lines from the arrow on. On `Memory` it isn't a reader any more.
     fn tgive(&mut self, stream: &[u8]) -> Result<Bytes, Memory>
         requires { (r : Reader) × reads r self.old }
         ensures lines { (r : Reader) → reads r self.old → IfOk result (λ lines. lines ≡ reader_lines (Some r) stream.now) }

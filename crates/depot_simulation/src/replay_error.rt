@@ -5,7 +5,7 @@ ghost use Rattle.depot_simulation.specs.declared.replay_error.ReplayError.TheVar
 use depot_base::Memory;
 use thiserror::Error;
 
-/// Why a replay ended before its schedule did. A front of the transcript went out.
+/// Why a replay ended before its schedule did. A prefix of the transcript went out.
 #[derive(Clone, Copy, Debug, PartialEq, Eq, Error)]
 pub enum ReplayError {
     /// No memory was found.

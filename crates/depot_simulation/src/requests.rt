@@ -22,8 +22,8 @@ use depot_schedule::Event;
 use depot_traces::Reads;
 
 impl<A: Actor> Simulation<A> {
-    /// An event that asks a node for something. What it asks for is looked up while the node is at its place, since a reference may name an update of
-    /// its own. The lines are those from the arrow on.
+    /// Does an event that asks a node for something. What it asks for is looked up while the node is in its place,
+    /// since a reference may name an update of its own. Returns the lines from the arrow on.
     pub fn ask(&mut self, event: &Event) -> Result<Bytes, Memory>
         requires asks { asks_node event.now ≡ true }
         requires may { MayAskNode event.now }
@@ -40,7 +40,7 @@ impl<A: Actor> Simulation<A> {
         }
     }
 
-    /// What an event asks for, by what labels and references name. None exactly where a reference names nothing.
+    /// What an event asks for, by what labels and references name. `None` exactly when a reference names nothing.
     fn request(&self, event: &Event) -> Result<Option<Request>, Memory>
         requires asks { asks_node event.now ≡ true }
         requires played { IsPlayed A.view A.Reader.reads self.now }
@@ -108,7 +108,7 @@ impl<A: Actor> Simulation<A> {
         Ok(lines)
     }
 
-    /// A node is started again from its disk. The lines are those from the arrow on.
+    /// Starts a node again from its disk. Returns the lines from the arrow on.
     pub fn restart(&mut self, node: NodeId) -> Result<Bytes, Memory>
         requires played { IsPlayed A.view A.Reader.reads self.old }
         ensures lines { IfOk result (λ lines. Simulates A.view A.Reader.reads self.old (λ setup run. restarted_at run node) lines self.new) }
@@ -153,7 +153,7 @@ fn node_asked(event: &Event) -> NodeId
     }
 }
 
-/// How many bytes each piece of a stream has: so many as are asked for, or more than any stream.
+/// How many bytes each piece of a stream has: the given number, or more than any stream.
 fn piece_of(size: Option<u32>) -> u32
     ensures { result ≡ piece_of size }
 {

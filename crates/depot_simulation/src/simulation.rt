@@ -13,8 +13,8 @@ use depot_scenario::{KnownUpdates, Labels, place_of};
 use depot_schedule::Ref;
 use std::alloc::Global;
 
-/// A run between two events: the correct nodes with their reads in the order of their lines, what labels name, the updates that were
-/// seen, and the readers.
+/// A run between two events: the correct nodes with their reads in the order of their lines, what labels name, the
+/// updates seen, and the readers.
 #[derive(Drop)]
 pub struct Simulation<A: Actor> {
     pub alloc: Global,
@@ -46,7 +46,7 @@ impl<A: Actor> Simulation<A> {
         self.labels.signed(label)
     }
 
-    /// The bytes that a reference names by a plain label, if it does. It takes no memory.
+    /// The bytes of the plain label that a reference names, if it does. It takes no memory.
     pub fn plain_referred(&self, r: &Ref) -> Option<&[u8]>
         ensures { OfEachRun A.view A.Reader.reads self.now (λ setup run. option_copied result ≡ plain_referred run r.now) }
     {

@@ -29,7 +29,7 @@ use depot_schedule::Event;
 use depot_update::id_of;
 
 impl<A: Actor> Simulation<A> {
-    /// A faulty node signs an update, which is seen from now on. The lines are those from the arrow on.
+    /// Lets a faulty node sign an update, which counts as seen from now on. Returns the lines from the arrow on.
     pub fn update<S: Scheme, G: Signer>(
         &mut self,
         scenario: &Scenario<'_, S, G>,
@@ -50,7 +50,7 @@ impl<A: Actor> Simulation<A> {
         Ok(lines)
     }
 
-    /// What the update's label is given, and the update is seen, if its references name updates.
+    /// What the update's label is given, if its references name updates. The update is then noted as seen.
     fn signed<S: Scheme, G: Signer>(
         &mut self,
         scenario: &Scenario<'_, S, G>,
@@ -116,7 +116,7 @@ impl<A: Actor> Simulation<A> {
         }
     }
 
-    /// What the label is given where this update was made or none, and the update is seen.
+    /// What the label is given if this update was made, or if none was. The update is noted as seen.
     fn given<S: Scheme, G: Signer>(
         &mut self,
         scenario: &Scenario<'_, S, G>,

@@ -1,4 +1,4 @@
-//! The journals of two nodes in hexadecimal digits, as Python makes them from `docs/FORMATS.md`, apart from the program
+//! The journals of two nodes in hexadecimal digits, made in Python from `docs/FORMATS.md`, independently of the program
 //! (`acceptance/makers/make_cases.py`). They sign by the plain scheme, with keys of 4 leaves.
 //!
 //! Node 1 puts `a` under `k`. Node 2 puts `b` there, takes the update of node 1, takes its value, and deletes `k`.

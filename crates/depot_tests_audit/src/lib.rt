@@ -1,7 +1,7 @@
 //! Examples of audits: record texts and reads of two nodes, right ones and wrong ones.
 //!
-//! What is promised of the calls is proved in `depot_node`, `depot_traces` and `depot_audit`; nothing is promised here. The tests stand
-//! in a crate of their own so that those crates are proved once.
+//! The contracts of the calls are proved in `depot_node`, `depot_traces` and `depot_audit`; this crate promises
+//! nothing. The tests are in a crate of their own so that those crates are proved once.
 #![tactic(auto)]
 
 #[cfg(test)]

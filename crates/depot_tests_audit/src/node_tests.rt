@@ -82,7 +82,7 @@ fn is_right(found: &NodeAnswer) -> bool {
     }
 }
 
-/// What a node keeps behind a put is lawful, and its read is right.
+/// What a node keeps after a put is lawful, and its read is right.
 fn audit_goes(rt: &impl Abort, alloc: Global, node: &mut AuditedNode) -> Result<(), Fail> {
     let done = node.put(Key::new(alloc, b"k")?, Value::new(alloc, b"a")?)?;
     assert!(rt; done.id == hash(A)?);

@@ -1,4 +1,4 @@
-//! Reads that are what the records then showed, and reads that aren't.
+//! Reads that show what the records then had, and reads that don't.
 
 use crate::faults::{Told, bare};
 use crate::journals::{A, B, C, FOREIGN, HELD, ONE, PUT, TWO, hash, node, roster, texts};
@@ -22,10 +22,10 @@ enum Sight {
 /// A read: at how many records, of which key, and the writes that it lists, each by the id of its update.
 type Read = (u32, &'static [u8], &'static [(&'static str, Sight)]);
 
-/// Node 1 before and behind its put.
+/// Node 1 before and after its put.
 static OF_ONE: [Read; 2] = [(1, b"k", &[]), (2, b"k", &[(A, Sight::Held(b"a"))])];
 
-/// Node 2 behind each of its records.
+/// Node 2 after each of its records.
 static OF_TWO: [Read; 7] = [
     (1, b"k", &[]),
     (2, b"k", &[(B, Sight::Held(b"b"))]),
@@ -163,7 +163,7 @@ enum FoundReads {
     Other,
 }
 
-/// What is found of two nodes of the roster, the lower one first.
+/// What is found in the traces of two nodes of the roster, the lower one first.
 fn found_of(alloc: Global, one: &Trace, two: &Trace) -> Result<FoundReads, Fail> {
     if one.reads.as_slice().len() > MOST_READS as usize {
         return Err(Fail::from("too many reads"));
@@ -182,14 +182,14 @@ fn found_of(alloc: Global, one: &Trace, two: &Trace) -> Result<FoundReads, Fail>
     }
 }
 
-/// What is found where the second node has these reads, and all else is right.
+/// What is found if the second node has these reads, and all else is right.
 fn found_with(alloc: Global, told: &[Read]) -> Result<FoundReads, Fail> {
     let one = trace(alloc, 1, &ONE, &OF_ONE)?;
     let two = trace(alloc, 2, &TWO, told)?;
     found_of(alloc, &one, &two)
 }
 
-/// What is found of node 2 alone, where it has these reads.
+/// What is found in the trace of node 2 alone, with these reads.
 fn found_alone(alloc: Global, told: &[Read]) -> Result<FoundReads, Fail> {
     let two = trace(alloc, 2, &TWO, told)?;
     if two.reads.as_slice().len() > MOST_READS as usize {
@@ -222,7 +222,7 @@ fn the_first_wrong_read_is_found(rt: HostRuntime) -> Result<(), Fail> {
     Ok(())
 }
 
-/// What is found where both nodes have a wrong read, and the second has these records.
+/// What is found if both nodes have a wrong read, and the second has these records.
 fn found_behind(alloc: Global, journal: &[&str]) -> Result<FoundReads, Fail> {
     let one = trace(alloc, 1, &ONE, &[(2, b"k", &[])])?;
     let two = trace(alloc, 2, journal, &[(2, b"k", &[])])?;

@@ -28,7 +28,7 @@ static JOURNALS: [(&[&str], Option<(u32, Told)>); 21] = [
     (&[], None),
     (&[BIRTH], None),
     (&[BIRTH, PUT, FOREIGN], None),
-    // Nothing of a journal calls for a value of others: it may be lacking.
+    // A journal never needs the value of another writer's update: it may be missing.
     (&[BIRTH, PUT, FOREIGN, DELETION], None),
     (&[PUT, FOREIGN, HELD, DELETION], Some((0, Told::Birth))),
     (&[BIRTH, FOREIGN, HELD, DELETION], Some((3, Told::NotNext))),

@@ -24,7 +24,7 @@ fn made(alloc: Global, node: &CheckpointNode) -> Result<Result<Bytes, MakeError>
     Ok(make_checkpoint(alloc, node))
 }
 
-/// What a node answers where it is to sign these digits.
+/// What a node answers when it is to sign the text in these digits.
 fn signed(
     alloc: Global,
     node: &mut CheckpointNode,
@@ -38,7 +38,7 @@ fn put(alloc: Global, node: &mut CheckpointNode, value: &[u8]) -> Result<PutDone
     Ok(node.put(Key::new(alloc, b"k")?, Value::new(alloc, value)?)?)
 }
 
-/// A node that accepted nothing has none; the text of the one that it makes is that of its leaf.
+/// A node that accepted nothing makes no checkpoint; the text of one that is made is that of the node's leaf.
 fn making_goes(rt: &impl Abort, alloc: Global, one: &mut CheckpointNode) -> Result<(), Fail> {
     assert!(rt; made(alloc, one)?.err() == Some(MakeError::Empty));
     put(alloc, one, b"a")?;
@@ -48,7 +48,7 @@ fn making_goes(rt: &impl Abort, alloc: Global, one: &mut CheckpointNode) -> Resu
     Ok(())
 }
 
-/// No text that isn't opened is signed, and the one that it made is.
+/// No text that can't be opened is signed; the one that the node made is.
 fn signing_goes(rt: &impl Abort, alloc: Global, one: &mut CheckpointNode) -> Result<(), Fail> {
     let mine = hash(ROSTER_HASH)?;
     let given = Hash32::zeros();

@@ -1,12 +1,12 @@
-//! What stands at a place of a stream.
+//! What is at a place of a stream.
 
 use crate::messages::{SENT, text};
 use depot_base::FrameTag;
 use depot_gossip::{FrameAt, frame_at};
 use std::test::Fail;
 
-/// Places of what node 1 sends, and what stands there: the first statement, its value, End, the end of the stream, the length of the
-/// first statement.
+/// Places of what node 1 sends, and what is there: the first statement, its value, End, the end of the stream, the
+/// length of the first statement.
 static PLACES: [(usize, FrameAt); 5] = [
     (
         0,

@@ -1,7 +1,11 @@
-//! Examples of checkpoints: a node makes one and signs it, and what a node refuses to sign; and where the frames of a stream stand.
+//! Examples of checkpoints: a node makes one and signs it, and what a node refuses to sign; and where the frames of a
+//! stream are.
 //!
-//! What is promised of these calls is proved in their crates; nothing is promised here. The tests stand in a crate of their own so that
-//! those are proved once. What several nodes and their readers do is tried on the program (`acceptance/`).
+//! The contracts of these calls are proved in their crates; this crate promises nothing. The tests are in a crate of
+//! their own so that those are proved once. What several nodes and their readers do is tested on the program
+//! (`acceptance/`).
+//! their own so that those are proved once. What several nodes and their readers do is tried on the program
+//! (`acceptance/`).
 #![tactic(auto)]
 
 #[cfg(test)]

@@ -1,5 +1,5 @@
-//! What a node sends and signs, in hexadecimal digits, as Python makes it from `docs/FORMATS.md`, apart from the program
-//! (`acceptance/makers/make_cases.py`). They sign by the plain scheme, with keys of 16 leaves.
+//! What a node sends and signs, in hexadecimal digits, made in Python from `docs/FORMATS.md`, independently of the
+//! program (`acceptance/makers/make_cases.py`). They sign by the plain scheme, with keys of 16 leaves.
 //!
 //! Node 1 puts `a` and then `b` under `k`, and signs the checkpoint of the leaf that it has then.
 
@@ -41,7 +41,7 @@ pub const UNKNOWN: &str = "\
     01068a1b545ec0ffc695451b8dcdc1b213916912a5bb205bccbbd5a93c667e07346e00010002c001\
     02fecae6a2c930ced136273865da54142582b0fc86feb523355774dd58ce";
 
-/// What node 1 sends until then: its three updates, each with the value behind it, and End.
+/// What node 1 sends until then: its three updates, each with the value after it, and End.
 pub const SENT: &str = "\
     02000000a00000007801010001000000000000000000000001000000000000000000000000000000\
     0000000000000000000000000000000000016bca978112ca1bbdcafac231b39a23dc4da786eff814\

@@ -1,5 +1,5 @@
-//! Keys, values and digests have their lengths, statements, vouchers and changes are copied, what an update writes is found by its key,
-//! and a count of steps takes no bytes.
+//! Keys, values and digests have their lengths; copies of statements, vouchers and changes are equal; what an update
+//! writes is found by its key; and a count of steps takes no bytes.
 
 ghost use Rattle.std.specs.Prelude.{◌≡◌, ◌<◌};
 

@@ -1,5 +1,5 @@
-//! Texts of hellos from outside: one worked, and a table of its faults. What a feed makes of bytes and what a node's hello is need a
-//! node: they are tried where there is one.
+//! Texts of hellos from outside: a worked one, and a table of its faults. What a feed makes of bytes and what a node's
+//! hello is need a node: those tests are where there is one.
 
 use crate::hex::bytes;
 use crate::text_tests::{changed, cut_field, fault, is_text};
@@ -55,12 +55,12 @@ fn is_kept(alloc: Global, text: &[u8]) -> bool {
     }
 }
 
-/// The offset at which a text goes wrong as a hello.
+/// The offset of a text's first fault as a hello.
 fn told(alloc: Global, text: &[u8]) -> Option<u32> {
     fault(decode_hello(alloc, text))
 }
 
-/// Whether a hello that is cut to so many bytes goes wrong at the cut field.
+/// Whether a hello cut to so many bytes has its fault at the cut field.
 fn tells_cut(alloc: Global, text: &[u8], length: u32) -> bool {
     match text.get(..length as usize) {
         Some(cut) => told(alloc, cut) == Some(cut_field(&STARTS, length)),
@@ -81,7 +81,7 @@ fn a_hello_is_read_and_written_whole(rt: HostRuntime) -> Result<(), Fail> {
     Ok(())
 }
 
-/// The offset at which the hello goes wrong, with this byte at this place.
+/// The offset of the hello's first fault with this byte at this place.
 fn fault_at(alloc: Global, place: usize, byte: u8) -> Result<Option<u32>, Memory> {
     let text = changed(alloc, HELLO, place, byte)?;
     Ok(told(alloc, &text))

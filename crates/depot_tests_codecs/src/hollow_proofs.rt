@@ -1,4 +1,5 @@
-//! Vouchers of node 9 for texts before a judge, by the plain scheme. The texts are made by Python's hashlib, apart from the program.
+//! Vouchers of node 9 for texts before a judge, by the plain scheme. The texts are made by Python's hashlib,
+//! independently of the program.
 
 use crate::hellos::HELLO;
 use crate::hex::bytes;
@@ -42,7 +43,7 @@ const VERDICT: &str = "Ok(Verdict { node: NodeId(9), kind: NotUpdate })";
 
 const NOT_HOLLOW: &str = "Err(NotContradictory(NotUpdate))";
 
-/// Signed statements, texts and how many zero bytes stand behind each, and what the judge says of a hollow proof of the
+/// Signed statements, texts and how many zero bytes follow each, and what the judge says of a hollow proof of the
 /// statement and those bytes.
 static CASES: [(&str, &str, usize, &str); 23] = [
     (NAMES_ALL, "", 0, VERDICT),
@@ -70,7 +71,7 @@ static CASES: [(&str, &str, usize, &str); 23] = [
     (UNKNOWN, "", 1, "Err(UnknownWriter(NodeId(5)))"),
 ];
 
-/// A text, and so many zero bytes behind it.
+/// A text, and so many zero bytes after it.
 fn text_of(alloc: Global, hex: &str, zeros: usize) -> Result<Vec<u8>, Memory> {
     let mut text = bytes(alloc, hex)?;
     for _ in 0..zeros {
@@ -114,7 +115,7 @@ fn a_voucher_for_no_update_convicts(rt: HostRuntime) -> Result<(), Fail> {
     Ok(())
 }
 
-/// Whether a signed statement is hollow by a text, whoever signed it. None where it has no statement.
+/// Whether a signed statement is hollow by a text, whoever signed it. `None` if it has no statement.
 fn is_told(alloc: Global, statement: &str, hex: &str) -> Result<Option<bool>, Memory> {
     let statement = bytes(alloc, statement)?;
     let text = bytes(alloc, hex)?;

@@ -1,4 +1,5 @@
-//! A fork of node 9 before a judge, by the plain scheme. The texts are made by Python's hashlib, apart from the program.
+//! A fork of node 9 before a judge, by the plain scheme. The texts are made by Python's hashlib, independently of the
+//! program.
 ghost use Rattle.std.specs.Prelude.{IfOk};
 ghost use Rattle.depot_model.specs.Texts.{IsProof, IsSigned};
 

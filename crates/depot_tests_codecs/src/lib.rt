@@ -1,9 +1,8 @@
 //! Examples of texts: updates, vouchers, signed statements, proofs, records, hellos and traces, and proofs of both shapes before a judge.
 //!
-//! Texts and offsets that were written by hand or by other programs are tried on the codecs and on the judge, and each of their
-//! public functions is called once with ample memory. What is promised of them is proved in their crates; nothing is promised
-//! here. The tests stand in a crate of their own so that those crates are proved once: a crate with tests is proved a second
-//! time for them.
+//! Texts and offsets made by hand or by other programs are tried on the codecs and on the judge, and each of their
+//! public functions is called once with ample memory. Their contracts are proved in their crates; this crate promises
+//! nothing. The tests are in a crate of their own because a crate with tests is proved a second time for them.
 #![tactic(auto)]
 
 #[cfg(test)]

@@ -1,4 +1,4 @@
-//! Numbers are written and read from the high end, a field is read or told by its start, and entries are read back.
+//! Numbers are written and read from the high end, a field is read or reported by its start, and entries are read back.
 
 use depot_base::entry::{Entry, entries_in, put_entries};
 use depot_base::fault::Fault;
@@ -38,7 +38,7 @@ fn numbers_have_their_high_end_first(rt: HostRuntime) -> Result<(), Fail> {
     Ok(())
 }
 
-/// Whether a part of four bytes goes on counting behind three, and has no digest.
+/// Whether a part of four bytes goes on counting after three, and has no digest.
 fn goes_on(fields: &mut Fields<'_>) -> bool {
     let Some(mut part) = fields.take_part(4) else {
         return false;
@@ -49,7 +49,7 @@ fn goes_on(fields: &mut Fields<'_>) -> bool {
         && part.take_hash().is_none()
 }
 
-/// Whether bytes and a part are taken, and a fault behind them is told at their end.
+/// Whether bytes and a part are taken, and a fault after them is reported at their end.
 fn parts_are_taken() -> bool {
     let mut fields = Fields::new(COUNTED.as_slice());
     matches!(fields.take_bytes(3), Some([1, 2, 3]))
@@ -57,7 +57,7 @@ fn parts_are_taken() -> bool {
         && at_end(&fields, 1) == Err(Fault::At(7))
 }
 
-/// Whether numbers are read, or told by their start where they are out of their range or absent.
+/// Whether numbers are read, or reported by their start where they are out of their range or absent.
 fn numbers_are_told() -> bool {
     let text = [0u8; 15];
     let mut fields = Fields::new(text.as_slice());
@@ -68,7 +68,7 @@ fn numbers_are_told() -> bool {
         && node_in(&mut fields) == Err(Fault::At(15))
 }
 
-/// Whether bytes are read, and a digest that is cut is told by its start.
+/// Whether bytes are read, and a digest that is cut is reported by its start.
 fn bytes_are_told(alloc: Global) -> bool {
     let mut fields = Fields::new(COUNTED.as_slice());
     bytes_in(alloc, &mut fields, 5).is_ok() && hash_in(&mut fields) == Err(Fault::At(5))

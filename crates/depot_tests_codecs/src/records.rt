@@ -11,8 +11,9 @@ use depot_update::*;
 use std::alloc::Global;
 use std::test::Fail;
 
-/// Records: the tag of each, what stands behind it, and the values behind that. A birth, an own update, an own voucher, a foreign
-/// statement, a proof and a value; then own updates of several keys and of a deletion alone, and a hollow proof.
+/// Records: the tag of each, what follows it, and the values after that. A birth, an own update, an own voucher, a
+/// foreign statement, a proof and a value; then own updates of several keys and of a deletion alone, and a hollow
+/// proof.
 static RECORDS: [(&str, &str, &str); 10] = [
     (
         "01 0007",
@@ -123,7 +124,7 @@ fn a_record_is_read_and_written(rt: HostRuntime) -> Result<(), Fail> {
     Ok(())
 }
 
-/// Whether a foreign statement's record is its text behind the tag.
+/// Whether a foreign statement's record is its text after the tag.
 fn is_foreign(alloc: Global) -> Result<bool, Memory> {
     let mut made = foreign_tag(alloc)?;
     made.push_all(&bytes(alloc, SIGNED)?)?;
@@ -144,12 +145,12 @@ fn a_record_is_written_from_a_text_and_has_its_id(rt: HostRuntime) -> Result<(),
     Ok(())
 }
 
-/// The offset at which a text goes wrong as a record.
+/// The offset of a text's first fault as a record.
 fn told(alloc: Global, text: &[u8]) -> Option<u32> {
     fault(decode_record(alloc, text))
 }
 
-/// The offset at which a record goes wrong, with this byte at this place.
+/// The offset of a record's first fault with this byte at this place.
 fn fault_at(alloc: Global, kind: usize, place: usize, byte: u8) -> Result<Option<u32>, Memory> {
     let hex = digits(alloc, kind)?;
     let text = changed(alloc, hex.as_str(), place, byte)?;
@@ -188,7 +189,7 @@ fn own_put(alloc: Global, version: u8, length: u32, values: u8) -> Result<Bytes,
     Ok(text)
 }
 
-/// The offset at which the front of a text goes wrong as a record that lacks its last byte.
+/// The offset of the first fault of a record that lacks its last byte.
 fn told_cut(alloc: Global, text: &[u8]) -> Option<u32> {
     match text.split_last() {
         Some((_, front)) => told(alloc, front),

@@ -15,7 +15,7 @@ pub const UPDATE: &str = "0101 0001 00000000 0000000000000001 \
 /// SHA-256 of it, by another program.
 const UPDATE_ID: &str = "b1b71fe559a0af9d8cd799bec43413803425cbf3ce164fded47cc3300867a6ba";
 
-/// The same with two entries of writer 2, from offset 88 and from 130.
+/// The same with two entries of writer 2, at offset 88 and at 130.
 pub const JOINING: &str = "0101 0001 00000000 0000000000000001 \
     0000000000000000000000000000000000000000000000000000000000000000 016b \
     ba7816bf8f01cfea414140de5dae2223b00361a396177a9cb410ff61f20015ad 00000003 0002 \
@@ -26,7 +26,7 @@ pub const JOINING: &str = "0101 0001 00000000 0000000000000001 \
 /// SHA-256 of it, by another program.
 const JOINING_ID: &str = "f7c26c5ccec6a769f1b2cb8c2f3730baf44c3ed1f0d42a32235ab57325cf6563";
 
-/// Two writes of node 1: `k` gets the value `abc`, and `l` is deleted. They stand from offset 49 and from 88.
+/// Two writes of node 1: `k` gets the value `abc`, and `l` is deleted. They start at offset 49 and at 88.
 pub const SEVERAL: &str = "0201 0001 00000000 0000000000000001 \
     0000000000000000000000000000000000000000000000000000000000000000 02 \
     016b 01 ba7816bf8f01cfea414140de5dae2223b00361a396177a9cb410ff61f20015ad 00000003 \
@@ -50,22 +50,22 @@ pub const DELETION: &str = "0201 0001 00000000 0000000000000001 \
 /// SHA-256 of it, by another program.
 const DELETION_ID: &str = "d609511b6422ba44285efd0222fd11e8f03de76b7d231653680886b5a16a0f0a";
 
-/// A voucher of node 7 for two updates, whose ids stand from offset 10 and from 42.
+/// A voucher of node 7 for two updates, whose ids start at offset 10 and at 42.
 pub const VOUCHER: &str = "0102 0007 00000005 0002 \
     3333333333333333333333333333333333333333333333333333333333333333 \
     3333333333333333333333333333333333333333333333333333333333333334";
 
-/// A signed voucher: its body stands from offset 4, its signature from 50.
+/// A signed voucher: its body starts at offset 4, its signature at 50.
 pub const SIGNED: &str = "0000002a 0102 0007 00000005 0001 \
     3333333333333333333333333333333333333333333333333333333333333333 00000002 aabb";
 
-/// A proof of two signed vouchers, which stand from offset 2 and from 54.
+/// A proof of two signed vouchers, which start at offset 2 and at 54.
 pub const PROOF: &str = "0102 0000002a 0102 0007 00000005 0001 \
     3333333333333333333333333333333333333333333333333333333333333333 00000002 aabb \
     0000002a 0102 0007 00000005 0001 \
     4444444444444444444444444444444444444444444444444444444444444444 00000002 ccdd";
 
-/// A hollow proof of that signed voucher and the text `abc`, whose length stands from offset 54.
+/// A hollow proof of that signed voucher and the text `abc`, whose length starts at offset 54.
 pub const HOLLOW: &str = "0104 0000002a 0102 0007 00000005 0001 \
     3333333333333333333333333333333333333333333333333333333333333333 00000002 aabb \
     00000003 616263";
@@ -114,7 +114,7 @@ static STARTS_OF_TWO: [u32; 17] = [
     0, 1, 2, 4, 8, 16, 48, 49, 50, 51, 52, 84, 88, 89, 90, 91, 93,
 ];
 
-/// The start of the field in which a text goes wrong that is cut to so many bytes.
+/// The start of the field in which a text cut to so many bytes has its fault.
 pub fn cut_field(starts: &[u32], length: u32) -> u32 {
     let mut last = 0;
     for start in starts {
@@ -125,7 +125,7 @@ pub fn cut_field(starts: &[u32], length: u32) -> u32 {
     last
 }
 
-/// Whether a text whose fields start there goes wrong at the cut field, where it is cut to so many bytes.
+/// Whether a text whose fields start at these offsets, cut to so many bytes, has its fault at the cut field.
 fn tells_cut(alloc: Global, kind: TextKind, text: &[u8], starts: &[u32], length: u32) -> bool {
     match text.get(..length as usize) {
         Some(cut) => fault_of(alloc, kind, cut) == Some(cut_field(starts, length)),
@@ -294,7 +294,7 @@ static FAULTS: [(TextKind, &str, usize, u8, u32); 127] = [
     (TextKind::Proof, HOLLOW, 57, 4, 58),
 ];
 
-/// The offset at which a text goes wrong, with this byte at this place.
+/// The offset of the first fault of a text with this byte at this place.
 fn fault_at(
     alloc: Global,
     kind: TextKind,
@@ -376,7 +376,7 @@ fn a_text_is_read_and_written(rt: HostRuntime) -> Result<(), Fail> {
     Ok(())
 }
 
-/// Adds what stands before the writes of the longest body of a version.
+/// Adds what precedes the writes of the longest body of a version.
 fn put_front(text: &mut Bytes, version: u8) -> Result<(), Memory> {
     text.push_all(&[version, 1, 0, 1, 0, 0, 0, 0, 0, 0, 0, 0, 0, 0, 0, 1])?;
     text.push_all(&[0; 32])
@@ -394,7 +394,7 @@ fn put_single(text: &mut Bytes) -> Result<(), Memory> {
     put_named(text)
 }
 
-/// Adds the 16 writes of the longest body: their keys have 255 bytes, of which the last rises.
+/// Adds the 16 writes of the longest body: their keys have 255 bytes, and the last byte rises.
 fn put_several(text: &mut Bytes) -> Result<(), Memory> {
     text.push_u8(16)?;
     for n in 0u8..16 {

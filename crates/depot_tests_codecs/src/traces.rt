@@ -70,7 +70,7 @@ fn is_kept(alloc: Global, text: &[u8]) -> bool {
     }
 }
 
-/// The offset at which a text goes wrong as a trace.
+/// The offset of a text's first fault as a trace.
 fn told(alloc: Global, text: &[u8]) -> Option<u64> {
     match decode_trace(alloc, text) {
         Ok(_) => None,
@@ -79,7 +79,7 @@ fn told(alloc: Global, text: &[u8]) -> Option<u64> {
     }
 }
 
-/// Whether the trace that is cut to so many bytes goes wrong at the cut field.
+/// Whether the trace cut to so many bytes has its fault at the cut field.
 fn tells_cut(alloc: Global, text: &[u8], length: u32) -> bool {
     match text.get(..length as usize) {
         Some(cut) => told(alloc, cut) == Some(cut_field(&STARTS, length) as u64),
@@ -100,7 +100,7 @@ fn a_trace_is_read_and_written_whole(rt: HostRuntime) -> Result<(), Fail> {
     Ok(())
 }
 
-/// The offset at which the trace goes wrong, with this byte at this place.
+/// The offset of the trace's first fault with this byte at this place.
 fn fault_at(alloc: Global, place: usize, byte: u8) -> Result<Option<u64>, Memory> {
     let text = changed(alloc, TRACE, place, byte)?;
     Ok(told(alloc, &text))

@@ -88,7 +88,7 @@ static TEXTS: [(&str, u32, LineFault); 22] = [
     ),
 ];
 
-/// Lines behind the header, and the same of the text.
+/// Lines after the header, and the same of the text.
 static LINES: [(&str, u32, LineFault); 112] = [
     ("put 1 6b 61", 6, LineFault::End),
     ("\n", 6, LineFault::Word),
@@ -265,7 +265,8 @@ static LINES: [(&str, u32, LineFault); 112] = [
     ),
 ];
 
-/// Lines in which a piece stands so many times: a front, the piece, its times, a back, and whether the line is faulty, which is Hex.
+/// Lines in which a piece occurs so many times: a prefix, the piece, its times, a suffix, and whether the line is
+/// faulty, which is Hex.
 static LONG: [(&str, &str, u32, &str, bool); 8] = [
     ("puts 1 ", "0a", 255, "=61\n", false),
     ("puts 1 ", "0a", 256, "=61\n", true),
@@ -285,7 +286,7 @@ fn fault(alloc: Global, text: &str) -> Option<(u32, LineFault)> {
     }
 }
 
-/// The same of lines behind the header.
+/// The same of lines after the header.
 fn fault_behind(alloc: Global, lines: &str) -> Result<Option<(u32, LineFault)>, Fail> {
     let text = format!(in alloc; "{HEADER}{lines}")?;
     Ok(fault(alloc, text.as_str()))
@@ -325,7 +326,7 @@ fn a_line_after_100_000_is_told(rt: HostRuntime) -> Result<(), Fail> {
     Ok(())
 }
 
-/// The fault of a line in which a piece stands so many times.
+/// The fault of a line in which a piece occurs so many times.
 fn long_fault(
     alloc: Global,
     front: &str,

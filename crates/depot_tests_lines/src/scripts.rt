@@ -1,4 +1,5 @@
-//! Scripts from outside, as tables: good ones, and each fault of a line. A text is its front, a piece so many times, and its back.
+//! Scripts from outside, as tables: good ones, and each fault of a line. A text is a prefix, a piece so many times, and
+//! a suffix.
 
 use depot_base::{Bytes, Memory};
 use depot_lines::{LineFault, TextError};
@@ -137,7 +138,7 @@ static FAULTY: [(&[u8], &[u8], usize, &[u8], u32, LineFault); 62] = [
     ),
 ];
 
-/// A front, a piece so many times, and a back.
+/// A prefix, a piece so many times, and a suffix.
 fn text_of(
     alloc: Global,
     front: &[u8],

@@ -17,8 +17,8 @@ const LONG: u32 = 50_000;
 /// How many questions are asked.
 const QUESTIONS: u32 = 4_000_000;
 
-/// Adds a chain of a writer behind the others, with clocks from the given one on. Its first update has these entries, and no
-/// other has one. It gives the id of the first.
+/// Adds a chain of a writer after the others, with clocks from the given one on. Its first update has these entries,
+/// and no other has one. It gives the id of the first.
 fn grow(
     alloc: Global,
     graph: &mut Graph,

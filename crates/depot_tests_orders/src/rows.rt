@@ -10,11 +10,11 @@ use std::process::Abort;
 use std::sync::ledger::{Blank, Ledger};
 use std::test::Fail;
 
-/// The items of the chain that is joined; those of the other one come behind them.
+/// The items of the chain that is joined; those of the other one come after them.
 const JOINED: u32 = 24;
 
-/// Adds a chain behind the others: `first` items are here. Where it joins the first chain, the third item of every three has
-/// the next item of that chain as a parent too.
+/// Adds a chain after the others: `first` items are here. Where it joins the first chain, the third item of every three
+/// has the next item of that chain as a parent too.
 fn grow(clocks: &mut Clocks, first: u32, chain: u32, count: u32, joins: bool) -> Result<(), Fail>
     requires first { length clocks.old ≡ first }
     requires few { first + count < 1000 }

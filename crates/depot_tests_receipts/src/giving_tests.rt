@@ -29,7 +29,7 @@ fn give_one(alloc: Global, node: &mut Plain, id: &Hash32) -> Result<PutDone, Giv
     give(alloc, node, &ids)
 }
 
-/// What is answered where two ids are asked for that no update has.
+/// What is answered for two ids that no update has.
 fn two_unknown(alloc: Global, node: &mut Plain) -> Result<PutDone, GiveError> {
     let mut ids = Ids::new(alloc);
     ids.push(Hash32::zeros())?;
@@ -84,7 +84,8 @@ fn known(alloc: Global, node: &Plain, id: &Hash32) -> Result<Knowledge, Fail> {
     })
 }
 
-/// A receipt for a put, of which the book then knows; and none for two ids that no update has, of which the first is told.
+/// Gives a receipt for a put, which the book then knows; and none for two ids that no update has, the first of which is
+/// named.
 fn receipt_goes(rt: &impl Abort, alloc: Global, one: &mut Plain) -> Result<(), Fail> {
     let id = put(alloc, one, b"k", Some(b"a"))?.id;
     assert!(rt; two_unknown(alloc, one) == Err(GiveError::Unknown(Hash32::zeros())));

@@ -4,7 +4,7 @@ use depot_base::{Bytes, Hash32, Key};
 use depot_receipts::{receipt_key, receipt_of};
 use std::test::Fail;
 
-/// What stands in front, how many bytes of 7 stand behind it, and whether that is the key of a receipt.
+/// What comes first, how many bytes of 7 follow it, and whether that is the key of a receipt.
 static KEYS: [(&[u8], usize, bool); 6] = [
     (b"receipt:", 32, true),
     (b"receipt:", 31, false),

@@ -1,4 +1,4 @@
-//! Runs of the program over fakes in memory, whose calls fail. What the program prints on files stands in `acceptance/`.
+//! Runs of the program over fakes in memory, whose calls fail. What the program prints on files is in `acceptance/`.
 
 use depot_base::{Bytes, Hash32, Items, Memory};
 use depot_cli::{Status, Word, depot};
@@ -34,11 +34,11 @@ pub const ROSTER: &str = "010400020008\
 025d92fbbc23d40d2955a3392b0890fd14637d7942735afaef041d679a74657029\
 000902c70aaf512f592cc5a9e6523dfb6a94c86629a8ac80f9dffe32e77976aa098491";
 
-/// What node 9 hands in with no record but its birth: a read of `k` which shows nothing.
+/// What node 9 hands in with only its birth as a record: a read of `k` which shows nothing.
 const TRACE: &str = "01050009000000010000002301000929608914f5fcba083afb63dbb326ff80\
 31a31cbab496c98bfbf4555b7986aaff0000000100000001016b0000";
 
-/// The same with a read which shows a write that it hasn't.
+/// The same with a read that shows a write which isn't there.
 const WRONG: &str = "01050009000000010000002301000929608914f5fcba083afb63dbb326ff80\
 31a31cbab496c98bfbf4555b7986aaff0000000100000001016b0001\
 e3b0c44298fc1c149afbf4c8996fb92427ae41e4649b934ca495991b7852b85500";
@@ -63,7 +63,8 @@ put 1 6b 61
 get 1 6b
 ";
 
-/// A schedule of writes of several keys, by a node and by a writer that is none, which then vouches for bytes that are no update.
+/// A schedule of writes of several keys, by a node and by a writer that is no node, which then vouches for bytes that
+/// are no update.
 const SEVERAL: &str = "depot schedule 1
 scheme plain 2
 node 1
@@ -201,10 +202,10 @@ pub fn words(alloc: Global, line: &str) -> Result<Vec<Word>, Memory> {
     Ok(words)
 }
 
-/// How a run ends, and its text where that is asked for.
+/// How a run ends, and its text if that is checked.
 type End = (Status, Option<&'static str>);
 
-/// Whether a run ends so. Of the sink's calls those of these numbers fail. The source's first call would, if it were read.
+/// Whether a run ends so. The sink's calls of these numbers fail. The source's first call would, if it were read.
 fn ends_so(
     alloc: Global,
     words: &[Word],
@@ -367,8 +368,8 @@ fn runs_end_as_their_commands_say(rt: HostRuntime) -> Result<(), Fail> {
     Ok(())
 }
 
-/// Whether a run ends as it should over a disk of whose calls this one fails, and another one then goes on over that disk. Four
-/// calls start a journal, four append the birth, and four the put.
+/// Whether a run ends as it should over a disk whose call of this number fails, and another one then goes on over that
+/// disk. Four calls start a journal, four append the birth, and four the put.
 fn goes_on(alloc: Global, words: &[Word], shelf: &mut MemShelf, call: u32) -> Result<bool, Memory> {
     let mut disk = MemDisk::new(Bytes::new(alloc), fails(alloc, call)?);
     let none = Items::new(alloc);

@@ -1,4 +1,4 @@
-//! Runs of `serve` over fakes in memory, of which a call fails. What it prints over pipes stands in `acceptance/`.
+//! Runs of `serve` over fakes in memory, one of whose calls fails. What it prints over pipes is in `acceptance/`.
 
 use crate::command_runs::{ROSTER, fails, put_hex, words};
 use depot_base::{Bytes, Items};
@@ -23,7 +23,7 @@ const ABSENT: &str =
 /// A put of `a` under `k`, and a read of `k`.
 const REQUESTS: &str = "0000000a0101016b0100000001610000000302016b";
 
-/// The node is started, by `acceptance/messages.py`, as what stands below.
+/// The message that the node is started, from `acceptance/messages.py`, as are those below.
 const STARTED: &str =
     "000000280001000929608914f5fcba083afb63dbb326ff8031a31cbab496c98bfbf4555b7986aaff00000000";
 
@@ -171,7 +171,7 @@ fn a_server_ends_as_its_outside_lets_it(rt: HostRuntime) -> Result<(), Fail> {
     Ok(())
 }
 
-/// In small pieces there are more reads, so that none of those is looked at that fail.
+/// With small pieces there are more reads, so calls that fail aren't tried.
 #[test]
 fn a_server_takes_its_input_in_pieces(rt: HostRuntime) -> Result<(), Fail> {
     for case in CASES.iter() {

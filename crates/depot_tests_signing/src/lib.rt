@@ -1,8 +1,8 @@
 //! Examples of rosters and signatures, by the plain scheme and by Winternitz's.
 //!
-//! Roots, signatures and offsets that other programs computed are tried on the two crates, and each of their public functions is
-//! called once with ample memory. What is promised of them is proved there; nothing is promised here. The tests stand in a crate
-//! of their own so that those crates are proved once: a crate with tests is proved a second time for them.
+//! Roots, signatures and offsets that other programs computed are tried on the two crates, and each of their public
+//! functions is called once with ample memory. Their contracts are proved there; this crate promises nothing. The tests
+//! are in a crate of their own because a crate with tests is proved a second time for them.
 #![tactic(auto)]
 
 #[cfg(test)]

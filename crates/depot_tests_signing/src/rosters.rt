@@ -59,7 +59,7 @@ static ILL_FORMED: [(&[u8], u32); 18] = [
         b"\x01\x04\0\x02\0\x07\x02aaaaaaaaaaaaaaaaaaaaaaaaaaaaaaaa\0\x06\x02bbbbbbbbbbbbbbbbbbbbbbbbbbbbbbbb",
         39,
     ),
-    // Of the second entry stand the node, and a part of the root.
+    // The second entry has the node, and a part of the root.
     (
         b"\x01\x04\0\x02\0\x07\x02aaaaaaaaaaaaaaaaaaaaaaaaaaaaaaaa\0\x07",
         41,
@@ -68,7 +68,7 @@ static ILL_FORMED: [(&[u8], u32); 18] = [
         b"\x01\x04\0\x02\0\x07\x02aaaaaaaaaaaaaaaaaaaaaaaaaaaaaaaa\0\x07\x02\x09",
         42,
     ),
-    // The one entry is the last, whatever stands behind it.
+    // The one entry is the last, whatever follows it.
     (
         b"\x01\x04\0\x01\0\x07\x02aaaaaaaaaaaaaaaaaaaaaaaaaaaaaaaa\0",
         39,
@@ -90,7 +90,7 @@ static TOO_MANY: [(&[u8], u32); 3] = [
     (b"\x01\x04\xff\xff", 65535),
 ];
 
-/// Texts in which node 7 stands twice.
+/// Texts in which node 7 occurs twice.
 static TWICE: [&[u8]; 2] = [
     b"\x01\x04\0\x02\0\x07\x02aaaaaaaaaaaaaaaaaaaaaaaaaaaaaaaa\0\x07\x0cbbbbbbbbbbbbbbbbbbbbbbbbbbbbbbbb",
     b"\x01\x04\0\x03\0\x07\x02aaaaaaaaaaaaaaaaaaaaaaaaaaaaaaaa\0\x07\x0cbbbbbbbbbbbbbbbbbbbbbbbbbbbbbbbb",

@@ -1,4 +1,4 @@
-//! What no clause says: the digits of the extremes, and that no signature verifies once a part is changed.
+//! What no clause covers: the digits of the extremes, and that no signature verifies once a part is changed.
 
 use crate::signing_tests::signs_and_verifies;
 use crate::worked_keys::ZEROS;

@@ -1,4 +1,5 @@
-//! Keys and signatures of each height, as `acceptance/models/winternitz_check.py` computes them, apart from the program.
+//! Keys and signatures of each height, as `acceptance/models/winternitz_check.py` computes them independently of the
+//! program.
 
 use crate::hex_digits::is_hex;
 use depot_base::{Hash32, Memory};

@@ -25,7 +25,7 @@ fn grow(chains: &mut Chains) -> Result<bool, Memory>
     )
 }
 
-/// Whether the six items stand in three chains, whose last items are known.
+/// Whether the six items are in three chains, whose last items are known.
 fn has_three(chains: &Chains) -> bool
     requires { length chains.now.prevs ≡ 6 }
 {

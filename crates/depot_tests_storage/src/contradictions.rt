@@ -29,8 +29,8 @@ fn reserve_and_find(
     Ok(())
 }
 
-// A signed statement that may be kept has the text of its statement as its body, as only a decoder gives it, and the decoders
-// stand in crates above. So `add`, and the look-ups among what was added, are tested there.
+// A signed statement that may be kept has the text of its statement as its body, as only a decoder gives it, and the
+// decoders are in crates above. So `add`, and the look-ups among what was added, are tested there.
 #[test]
 fn nothing_is_found_where_nothing_is_kept(rt: HostRuntime) -> Result<(), Fail> {
     let signed = empty_voucher(rt.alloc())?;

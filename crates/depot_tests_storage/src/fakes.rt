@@ -1,4 +1,4 @@
-//! Which calls of a fake fail, what a disk in memory is where it stops, and what fakes keep.
+//! Which calls of a fake fail, what a stopped disk in memory has, and what fakes keep.
 
 ghost use Rattle.std.specs.Prelude.{◌≡◌, length};
 
@@ -31,7 +31,7 @@ fn failed_calls(shelf: &mut MemShelf) -> [bool; 3] {
     [first, second, shelf.load("a").is_err()]
 }
 
-/// Whether the calls of a shelf go as they should of which this one fails, or none for 0.
+/// Whether the calls of a shelf whose call of this number fails, or none for 0, go as they should.
 fn shelf_fails_at(alloc: Global, failing: u32) -> Result<bool, Memory> {
     let mut shelf = MemShelf::new(alloc, only(alloc, failing)?);
     shelf.put("a", b"first")?;
@@ -65,7 +65,7 @@ fn make_calls(disk: &mut MemDisk) -> Result<u64, Failed>
     disk.length()
 }
 
-/// Whether the calls of a disk go as they should of which this one fails, or none for 0.
+/// Whether the calls of a disk whose call of this number fails, or none for 0, go as they should.
 fn disk_fails_at(alloc: Global, failing: u32) -> Result<bool, Memory> {
     let fails = only(alloc, failing)?;
     let mut disk = MemDisk::new(Bytes::from_slice(alloc, b"file")?, fails);
@@ -122,7 +122,7 @@ static STOPS: [(u32, u8, &[u8]); 13] = [
     (7, 0, b"bitnds"),
 ];
 
-/// Whether a disk that stops in this call, which it is told in place of another one, fails there and has this file then.
+/// Whether a disk set to stop in this call, which replaces another one, fails there and then has this file.
 fn stops_at(alloc: Global, call: u32, image: u8, file: &[u8]) -> Result<bool, Memory> {
     if call == 0 || image > 2 {
         return Ok(false);

@@ -7,7 +7,8 @@ use std::alloc::Global;
 use std::process::Abort;
 use std::test::Fail;
 
-/// Three records, and the file that has them: each behind an open gate and its length, and a closed gate behind all.
+/// Three records, and the file that has them: each preceded by an open gate and its length, and a closed gate after
+/// all.
 const TEXTS: [&[u8]; 3] = [b"a", b"", b"bcd"];
 
 const FILE: &[u8] = b"\x01\0\0\0\x01a\x01\0\0\0\0\x01\0\0\0\x03bcd\0";
@@ -32,8 +33,8 @@ static FOUND: [(&[u8], u32, Result<u32, JournalError>); 12] = [
     (b"", 4, Err(JournalError::Disk)),
 ];
 
-/// Four calls belong to a start, and four to each record. By the number of the one that fails: how many of two records the
-/// journal has then, and how many are found on the disk.
+/// Four calls belong to a start, and four to each record. By the number of the one that fails: how many of two records
+/// the journal has then, and how many are found on the disk.
 static FAILING: [(u32, u32, u32); 8] = [
     (5, 0, 0),
     (6, 0, 0),
@@ -45,7 +46,7 @@ static FAILING: [(u32, u32, u32); 8] = [
     (12, 1, 2),
 ];
 
-/// A disk with this file, of whose calls this one fails, or none for 0.
+/// A disk with this file, whose call of this number fails, or none for 0.
 fn disk_of(alloc: Global, file: &[u8], failing: u32) -> Result<MemDisk, Memory> {
     let mut fails = Items::new(alloc);
     if failing > 0 {
@@ -157,7 +158,7 @@ fn has_three(journal: &Journal<MemDisk>) -> bool {
         && journal.count() == 3
 }
 
-/// Whether an append of no records, but for a rest, leaves a journal as it is.
+/// Whether an append of no records, except a rest, leaves a journal unchanged.
 fn takes_nothing(journal: &mut Journal<MemDisk>) -> bool {
     journal.append_all(&[], b"a") == Ok(()) && has_three(journal) && !journal.is_stopped()
 }
@@ -203,7 +204,7 @@ fn is_stopped(journal: &mut Journal<MemDisk>, texts: &[Bytes]) -> bool {
     journal.append_all(texts, b"") == Err(AppendError::Stopped) && journal.is_stopped()
 }
 
-/// Whether an append stops the journal, and the next one is answered so.
+/// Whether an append stops the journal, and the next one is answered by that.
 fn stays_stopped(journal: &mut Journal<MemDisk>, texts: &[Bytes]) -> bool {
     stops(journal, texts) && is_stopped(journal, texts)
 }

@@ -41,7 +41,7 @@ fn a_real_shelf_keeps_files(rt: HostRuntime) -> Result<(), Fail> {
     Ok(())
 }
 
-/// Names under which the journal of the current folder stands, the last two by links.
+/// Names of the journal of the current folder, the last two by links.
 const NAMES: [&str; 4] = [
     "depot.journal",
     "./depot.journal",
@@ -76,7 +76,8 @@ fn a_real_disk_is_the_journal(rt: HostRuntime) -> Result<(), Fail> {
     assert_eq!(rt; disk.length(), Ok(7));
     assert_eq!(rt; disk.read(3, &mut piece), Ok(()));
     assert_eq!(rt; piece.as_slice(), b"ders".as_slice());
-    // A read past the end is a fault of a disk that doesn't tell its bytes, and so is each call while another has the file.
+    // A read past the end is a fault of a disk whose bytes aren't visible, and so is each call while another has the
+    // file.
     assert!(rt; disk.read(4, &mut piece).is_err());
     assert!(rt; RealDisk::new(rt.clone()?).length().is_err());
     fs::remove_file(&rt, "depot.journal")?;

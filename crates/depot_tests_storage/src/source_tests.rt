@@ -38,7 +38,7 @@ fn source(alloc: Global, bytes: &[u8], sizes: &[u32], fails: &[u32]) -> Result<M
     ))
 }
 
-/// The bodies of up to three messages, a bar behind each.
+/// The bodies of up to three messages, each followed by a bar.
 fn heard(alloc: Global, input: &mut MemSource) -> Result<Bytes, HearError> {
     let mut bodies = Bytes::new(alloc);
     for _ in 0..3 {

@@ -97,7 +97,7 @@ static CASES: [(&[TransferTurn], usize, bool); 4] = [
     (&[TransferTurn::Broken], 0, true),
 ];
 
-/// Whether so many bytes are read to the end of a device, or a fault is told.
+/// Whether so many bytes are read to the end of a device, or a fault is reported.
 fn is_read(alloc: Global, turns: &[TransferTurn], moved: usize, breaks: bool) -> bool {
     let mut device = Device::new(alloc, turns, TEXT);
     match read_whole(alloc, 11, &mut device) {
@@ -119,7 +119,7 @@ fn is_too_long(alloc: Global) -> bool {
     read_whole(alloc, 10, &mut device).is_err()
 }
 
-/// Whether bytes are written and read at an offset, and neither is told where there is no room for all of them.
+/// Whether bytes are written and read at an offset, and neither is reported where there is no room for all of them.
 fn is_moved_at() -> bool {
     let mut file = Cursor::new(*b"transferred");
     let mut piece = [0u8; 4];

@@ -1,14 +1,14 @@
--- Worked examples of files at a limit: a whole record with which a journal keeps to its limits, and one with which it passes them,
--- which is damage.
+-- Worked examples of files at a limit: a complete record that keeps a journal within its limits, and one that passes
+-- them, which is damage.
 --
--- Such files are too long to write out, so these are any records of which the counts are told.
+-- Such files are too long to write out, so these are any records with the given counts.
 use Rattle.std.proofs.Common.{◌≡◌, ◌≤◌, ℕ, ◌+◌, List, [], ◌∷◌, ◌++◌, length, length-append, refl, inr, arith}
 use Rattle.depot_base.specs.Cursor.{numeral}
 use Rattle.depot_base.specs.File.{blocks, framed, IsFileOf, IsDamagedAt}
 use Rattle.depot_base.proofs.Blocks.{blocks-append}
 use Rattle.depot_base.proofs.CallLaws.{framed_long}
 
--- these records, and one of the byte 7 behind them
+-- these records, and one of the byte 7 after them
 abbrev one_more : List (List ℕ) → List ℕ
 one_more good = blocks good ++ 1 ∷ (framed (7 ∷ []) ++ 0 ∷ [])
 

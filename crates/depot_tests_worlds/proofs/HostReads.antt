@@ -1,4 +1,4 @@
--- A run's hosts, and the keys that their nodes read: what an event of one node leaves of them.
+-- A run's hosts, and the keys that their nodes read: what an event of one node makes of them.
 use Rattle.std.proofs.Common.{◌≡◌, ℕ, ◌-◌, ◌≤◌, Bool, true, false, eqb, leb, cond, List, [], ◌∷◌, ◌++◌, map, Option, Some, None, refl, sym, ap, subst, ◌∙◌, inl, inr, ◌⊎◌, codes, arith}
 use Rattle.std.proofs.lemmas.Bool.{eqb-true, eq-eqb, leb-true, leb-false, cond-false}
 use Rattle.std.proofs.lemmas.List.{append-nil}
@@ -70,7 +70,7 @@ goes_by s d more waits reads quiet = by_pending s.pending waits where
       call_of None = 0
       call_of (Some y) = y.call
 
--- the run behind an event of one node
+-- the run after an event of one node
 pub record Follows (run next : Run) (node : ℕ) (more : List (List ℕ)) : Type 0 where
   pub numbers : numbers_of next.hosts ≡ numbers_of run.hosts
   pub waits : ((s : Host) → IsIn s run.hosts → Waits s) → (s : Host) → IsIn s next.hosts → Waits s

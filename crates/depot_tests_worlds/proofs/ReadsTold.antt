@@ -290,7 +290,7 @@ same_nodes : (ss : List Host) → map (λ (c : Correct). c.node) (map (λ (s : H
 same_nodes [] = refl
 same_nodes (s ∷ ss) = ap (λ (ns : List ℕ). s.correct.node ∷ ns) (same_nodes ss)
 
--- what a run begins with, and what it comes to
+-- what a run begins with, and its outcome
 begin_all : (setup : Setup) (ms : List Member) (node : ℕ) → IsIn node (numbers_of (run_of setup ms).hosts) → HasRead (run_of setup ms).hosts node []
 unfolding run_of
 begin_all setup ms node on = begin_unread setup (filter (λ (m : Member). m.correct) ms) node on

@@ -155,7 +155,7 @@ received_all = record { ends = refl; records = refl; lines = refl }
 
 -- a trace that is handed in
 
--- behind a read, and before one that it doesn't have
+-- after a read, and before one that it doesn't have
 abbrev exported : Answers
 exported = answers (command.Put k (97 ∷ []) ∷ command.Get k ∷ command.Export (codes "t") ∷ command.Get k ∷ [])
 
@@ -173,7 +173,7 @@ put_text = 2 ∷ 0 ∷ 0 ∷ 0 ∷ 120 ∷ (text_of_update (next_own 1 (born 1) 
 record Exported : Type 0 where
   pub ends : exported.ending ≡ ending.Done
   pub lines : exported.text ≡ codes "put 6b -> 0/1\nget 6b -> 1/0/1=61\nexport t -> records 2 reads 1\nget 6b -> 1/0/1=61\n"
-  -- two records, each behind its length, and a read of two records: of the key, with one write and its value
+  -- two records, each preceded by its length, and a read of two records: of the key, with one write and its value
   pub file : exported.session.files (codes "t") ≡ Some (1 ∷ 5 ∷ 0 ∷ 1 ∷ 0 ∷ 0 ∷ 0 ∷ 2 ∷ (0 ∷ 0 ∷ 0 ∷ 35 ∷ (birth_text ++ (0 ∷ 0 ∷ 0 ∷ 126 ∷ (put_text ++ (0 ∷ 0 ∷ 0 ∷ 1 ∷ 0 ∷ 0 ∷ 0 ∷ 2 ∷ 1 ∷ 107 ∷ 0 ∷ 1 ∷ (first_id ++ 1 ∷ 0 ∷ 0 ∷ 0 ∷ 1 ∷ 97 ∷ [])))))))
   pub later : exported_later.text ≡ codes "export t -> records 2 reads 0\n"
 
@@ -210,7 +210,7 @@ record Endings : Type 0 where
   -- a limit
   pub limit : spent_now.ending ≡ ending.Limit
   pub limit_line : spent_now.text ≡ codes "put 6b -> Spent 4\n"
-  -- no command behind it is carried out
+  -- no command after it is carried out
   pub no_read : spent_now.session.correct.reads ≡ []
   pub nothing_stored : (answers (command.Bundle (codes "bad") (codes "b") ∷ [])).session.files (codes "b") ≡ None
 
@@ -256,7 +256,7 @@ not_by_disk never = never
 not_by_limit : IsCutBy (Unit {0}) (shelf 1) (sink 1) ending.Limit → ⊥
 not_by_limit never = never
 
--- what a stop left before may stand where no command was carried out, and nowhere else
+-- what was an image before the run may still be one where no command was carried out, and nowhere else
 before_any : (image : List ℕ) (kept more : List Record) → LeavesFront [] (λ i. i ≡ image) kept more image
 before_any image kept more = inl refl
 
@@ -311,7 +311,7 @@ wrote text faults = record { tells = true; before = []; after = text; faults_bef
 abbrev Short : Disks → Sinks → ScriptEnding → Type 0
 Short d w ends = GoesShort (node 2) no_signature (newborn 2) second (one_put ∷ []) d (shelf 0) w ends
 
--- nothing of the put is on the disk, and nothing of its line was told
+-- nothing of the put is on the disk, and nothing of its line was reported
 cut_before : (image : List ℕ) (calls : List Made) (faults : ℕ) (w : Sinks) (ends : ScriptEnding) (last : List ℕ) → CallsShort (newborn 2) its_records (◌≡◌ {A = List Command} [] [] × (last ≡ [])) (disk image image calls faults) → IsCutBy (0 < faults) (shelf 0) w ends → IsLast (pending_in (node 2) no_signature second (one_put ∷ []) (λ i. i ≡ image) (0 < faults) (shelf 0)) ends last → Wrote w last → Short (disk image image calls faults) w ends
 unfolding answers_of
 cut_before image calls faults w ends last called cut is told = record {
@@ -348,7 +348,7 @@ cut_by_disk image = cut_before image first_failed 1 (wrote (codes "disk\n") 0) e
 cut_by_memory : (image : List ℕ) → Short (disk image image [] 0) (wrote [] 0) ending.Memory
 cut_by_memory image = cut_before image [] 0 (wrote [] 0) ending.Memory [] (record { part = λ rose. absurd (omega (arith, rose)); whole = λ calm. inl (refl, refl) }) tt refl (λ tells. refl)
 
--- a disk that failed in one look more, behind all that the run was to ask of it, failed in none of these
+-- a disk that failed in one look more, after all that the run was to ask of it, failed in none of these
 not_one_look_more : (image : List ℕ) (calls : List Call) → DiskFailsAmong (disk image image (made_but_last calls asks_length) 1) calls → ⊥
 not_one_look_more image calls f =
     let parts = ap length f.parts in
@@ -357,7 +357,7 @@ not_one_look_more image calls f =
     let looked : List Made = record { call = asks_length; failed = true } ∷ [] in
     omega (arith, parts, fails, length-append f.before (f.failing ∷ f.rest), length-append (made f.before) asked, length-append (made calls) looked, length-map {B = Made} f.before (λ (call : Call). record { call = call; failed = false }), length-map {B = Made} calls (λ (call : Call). record { call = call; failed = false }))
 
--- the put is on the disk, and three bytes of its line were told before the sink failed
+-- the put is on the disk, and three bytes of its line were reported before the sink failed
 abbrev all_made : List ℕ → List ℕ → List Made
 all_made before after = made (calls_of_run (disk before after [] 0) (newborn 2) its_records)
 
@@ -384,7 +384,7 @@ cut_by_sink before after has = record {
   files = λ name. inl refl;
 }
 
--- a stop in the run may have left a front of what the put brings, and no file that lost the records from before
+-- a crash image of the run may have a prefix of what the put brings; no image has lost the records from before
 put_begun : (image : List ℕ) → HasRecords (newborn 2) image → GrowsTo (newborn 2) (newborn 2 ++ its_records) (disk image image [] 0)
 put_begun image has = record { grown = its_records; is = refl; moments = λ i is. inr (record { count = 0; has = subst (λ (f : List ℕ). HasRecords (newborn 2 ++ []) f) (sym is) has }) }
 
@@ -397,7 +397,7 @@ never_lost after d left kept grows = elim (grows.moments [] left) [
   no_birth more (inl short) = let none : map text_of_record (newborn 2 ++ more) ≡ [] = short.1 in cc
   no_birth more (inr ((gate, rest, closed, is), within)) = cc
 
--- no byte of its line is told where a stop can lose the put
+-- no byte of its line is reported where a stop can lose the put
 not_told : IsToBeWritten (pending_for one_put (step_of (node 2) no_signature second one_put) (λ i. i ≡ []) ⊥ (shelf 0)) its_line → ⊥
 not_told (inl (stands, is)) = nothing_there (subst (λ (J : List Record). HasRecords J []) put_goes.steps (stands.journal [] refl)) where
   nothing_there : HasRecords (newborn 2 ++ its_records) [] → ⊥
@@ -406,14 +406,14 @@ not_told (inl (stands, is)) = nothing_there (subst (λ (J : List Record). HasRec
 not_told (inr (inl (failed, is))) = failed
 not_told (inr (inr (failed, is))) = omega (arith, failed)
 
--- ---- scripts that come to their end
+-- ---- scripts that complete
 
--- nothing stands in the way of a put that meets no limit, and of a read
+-- nothing prevents a put that meets no limit, and of a read
 unhindered : AreUnhindered (node 2) no_signature second (one_put ∷ command.Get k ∷ [])
 unfolding answers_of step_of put_command get_command hello_command bundle_command take_command rest_of numeral number bytes_of inner list_of dep roster_entry signed_with is_covered candidates records_where values_behind candidate_parcels parcels fitting sent_for sent_foreign unvouched bundle_frames bundle_of bundle_answer sight content_checks opponent forked refused_as_convicted statement_checks proof_checks first_failed_check is_known answer_to due named_opponent added growth is_of_kind contradicts kind_of proof_of given_by take_frame fed_frame fed_byte fed ending_of report_of frame_at hello_leaf hello convicted_nodes lacking record_place hello_of leaves_of put_by_id by_id history_text history_hash first_values has_id named prev_of is_convicted is_vouched holds_hash holds is_wanted points spent_by tips_of collides_by limit_of_own limit_of_put past precedes_named next_entries next_own leaf_count plain_root plain_signature plain_verifies birth own_put tagged record_text foreign_leaves full_with key_of is_signed given_as answer_to_text growth_of_text update_fields voucher_fields update_body voucher_body statement signed proof roster id_of_update id_of_statement hash_of_roster put_rising rising groups_behind groups_of new_vouchers limit_of_new limit_of_vouchers named_by text_of_check text_of_limit text_of_report served restart_by insert_by order_by latest_in sha256 first_words schedule rounds compress hash_after digest_bytes encode_with decode_pairs digits seen_under write marked is_update_text is_hollow all_verify
 unhindered = (refl, (tt, tt))
 
--- a stream that isn't there stands in the way of taking it, and a limit in that of a put
+-- a stream that isn't there is in the way of taking it, and a limit in that of a put
 not_without_stream : AreUnhindered (node 2) no_signature second (command.Take (codes "none") ∷ []) → ⊥
 not_without_stream are = let none : ◌≡◌ {A = Option (List ℕ)} None (Some are.0.bytes) = are.0.there in cc
 

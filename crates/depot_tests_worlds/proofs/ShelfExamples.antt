@@ -39,7 +39,7 @@ not_made fails = let is = fails.1.only in cc
 names_made : FailsFor makes_bundle (failed 1 (made ∷ [])) made
 names_made = (inr refl, record { rose = omega arith; only = refl })
 
--- a file of which the command doesn't speak isn't named, nor one on which the shelf didn't fail, nor one of two
+-- a file that the command doesn't name isn't named, nor one on which the shelf didn't fail, nor one of two
 not_of_another : FailsFor (command.Take hello) (failed 1 (made ∷ [])) made → ⊥
 not_of_another fails = let is = fails.0 in cc
 
@@ -60,7 +60,7 @@ abbrev Makes : Step → List ℕ → Type 0
 Makes step bytes = (step.ending ≡ None) × (step.session.files made ≡ Some bytes)
 
 module _ (step : Step) (made_this : Makes step (7 ∷ [])) where
-  -- under the name of the bundle that is handed out stand its bytes
+  -- under the name of the bundle that is handed out are its bytes
   its_bytes : IsHandedOut (λ image. ⊥) (holding 0 [] (7 ∷ [])) makes_bundle step made
   its_bytes = record { stores = refl; goes_on = made_this.0; bytes = inr (sym made_this.1); journal = λ image never. absurd never }
 
@@ -110,7 +110,7 @@ module _ (here : Setting) (sign : Signs) (s : Session) where
     nothing_taken None = refl
     nothing_taken (Some stream) = refl
 
-  -- behind what was loaded before its start
+  -- after what was loaded before its start
   behind_roster : AsksShort here sign s [] takes (codes "roster" ∷ codes "script" ∷ []) (asked_for (codes "roster" ∷ codes "script" ∷ hello ∷ []) [])
   unfolding loads_through stores_through
   behind_roster = record { loads = inr refl; stores = inl refl }

@@ -1,4 +1,4 @@
--- In what order the values of a faulty update go: each different one once, where it stands first.
+-- The order of the values of a faulty update: each different one once, where it occurs first.
 use Rattle.std.proofs.Common.{◌≡◌, [], ◌∷◌, refl}
 use Rattle.depot_world.specs.FaultySigning.{each_once}
 

@@ -18,11 +18,11 @@ key_got other = []
 abbrev pub keys_got : List Command → List (List ℕ)
 keys_got cs = flat_map key_got cs
 
--- Behind the reads that the node had made in the one session it has made those of these keys in the other.
+-- After the reads of one session, the node has made those of these keys in the other.
 abbrev pub ReadsFurther : Session → Session → List (List ℕ) → Type 0
 ReadsFurther before after keys = map (λ (r : Read). r.key) after.correct.reads ≡ map (λ (r : Read). r.key) before.correct.reads ++ keys
 
--- what is carried out behind a command that ends the run, or doesn't
+-- what is carried out after a command that ends the run, or doesn't
 abbrev pub going_on : Option ScriptEnding → List Command → List Command
 going_on (Some ends) rest = []
 going_on None rest = rest

@@ -1,8 +1,10 @@
-//! What holds of the world of every schedule and of every session beside the laws of `depot_world`, and worlds that are computed.
+//! Further laws of the world of every schedule and of every session, and worlds that are computed.
 //!
-//! The reads and the judged proofs of a world are what the headline speaks of, and no code keeps them: so laws here say which
-//! there are, and worked examples show them over takes, restarts and stops. Worked examples of scripts and of files at their
-//! limits stand here too. Nothing stands on this crate.
+//! The headline is about the reads and the judged proofs of a world, and no code keeps these. So laws here say which
+//! there are, and worked examples show them over takes, restarts and stops. Worked examples of scripts and of files at
+//! their limits are here too. Nothing depends on this crate.
+//! which there are, and worked examples show them over takes, restarts and stops. Worked examples of scripts and of
+//! files at their limits are here too. Nothing depends on this crate.
 #![tactic(auto)]
 
 mod told;

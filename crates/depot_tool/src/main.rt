@@ -1,8 +1,9 @@
 //! The program `depot`.
 //!
-//! It takes the numbers of standard streams that were closed, collects its words, makes the real shelf, disk, source and sink, calls
-//! `depot` and ends with its status. What `depot` does is said by its contract in `depot_cli`; what the real adapters do is
-//! trusted (`depot_outside`), and so is what this file does before it, which runs of the program try.
+//! It holds the numbers of standard streams that were closed, collects its words, makes the real shelf, disk, source
+//! and sink, calls `depot` and ends with its status. The contract in `depot_cli` says what `depot` does. What the real
+//! adapters do is trusted (`depot_outside`), and so is what this file does before the call, which runs of the program
+//! test.
 #![tactic(auto)]
 
 use depot_base::Memory;
@@ -19,14 +20,14 @@ fn held_folder(rt: &HostRuntime) -> io::Result<File> {
     OpenOptions::new().read(true).open(rt, "/")
 }
 
-/// As many files as there are standard streams. A process may be started with these closed, and then the first file that it
-/// opens gets the number of one: were that the journal, what is printed would be written into it. While these are held, what
-/// is printed to a closed output fails.
+/// Opens as many files as there are standard streams. A process may be started with these closed; the first file that
+/// it opens then gets the number of one. If that were the journal, printed text would be written into it. While these
+/// files are held, printing to a closed output fails.
 fn stream_numbers(rt: &HostRuntime) -> io::Result<[File; 3]> {
     Ok([held_folder(rt)?, held_folder(rt)?, held_folder(rt)?])
 }
 
-/// The words behind the program's name. Where one isn't UTF-8 they are no command, so none is given.
+/// The words after the program's name. If one isn't UTF-8 they are no command, so it returns none.
 fn words_of(rt: &HostRuntime) -> Result<Vec<Word>, Memory> {
     let mut words = Vec::new(rt.alloc());
     match env::args(rt) {

@@ -1,4 +1,4 @@
--- Trace files that are handed in one after the other, and the first of them that is refused.
+-- Trace files in their order, and the first of them that is refused.
 use Rattle.std.specs.Prelude.{◌≡◌, ◌⊎◌, ℕ, ◌+◌, ◌<◌, ◌≤◌, ◌==◌, List, [], ◌∷◌, ◌++◌, map, take, Bool, true, false, IsTrue, Option, Some, None, Err, slice_get}
 use Rattle.std.specs.List.{AllByRecursion, list_any}
 use Rattle.depot_base.specs.Reading.{Decodes}
@@ -26,13 +26,13 @@ nodes_of ts = map (λ t. t.node) ts
 abbrev pub has_trace_of : ℕ → List Trace → Bool
 has_trace_of node ts = list_any (λ t. t.node == node) ts
 
--- a trace that has a text, of a node of the roster, of which no trace before it is
+-- a trace that has a text and is of a node of the roster without an earlier trace
 pub record IsNextTrace (listed : List RosterEntry) (earlier : List Trace) (t : Trace) : Type 0 where
   pub fits : IsTrace t
   pub member : has_node listed t.node ≡ true
   pub new : has_trace_of t.node earlier ≡ false
 
--- What an audit asks of traces: each has a text and is of a node of the roster, and no two are of one node.
+-- What an audit needs of traces: each has a text and is of a node of the roster, and no two are of one node.
 pub record AreForAudit (listed : List RosterEntry) (ts : List Trace) : Type 0 where
   pub fit : AllByRecursion IsTrace ts
   pub members : AllByRecursion (λ t. has_node listed t.node ≡ true) ts
@@ -52,7 +52,7 @@ abbrev pub IsTakenTrace : List RosterEntry → List Trace → List ℕ → Taken
 IsTakenTrace listed earlier bytes (taken.Trace t) = IsNextTrace listed earlier t × (bytes ≡ text_of_trace t)
 IsTakenTrace listed earlier bytes (taken.Refused why) = IsRefusedTrace listed earlier bytes why
 
--- the file of a name is refused for this: it isn't there, or the shelf failed; or its bytes are
+-- why the file of a name is refused: it isn't there, the shelf failed, or its bytes are faulty
 abbrev pub IsRefusedFile : Bool → (List ℕ → Option (List ℕ)) → Type 0 → List RosterEntry → List Trace → List ℕ → TraceRefusal → Type 0
 IsRefusedFile tells file failed listed earlier name Missing = failed ⊎ (IsTrue tells → file name ≡ None)
 IsRefusedFile tells file failed listed earlier name why = IsTrue tells → (bytes : List ℕ) × ((file name ≡ Some bytes) × IsRefusedTrace listed earlier bytes why)
@@ -89,7 +89,7 @@ pub record IsRefusedAt (tells : Bool) (file : List ℕ → Option (List ℕ)) (f
   pub at : slice_get names place ≡ Some name
   pub refused : IsRefusedFile tells file failed listed before name why
 
--- Behind some files the first of these names were loaded, and all of them but maybe the last are traces for this audit.
+-- After some files a prefix of these names was loaded, and all of them but maybe the last are traces for this audit.
 pub record HasLoadedTraces (tells : Bool) (file : List ℕ → Option (List ℕ)) (loads : Loads) (listed : List RosterEntry) (first names : List (List ℕ)) : Type 0 where
   pub count : ℕ
   pub good : ℕ
@@ -99,7 +99,7 @@ pub record HasLoadedTraces (tells : Bool) (file : List ℕ → Option (List ℕ)
   pub audited : AreForAudit listed traces
   pub last_alone : count ≤ good + 1
 
--- what came of the files of these names, and which of them were loaded
+-- the outcome of the files of these names, and which of them were loaded
 abbrev pub IsGathered : Bool → (List ℕ → Option (List ℕ)) → (failed calm : Type 0) → Loads → List RosterEntry → List (List ℕ) → GatheredTraces → Type 0
 IsGathered tells file failed calm loads listed names (gathered.Traces ts) = HasLoaded loads names × (AreHanded tells file names ts × (AreForAudit listed ts × calm))
 IsGathered tells file failed calm loads listed names (gathered.Refused place why) = HasLoaded loads (take (place + 1) names) × (IsRefusedAt tells file failed listed names place why × IsCalmAt calm why)
@@ -108,6 +108,6 @@ IsGathered tells file failed calm loads listed names (gathered.Refused place why
 abbrev pub HasGathered : {F : Type 0} → Ghosts F → (old new : F) → List RosterEntry → List (List ℕ) → GatheredTraces → Type 0
 HasGathered g old new listed names traces = IsGathered (g.tells old) (g.file old) (g.faults old < g.faults new) (g.faults new ≡ g.faults old) (loads g old new) listed names traces
 
--- whatever came of them: which files were loaded
+-- for any outcome: which files were loaded
 abbrev pub GathersTraces : {F : Type 0} → Ghosts F → (old new : F) → List RosterEntry → List (List ℕ) → Type 0
 GathersTraces g old new listed names = HasLoadedTraces (g.tells old) (g.file old) (loads g old new) listed [] names

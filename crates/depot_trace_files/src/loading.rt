@@ -48,7 +48,7 @@ fn is_handed(traces: &[Trace], node: NodeId) -> bool
     traces.iter().any(|trace| trace.node == node)
 }
 
-/// The trace of these bytes, held against the roster and the traces before it.
+/// The trace of these bytes, checked against the roster and the traces before it.
 pub fn take_bytes(
     alloc: Global,
     roster: &Roster,
@@ -96,8 +96,8 @@ pub fn take_file<F: Shelf>(
     }
 }
 
-/// The traces of these files, loaded one after the other up to the first that is refused. Also where memory runs out, no file is loaded
-/// behind one that isn't a trace for this audit.
+/// The traces of these files, loaded one after the other up to the first that is refused. On `Memory`, too, no file is
+/// loaded after one that isn't a trace for this audit.
 pub fn gather<F: Shelf>(
     alloc: Global,
     shelf: &mut F,

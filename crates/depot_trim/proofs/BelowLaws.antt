@@ -63,7 +63,7 @@ causal_left test = from_end (λ (us : List Update). IsCausal [] us → IsClosedT
         (λ never. never)
         (λ on. let t = from_map id_of_update (id_of_update u) (filter test us) on in apart [] us (u ∷ []) t.0 u c (from_filter test t.0 us t.1.0).0 (inl refl) t.1.1)
 
--- what is below fits behind one another
+-- what is below fits after one another
 pub below_fits : (here : Setting) (J : List Record) (ids : List (List ℕ)) (us : List Update) → IsLawful here J → accepted J ≡ us → IsCausal [] (filter (is_covered us ids) us)
 below_fits here J ids us lawful is =
     let c = lawful_is_causal here J lawful in
@@ -72,14 +72,14 @@ below_fits here J ids us lawful is =
     in
     subst (λ (xs : List Update). IsCausal [] (filter (is_covered xs ids) xs)) is (causal_left (is_covered (accepted J) ids) (accepted J) c closed)
 
--- the one at a place, where it passes, fits behind those in front that do
+-- the one at a place, where it passes, fits after those before that do
 pub next_fits : (test : Update → Bool) (us : List Update) (i : ℕ) (u : Update) → IsCausal [] (filter test us) → slice_get us i ≡ Some u → test u ≡ true → IsCausal [] (filter test (take i us) ++ u ∷ [])
 next_fits test us i u c at is =
     let parts : filter test us ≡ filter test (take (i + 1) us) ++ filter test (drop (i + 1) us) = ap (filter test) (sym (halves (i + 1) us)) ∙ filter_both test (take (i + 1) us) (drop (i + 1) us) in
     let front = causal_front [] (filter test (take (i + 1) us)) (filter test (drop (i + 1) us)) (subst (λ (xs : List Update). IsCausal [] xs) parts c) in
     subst (λ (xs : List Update). IsCausal [] xs) (filter_next test us i u true at is) front
 
--- those in front are fewer
+-- those before are fewer
 pub fewer_below : (test : Update → Bool) (us : List Update) (i : ℕ) (u : Update) → slice_get us i ≡ Some u → length (filter test (take i us)) < length us
 fewer_below test us i u at =
     let all = ap length (halves (i + 1) us) in

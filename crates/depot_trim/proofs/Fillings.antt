@@ -1,4 +1,4 @@
--- A reader's state is filled with one record more.
+-- A reader's state, filled with one more record.
 use Rattle.std.proofs.Common.{◌≡◌, ◌∙◌, ℕ, ◌+◌, ◌<◌, ◌≤◌, Bool, cond, List, [], ◌∷◌, ◌++◌, length, map, take, drop, Some, refl, sym, ap, subst, arith, inl}
 use Rattle.std.specs.Prelude.{slice_get}
 use Rattle.std.proofs.lemmas.Grind.{flat_map-append}
@@ -35,11 +35,11 @@ pub pruned_push : (ts : List Update) (J : List Record) (r : Record) → pruned t
 unfolding pruned
 pruned_push ts J r = map-append (pruned_by ts) J (r ∷ [])
 
--- a record that tells the same without its signature
+-- a record that says the same without its signature
 pub fill : {S : Type 0} (ts : List Update) (J : List Record) (r q : Record) (w : View S) → pruned_by ts r ≡ q → IsStateOf (pruned ts J ++ q ∷ []) w → IsStateOf (pruned ts (J ++ r ∷ [])) w
 fill ts J r q w is s = subst (λ (K : List Record). IsStateOf K w) (sym (pruned_push ts J r ∙ ap (λ (x : Record). pruned ts J ++ x ∷ []) is)) s
 
--- an update that is given up is told as a put, and else as it is
+-- an update that is given up is read as a put, any other as it is
 pub told_of_update : (ts : List Update) (s : Signed) (u : Update) (b : Bool) → s.statement ≡ statements.Update u → has_id ts (id_of_update u) ≡ b → pruned_by ts (Foreign s) ≡ cond b (OwnPut u []) (Foreign s)
 told_of_update ts s u b is gone = ap (pruned_statement ts s) is ∙ ap (λ (x : Bool). cond x (OwnPut u []) (Foreign s)) gone
 
@@ -79,7 +79,7 @@ module _ {S : Type 0} (verifies : Verifies) (us : List Update) (flags : List Boo
   pub flag_inside : (u : Update) → accepted_by r ≡ u ∷ [] → length v.accepted < length flags
   flag_inside u brings = omega (arith, inside u brings, ap length f.flagged, length-map us (λ (x : Update). has_id ts (id_of_update x)))
 
-  -- which tells of it
+  -- which states it
   pub flag : (u : Update) (b : Bool) → accepted_by r ≡ u ∷ [] → slice_get flags (length v.accepted) ≡ Some b → has_id ts (id_of_update u) ≡ b
   flag u b brings told =
       let there = ap (λ (bs : List Bool). slice_get bs (length v.accepted)) f.flagged ∙ map_at (λ x. has_id ts (id_of_update x)) us (length v.accepted) u (next u brings) in
@@ -104,7 +104,7 @@ text_is J i text low at =
     let both : Some text ≡ Some (text_of_record r.0) = sym at ∙ map_at text_of_record J i r.0 r.1 in
     (r.0, (r.1, cc))
 
--- where a node stands, by its parts
+-- a node's setting, by its parts
 pub stands_so : (here : Setting) (verifies : Verifies) (me : ℕ) (listed : List RosterEntry) → here.verifies ≡ verifies → me ≡ here.me → listed ≡ here.listed → record { verifies = verifies; me = me; listed = listed } ≡ here
 stands_so here verifies me listed v m l =
     let made : Verifies → ℕ → List RosterEntry → Setting = λ a b d. record { verifies = a; me = b; listed = d } in

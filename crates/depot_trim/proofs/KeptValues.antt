@@ -1,4 +1,4 @@
--- The values that are kept: those that are held and wanted, by their hash and length.
+-- The values that are kept: those held and wanted, by their hash and length.
 use Rattle.std.proofs.Common.{◌≡◌, ◌∙◌, ℕ, Bool, true, false, cond, eqb, ◌||◌, List, [], ◌∷◌, ◌++◌, length, Option, Some, None, Result, Ok, Err, arith, refl, sym, ap, subst, inl, inr}
 use Rattle.std.specs.Prelude.{◌≢◌, IsSome, OnOk, option_and_then}
 use Rattle.std.specs.List.{filter, flat_map, list_any}
@@ -138,12 +138,12 @@ held_fits here J n v lawful e =
 
 -- ---- all that is wanted
 
--- a value in front that has another hash, left or not, isn't what is found
+-- an earlier value that has another hash, left or not, isn't what is found
 skip : (h v : List ℕ) (t : Bool) (rest : List (List ℕ)) (o : Option (List ℕ)) → bytes_eq (sha256 v) h ≡ false → value_with h rest ≡ o → value_with h (cond t (v ∷ rest) rest) ≡ o
 skip h v true rest o other is = rw other is
 skip h v false rest o other is = is
 
--- behind a hash that was there comes no value of it, whatever is left out
+-- after a hash that was there comes no value of it, whatever is left out
 none_left : (test : List ℕ → Bool) (h : List ℕ) (hashes vs : List (List ℕ)) → is_among h hashes ≡ true → value_with h (filter test (first_values hashes vs)) ≡ None
 unfolding first_values
 none_left test h hashes [] there = refl
@@ -156,7 +156,7 @@ none_left test h hashes (v ∷ vs) there =
       step false is true e same more = absurd (both_ways (is_among (sha256 v) hashes) is (subst (λ (x : List ℕ). is_among x hashes ≡ true) (sym ((bytes_eq-Decides (sha256 v) h).0 e)) there))
       step false is false e same more = skip h v (test v) (filter test (first_values (hashes ++ sha256 v ∷ []) vs)) None e more
 
--- a value in front that has the hash is left where it is wanted
+-- an earlier value that has the hash is left where it is wanted
 front_left : (h v : List ℕ) (t wanted : Bool) (rest : List (List ℕ)) → bytes_eq (sha256 v) h ≡ true → t ≡ wanted → value_with h rest ≡ None → value_with h (cond t (v ∷ rest) rest) ≡ when wanted v
 front_left h v true true rest e same none = rw e refl
 front_left h v false false rest e same none = none

@@ -1,4 +1,5 @@
--- The leaves of a lawful journal: they make a checkpoint where there are few enough, and there are some where anything is accepted.
+-- The leaves of a lawful journal: they make a checkpoint if they are few enough, and there are some if anything was
+-- accepted.
 use Rattle.std.proofs.Common.{◌≡◌, ℕ, ◌≤◌, ◌<◌, List, [], ◌∷◌, ◌++◌, length, Bool, true, false, cond, eqb, ltb, refl, sym, ap, subst, ◌∙◌, arith, inl, inr}
 use Rattle.std.specs.Int.{w16}
 use Rattle.std.proofs.lemmas.Bool.{lt-ltb, le-ltb}

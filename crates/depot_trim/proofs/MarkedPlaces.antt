@@ -106,7 +106,7 @@ name_there old n place there asked = by_test (same_name asked n) refl where
   by_test true e = one (get name_cmp old asked) (subst (λ (x : Name). is_some (get name_cmp old x) ≡ true) (sym (one_name asked n e)) there)
   by_test false e = or_nothing (get name_cmp old asked)
 
--- one more behind the others
+-- one more after the others
 place_behind : {X : Type 0} (test : X → Bool) (xs : List X) (x : X) → first_place test (xs ++ x ∷ []) ≡ option_or (first_place test xs) (when (test x) (length xs))
 unfolding first_place
 place_behind test [] x = by_test (test x) where
@@ -182,11 +182,11 @@ either_place p q (x ∷ xs) = by_tests (p x) (q x) (first_place p xs) (first_pla
     later true = refl
     later false = refl
 
--- what stands in place of two that are compared
+-- what is in place of two that are compared
 pub both_earlier : (r a b x y z : Option ℕ) → r ≡ earlier_of a b → a ≡ x → b ≡ y → earlier_of x y ≡ z → r ≡ z
 both_earlier r a b x y z is one other all = is ∙ ap (λ (o : Option ℕ). earlier_of o b) one ∙ ap (λ (o : Option ℕ). earlier_of x o) other ∙ all
 
--- what stands there
+-- what is there
 found_at : {X : Type 0} (test : X → Bool) (xs : List X) → find test xs ≡ option_and_then (λ n. slice_get xs n) (first_place test xs)
 unfolding first_place
 found_at test [] = refl

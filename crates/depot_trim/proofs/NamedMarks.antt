@@ -1,4 +1,4 @@
--- A mark is named as its update is, and the first one that is named is that of the first such update.
+-- A mark is named as its update is, and the first one named is that of the first such update.
 use Rattle.std.proofs.Common.{◌≡◌, ℕ, Bool, true, false, cond, ◌||◌, List, [], ◌∷◌, map, Option, Some, refl, sym, ap, ◌∙◌}
 use Rattle.std.specs.Prelude.{find, option_map}
 use Rattle.std.specs.Str.{bytes_eq}

@@ -1,4 +1,4 @@
--- What a text is opened to: it is read, its roster is asked for, and then its leaves.
+-- What a text is opened to: it is read, then its roster is checked, then its leaves.
 use Rattle.std.proofs.Common.{◌≡◌, ℕ, List, length, Bool, true, false, cond, Option, Ok, Err, sym, ap, ◌∙◌, arith}
 use Rattle.std.specs.Str.{bytes_eq}
 use Rattle.depot_base.specs.Format.{whole, FirstFault}
@@ -35,7 +35,7 @@ goes_wrong text at fault = whole_stops checkpoint 34852 checkpoint_lawful 0 text
 -- ---- what it is opened to
 
 module _ (here : Setting) (J : List Record) (text : List ℕ) where
-  -- what a checkpoint comes to, by whether its roster is the node's
+  -- the outcome of a checkpoint, by whether its roster is the node's
   abbrev comes_to : Checkpoint → Bool → Opened
   comes_to c same = cond same (opened_unless (ids_of c) (unknown_leaf (accepted J) c.leaves)) (of_roster c.roster)
 

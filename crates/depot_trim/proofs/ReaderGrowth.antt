@@ -65,7 +65,7 @@ statement_brings : (J : List Record) (s : Signed) (st : Statement) → s.stateme
 statement_brings J s (statement.Update u) is new = inr (u, (ap (λ (x : Statement). update_in x ++ []) is, new))
 statement_brings J s (statement.Voucher v) is new = inl (ap (λ (x : Statement). update_in x ++ []) is)
 
--- convictions in front bring nothing
+-- earlier convictions bring nothing
 behind_none : (J front new : List Record) → accepted front ≡ [] → Brings J new → Brings J (front ++ new)
 behind_none J front new none brings =
     let same : accepted (front ++ new) ≡ accepted new = flat_map-append accepted_by front new ∙ ap (λ (us : List Update). us ++ accepted new) none in

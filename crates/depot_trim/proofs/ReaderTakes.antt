@@ -62,7 +62,7 @@ use Rattle.depot_trim.proofs.TakenRecords.{growth_of_takes, all_new, all_taken}
 pub becomes_as : {S : Type 0} (verifies : Verifies) (R : Reader) (o p : ReaderOutcome) (result : _) (t : Trimmed S) → o ≡ p → Becomes verifies R p result t → Becomes verifies R o result t
 becomes_as {S = S} verifies R o p result t same b = subst (λ (x : ReaderOutcome). Becomes verifies R x result t) (sym same) b
 
--- what is told is answered
+-- what is reported is answered
 pub becomes_told : {S : Type 0} (verifies : Verifies) (R then : Reader) (o : ReaderOutcome) (answer : Result Taken Check) (t : Trimmed S) → o ≡ told answer then → IsReaderOf verifies then t → Becomes verifies R o (as_told answer) t
 becomes_told verifies R then o (Ok taken) t so is = (then, (so, is))
 becomes_told verifies R then o (Err c) t so is = (then, (so, is))
@@ -103,14 +103,14 @@ module _ {S : Type 0} (verifies : Verifies) (R : Reader) (t : Trimmed S) (is : I
   pub passed_checked : (s : Signed) (r : Result Pass CheckError) → PassesEarly R.here (pruned R.trimmed R.journal) s → IsCheckedAfterSignature (pruned R.trimmed R.journal) s r → IsChecked (setting verifies t.state) (pruned R.trimmed R.journal) s r
   passed_checked s r passes behind = checked_later (setting verifies t.state) (pruned R.trimmed R.journal) s r (subst (λ (h : Setting). PassesEarly h (pruned R.trimmed R.journal) s) (sym is.stands) passes) behind
 
-  -- what is decided of a statement that doesn't stand below
+  -- what is decided of a statement that isn't below
   pub statement_decided : (s : Signed) (answer : Result Taken Check) (new : List Record) → IsSigned s → below_of R.here R.journal R.trimmed s ≡ None → IsDecided (setting verifies t.state) (pruned R.trimmed R.journal) (given_statement s) answer new → IsDecidedOf R (given_statement s) answer new
   statement_decided s answer new fits above d = record { said = tt; text = fits; decided = decided_here (given_statement s) answer new (alike_above R is.lawful is.below s above) d }
 
   pub proof_decided : (p : Proof) (answer : Result Taken Check) (new : List Record) → IsProof p → IsDecided (setting verifies t.state) (pruned R.trimmed R.journal) (given_proof p) answer new → IsDecidedOf R (given_proof p) answer new
   proof_decided p answer new fits d = record { said = tt; text = fits; decided = decided_here (given_proof p) answer new (proofs_alike R.here R.journal R.trimmed p) d }
 
-  -- the first mark that it names is that of the update below which it stands
+  -- the first mark that it names is that of the update that it is below
   pub first_below : (s : Signed) (found : Option (List ℕ)) → PassesEarly R.here (pruned R.trimmed R.journal) s → ((ts : List Update) → t.marks.list.items ≡ map mark_of ts → found ≡ option_map id_of_update (find (names s.statement) ts)) → below_of R.here R.journal R.trimmed s ≡ found
   first_below s found passes first = below_is R.here R.journal R.trimmed s passes.new passes.passed ∙ sym (first R.trimmed is.marks)
 

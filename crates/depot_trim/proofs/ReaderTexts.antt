@@ -1,4 +1,4 @@
--- What becomes of a text that a reader is given is what becomes of the value that is read from it.
+-- A text given to a reader has the outcome of the value that it decodes to.
 use Rattle.std.proofs.Common.{◌≡◌, ◌<◌, ℕ, List, length, Result, Ok, Err, refl, ap, ◌∙◌, arith}
 use Rattle.depot_base.specs.Closed.{Closed, closing, rest_of}
 use Rattle.depot_base.specs.Format.{◌>>=◌, FirstFault}

@@ -1,4 +1,4 @@
--- What becomes of something that a reader is given, by what its checks over the pruned journal say.
+-- The outcome of what a reader is given, by what its checks over the pruned journal say.
 use Rattle.std.proofs.Common.{◌≡◌, ℕ, Bool, true, false, cond, ◌||◌, ◌&&◌, List, [], ◌∷◌, ◌++◌, length, Option, Some, None, Result, Ok, Err, refl, sym, ap, ◌∙◌}
 use Rattle.std.specs.Prelude.{find, is_some, option_map}
 use Rattle.sha2.specs.Sha256.{sha256}
@@ -27,7 +27,7 @@ use Rattle.depot_laws.proofs.PrunedReadings.{kept_same}
 use Rattle.depot_trim.specs.ReaderView.{WasTrimmed}
 use Rattle.depot_trim.proofs.ReaderGrowth.{trimmed_within, none_more}
 
--- ---- what stands below
+-- ---- what is below
 
 known_alike : (here : Setting) (J : List Record) (T : List Update) (s : Signed) → is_known here (pruned T J) (given_statement s) ≡ is_known here J (given_statement s)
 unfolding is_known
@@ -52,7 +52,7 @@ early_above here J T s c new failed = below_by here J T s false true (sym (known
 pub below_is : (here : Setting) (J : List Record) (T : List Update) (s : Signed) → is_known here (pruned T J) (given_statement s) ≡ false → first (checks_to_signature here s) ≡ None → below_of here J T s ≡ option_map id_of_update (find (names s.statement) T)
 below_is here J T s new passed = below_by here J T s false false (sym (known_alike here J T s) ∙ new) (ap (λ (o : Option Check). is_some o) passed)
 
--- ---- what is told
+-- ---- what is reported
 
 pub told_below : (R : Reader) (s : Signed) (id : List ℕ) → below_of R.here R.journal R.trimmed s ≡ Some id → reader_outcome R (given_statement s) ≡ stands_below id
 unfolding reader_outcome
@@ -73,7 +73,7 @@ pub told_too_full : (R : Reader) (x : Given) (full : Full) → full_by R.here.me
 unfolding told_as_node
 told_too_full R x full e = ap (λ (o : Option Full). told_unless R o (answer_to R.here R.journal x) (growth R.here R.journal x)) e
 
--- what grows by nothing is told as it is
+-- growth by nothing is answered as it is
 pub told_plainly : (R : Reader) (x : Given) (answer : Result Taken Check) → answer_to R.here R.journal x ≡ answer → growth R.here R.journal x ≡ [] → told_as_node R x ≡ told answer R
 told_plainly R x answer is none =
     told_with_room R x answer is (ap (full_by R.here.me R.journal) none) ∙ ap (λ (rs : List Record). told answer (with_more R rs)) none ∙ ap (λ (Q : Reader). told answer Q) (none_more R)
@@ -86,7 +86,7 @@ unfolding growth
 known_grows here K s e = ap (growth_by K (given_statement s)) e
 
 module _ (R : Reader) (l : IsLawful R.here R.journal) (w : WasTrimmed R) where
-  -- a statement that doesn't stand below is answered as by the pruned journal
+  -- a statement that isn't below is answered as by the pruned journal
   pub alike_above : (s : Signed) → below_of R.here R.journal R.trimmed s ≡ None → AnswersAlike R.here R.journal (pruned R.trimmed R.journal) (given_statement s)
   alike_above s above = statements_alike R.here R.journal R.trimmed l (trimmed_within R w) s above
 
@@ -105,7 +105,7 @@ module _ (R : Reader) (l : IsLawful R.here R.journal) (w : WasTrimmed R) where
       let alike = alike_above s above in
       told_here R s above ∙ told_plainly R (given_statement s) (Err c) (sym alike.answer ∙ answer) (sym alike.growth ∙ none)
 
--- a proof is told as by a node
+-- a proof is reported as by a node
 pub told_proof : (R : Reader) (p : Proof) → reader_outcome R (given_proof p) ≡ told_as_node R (given_proof p)
 unfolding reader_outcome
 told_proof R p = refl

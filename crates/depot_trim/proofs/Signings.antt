@@ -1,4 +1,4 @@
--- What speaks against signing a checkpoint, and the call by which one is signed.
+-- What prevents signing a checkpoint, and the call that signs one.
 use Rattle.std.proofs.Common.{◌≡◌, ◌≢◌, ◌↔◌, List, ℕ, Result, Ok, Err, IsErrOf, IsErrAnd, refl, sym, subst}
 use Rattle.depot_base.specs.declared.record.Record.{Record}
 use Rattle.depot_model.specs.Checks.{Setting}

@@ -1,4 +1,4 @@
--- What is found among the elements in front of a place, and then of one more.
+-- What is found among the elements before a place, and then of one more.
 use Rattle.std.proofs.Common.{◌≡◌, ◌∙◌, ℕ, zero, suc, ◌+◌, ◌<◌, ◌≤◌, Bool, true, false, cond, ◌||◌, ◌&&◌, List, [], ◌∷◌, ◌++◌, length, map, take, drop, Option, Some, add-one, slice_index_or, arith, refl, sym, ap}
 use Rattle.std.specs.Prelude.{slice_get}
 use Rattle.std.specs.List.{filter, list_any, list_all, flat_map}
@@ -14,7 +14,7 @@ use Rattle.depot_base.specs.declared.update.Update.{Update}
 use Rattle.depot_model.specs.Items.{place_of_id, places_of}
 use Rattle.depot_laws.proofs.PrunedReadings.{filter_both}
 
--- what a loop has at a place stands there
+-- what a loop has at a place is there
 pub element_at : {X : Type 0} (xs : List X) (i : ℕ) (x : X) → i < length xs → x ≡ slice_index_or xs i x → slice_get xs i ≡ Some x
 element_at xs i x low is = let y = at_place xs i low in y.1 ∙ ap (λ (z : _). Some z) (sym (is ∙ index_is xs i x y.0 y.1)) where
   index_is : {X : Type 0} (xs : List X) (i : ℕ) (x y : X) → slice_get xs i ≡ Some y → slice_index_or xs i x ≡ y
@@ -22,20 +22,20 @@ element_at xs i x low is = let y = at_place xs i low in y.1 ∙ ap (λ (z : _). 
   index_is (z ∷ xs) zero x y e = cc
   index_is (z ∷ xs) (suc i) x y e = index_is xs i x y e
 
--- what stands at a place of a mapped list
+-- what is at a place of a mapped list
 pub map_at : {X Y : Type 0} (f : X → Y) (xs : List X) (i : ℕ) (x : X) → slice_get xs i ≡ Some x → slice_get (map f xs) i ≡ Some (f x)
 map_at f [] i x at = absurd cc
 map_at f (y ∷ xs) zero x at = let same : y ≡ x = cc in ap (λ (z : _). Some (f z)) same
 map_at f (y ∷ xs) (suc i) x at = map_at f xs i x at
 
--- all stand in front of a place behind them
+-- all precede a place after them
 pub whole : {X : Type 0} (i : ℕ) (xs : List X) → length xs ≤ i → take i xs ≡ xs
 whole zero [] le = refl
 whole zero (x ∷ xs) le = absurd (omega (arith, le))
 whole (suc i) [] le = refl
 whole (suc i) (x ∷ xs) le = ap (λ (ys : List _). x ∷ ys) (whole i xs (omega (arith, le)))
 
--- a list is its front and what stands behind
+-- a list is its prefix and what follows
 pub halves : {X : Type 0} (n : ℕ) (xs : List X) → take n xs ++ drop n xs ≡ xs
 halves zero xs = refl
 halves (suc n) [] = refl

@@ -6,7 +6,7 @@ use Rattle.depot_model.specs.Opening.{no_leaves, many_leaves, made_text, make_of
 use Rattle.depot_trim.specs.declared.make_error.MakeError.{MakeError}
 use Rattle.depot_trim.specs.declared.make_error.MakeError.TheVariants as refused
 
--- Memory may stand in place of each answer
+-- `Memory` may replace each answer
 abbrev pub Makes : Setting → List Record → Result (List ℕ) MakeError → Type 0
 Makes here J (Ok text) = make_of here J ≡ made_text text
 Makes here J (Err refused.Memory) = Unit {0}

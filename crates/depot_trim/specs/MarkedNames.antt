@@ -31,6 +31,6 @@ earlier_of None b = b
 earlier_of (Some x) None = Some x
 earlier_of (Some x) (Some y) = if nat_lt y x then Some y else Some x
 
--- of each name the place of the first of these marks that has it
+-- for each name the place of the first of these marks that has it
 pub record AreFirsts (ms : List UpdateMark) (firsts : BTreeMap Name ℕ) : Type 0 where
   pub first : (n : Name) → get name_cmp firsts n ≡ first_place (λ m. has_name m n) ms

@@ -13,7 +13,7 @@ use Rattle.depot_trim.specs.declared.opening.OpenError.TheVariants as failed
 abbrev pub IsOfOther : Setting → List Record → (text given mine : List ℕ) → Type 0
 IsOfOther here J text given mine = (opened_text here J text ≡ of_roster given) × (mine ≡ hash_of_roster here.listed)
 
--- what a text is opened to, or why it isn't; Memory may stand in place of each answer
+-- what a text is opened to, or why it isn't; `Memory` may replace each answer
 abbrev pub Opens : Setting → List Record → List ℕ → Result Checkpoint OpenError → Type 0
 Opens here J text (Ok c) = IsCheckpoint c × ((text ≡ text_of_checkpoint c) × (opened_text here J text ≡ opened (ids_of c)))
 Opens here J text (Err failed.Memory) = Unit {0}

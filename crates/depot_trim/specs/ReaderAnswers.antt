@@ -1,4 +1,4 @@
--- What is answered where a reader is to be made, and what a reader answers.
+-- What is answered when a reader is to be made, and what a reader answers.
 use Rattle.std.specs.Prelude.{◌≡◌, ℕ, List, Result, Ok, Err, Some, slice_get}
 use Rattle.depot_base.specs.declared.record.Record.{Record}
 use Rattle.depot_base.specs.declared.update.Update.{Update}
@@ -18,7 +18,7 @@ use Rattle.depot_trim.specs.declared.trim_error.TrimTake.TheVariants as failed
 use Rattle.depot_trim.specs.declared.trimmed.Trimmed.{Trimmed}
 use Rattle.depot_trim.specs.ReaderView.{IsReaderOf}
 
--- What a node answers where a reader is to be made of it; Memory may stand in place of each answer.
+-- What a node answers when a reader is to be made of it; `Memory` may replace each answer.
 abbrev pub Trims : {S : Type 0} → Verifies → Setting → List Record → List ℕ → Result (Trimmed S) TrimError → Type 0
 Trims verifies here J text (Ok t) = (R : Reader) × ((trim_of here J text ≡ reading R) × IsReaderOf verifies R t)
 Trims verifies here J text (Err refused.Memory) = Unit {0}
@@ -27,8 +27,8 @@ Trims verifies here J text (Err (refused.OtherRoster given mine)) = (trim_of her
 Trims verifies here J text (Err (refused.Unknown id)) = trim_of here J text ≡ unopened (with_unknown id)
 Trims verifies here J text (Err (refused.Unsigned node)) = trim_of here J text ≡ unsigned node
 
--- What a reader answers where this becomes of what it is given, and what it is then; Memory may stand in place of each answer, and
--- leaves the reader.
+-- What a reader answers where this is the outcome of what it is given, and the reader afterwards; `Memory` may replace
+-- each answer and leaves the reader unchanged.
 abbrev pub Becomes : {S : Type 0} → Verifies → Reader → ReaderOutcome → Result Taken TrimTake → Trimmed S → Type 0
 Becomes verifies R outcome (Ok taken) t = (then : Reader) × ((outcome ≡ told (Ok taken) then) × IsReaderOf verifies then t)
 Becomes verifies R outcome (Err failed.Memory) t = IsReaderOf verifies R t

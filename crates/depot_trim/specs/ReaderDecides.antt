@@ -1,4 +1,4 @@
--- What is decided of a statement or a proof that a reader is given, and what its journal grows by.
+-- The decision on a statement or a proof that a reader is given, and what its journal grows by.
 use Rattle.std.specs.Prelude.{◌≡◌, ℕ, List, Option, None, Result, Ok, Err}
 use Rattle.depot_base.specs.declared.check.Check.{Check}
 use Rattle.depot_base.specs.declared.record.Record.{Record}
@@ -33,8 +33,8 @@ abbrev pub as_told : Result Taken Check → Result Taken TrimTake
 as_told (Ok taken) = Ok taken
 as_told (Err c) = Err (failed.Refused c)
 
--- The reader's journal may grow by these records: a node with the whole journal appends them for a statement or a proof, and there
--- is room for them.
+-- The reader's journal may grow by these records: a node with the whole journal appends them for a statement or a
+-- proof, and there is room for them.
 pub record MayTake (R : Reader) (new : List Record) : Type 0 where
   pub given : Given
   pub said : IsSaid given
@@ -42,8 +42,8 @@ pub record MayTake (R : Reader) (new : List Record) : Type 0 where
   pub grows : growth R.here R.journal given ≡ new
   pub room : full_by R.here.me R.journal new ≡ None
 
--- Whosever reader it was: where the journal may grow by these records, and has so many leaves of other writers then, now it is the
--- reader of the longer one.
+-- For every reader with this state: where the journal may grow by these records, and then has so many leaves of other
+-- writers, this is the reader of the longer journal.
 abbrev pub GrowsBy : {S : Type 0} → Verifies → List Record → Option ℕ → Trimmed S → Trimmed S → Type 0
 GrowsBy verifies new leaves_then old now = (R : Reader) → IsReaderOf verifies R old → MayTake R new
     → leaves_then ≡ leaves_with (accepted R.journal) old.counts.leaves new → IsReaderOf verifies (with_more R new) now

@@ -20,7 +20,7 @@ use Rattle.depot_trim.specs.declared.trimmed.Trimmed.{Trimmed}
 abbrev pub mark_of : Update → UpdateMark
 mark_of u = record { writer = u.writer; seq = u.seq; prev = u.prev; id = id_of_update u }
 
--- A front of the reader's journal was trimmed below these ids, and then the journal went on.
+-- A prefix of the reader's journal was trimmed below these ids; the rest came later.
 pub record WasTrimmed (R : Reader) : Type 0 where
   pub front : List Record
   pub more : List Record
@@ -28,7 +28,7 @@ pub record WasTrimmed (R : Reader) : Type 0 where
   pub journal : R.journal ≡ front ++ more
   pub trimmed : R.trimmed ≡ trimmed front ids
 
--- What is kept is that of this reader. Its journal is lawful and isn't empty.
+-- The state is that of this reader. Its journal is lawful and isn't empty.
 pub record IsReaderOf {S : Type 0} (verifies : Verifies) (R : Reader) (t : Trimmed S) : Type 0 where
   pub lawful : IsLawful R.here R.journal
   pub some : is_empty R.journal ≡ false

@@ -1,4 +1,4 @@
--- What a node answers where it is to sign a checkpoint, and what its journal is then.
+-- What a node answers when it is to sign a checkpoint, and its journal afterwards.
 use Rattle.std.specs.Prelude.{◌≡◌, ◌≢◌, ℕ, List, Result, Ok, Err, IsErrOf, IsErrAnd}
 use Rattle.depot_base.specs.Writes.{one_change}
 use Rattle.depot_base.specs.declared.record.Record.{Record}
@@ -31,12 +31,12 @@ signing_records here J text = put_records here J (signing_changes text)
 abbrev pub MaySignCheckpoint : Setting → List Record → List ℕ → Type 0
 MaySignCheckpoint here J text = (ids : List (List ℕ)) × (opened_text here J text ≡ opened ids)
 
--- the node may sign it, and this is what the put comes to
+-- the node may sign it, and this is the outcome of the put
 abbrev pub PutsCheckpoint : Setting → List Record → List ℕ → Result PutDone PutError → List Record → Type 0
 PutsCheckpoint here J text answer then = MaySignCheckpoint here J text × Puts here J (signing_changes text) answer then
 
--- What a node answers where it is to sign this text, and the journal after it. Memory may stand in place of each answer, and then
--- nothing is appended; nor is it by a stopped node.
+-- What a node answers when it is to sign this text, and the journal afterwards. `Memory` may replace each answer; then
+-- nothing is appended. A stopped node appends nothing either.
 abbrev pub SignsCheckpoint : Setting → List Record → List ℕ → Result PutDone CheckpointError → List Record → Type 0
 SignsCheckpoint here J text (Ok done) then = PutsCheckpoint here J text (Ok done) then
 SignsCheckpoint here J text (Err sign.Memory) then = then ≡ J
@@ -50,7 +50,7 @@ SignsCheckpoint here J text (Err (sign.Tips n)) then = PutsCheckpoint here J tex
 SignsCheckpoint here J text (Err (sign.Collides h)) then = PutsCheckpoint here J text (Err (put.Collides h)) then
 SignsCheckpoint here J text (Err (sign.Full what)) then = PutsCheckpoint here J text (Err (put.Full what)) then
 
--- the call was to sign this text, and answered so; after each error but Disk nothing is appended
+-- the call was to sign this text and answered this; after each error but `Disk` nothing is appended
 abbrev pub IsSigningCall : {N : Type 0} → Ghosts N → N → N → List ℕ → Result PutDone CheckpointError → Type 0
 IsSigningCall g old new text result =
     IsNodeCall g old new (signing_records (g.stands old) (g.records old) text)
@@ -58,7 +58,7 @@ IsSigningCall g old new text result =
 
 -- ---- on the way
 
--- what is found before the put: the key and the value where the node may sign, or why it may not
+-- what is found before the put: the key and the value if the node may sign, else the refusal
 abbrev pub IsDue : Setting → List Record → List ℕ → Result SigningPut CheckpointError → Type 0
 IsDue here J text (Ok made) = MaySignCheckpoint here J text × ((made.key ≡ checkpoint_key text) × (made.value ≡ text))
 IsDue here J text (Err sign.Memory) = Unit {0}
@@ -67,7 +67,7 @@ IsDue here J text (Err (sign.OtherRoster given mine)) = IsOfOther here J text gi
 IsDue here J text (Err (sign.Unknown id)) = opened_text here J text ≡ with_unknown id
 IsDue here J text (Err e) = ⊥
 
--- why a text isn't opened, and the answer of a put, as those of signing
+-- why a text isn't opened, and the answer of a put, as answers of signing
 abbrev pub as_unopened : OpenError → CheckpointError
 as_unopened open_error.Memory = sign.Memory
 as_unopened (open_error.IllFormed at) = sign.IllFormed at

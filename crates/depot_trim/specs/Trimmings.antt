@@ -28,7 +28,7 @@ use Rattle.depot_trim.specs.declared.trim_error.TrimError.TheVariants as refused
 abbrev pub ids_in : List HelloLeaf → List (List ℕ)
 ids_in leaves = map (λ l. l.id) leaves
 
--- the answer is what a test says of the update at a place of these
+-- the answer is what a test says of the update at this place
 abbrev pub IsAnswerAt : List Update → ℕ → (Update → Bool) → Bool → Type 0
 IsAnswerAt us place test answer = (u : Update) → slice_get us place ≡ Some u → answer ≡ test u
 
@@ -52,7 +52,7 @@ first_unsigned us text ids nodes = option_map (λ e. e.node) (find (λ e. not (h
 abbrev pub is_latest_of : List Update → List (List ℕ) → Update → Bool
 is_latest_of us keys u = list_any (λ key. has_id (latest_in key us) (id_of_update u)) keys
 
--- an update with this id is one of these, and of none of its keys a latest write among them
+-- an update with this id is among these, and is a latest write of none of its keys there
 abbrev pub is_given_up_below : List Update → Update → Bool
 is_given_up_below us u = has_id us (id_of_update u) && not (is_latest_below us u)
 
@@ -71,16 +71,17 @@ as_untrimmed (open_error.IllFormed at) = refused.IllFormed at
 as_untrimmed (open_error.OtherRoster given mine) = refused.OtherRoster given mine
 as_untrimmed (open_error.Unknown id) = refused.Unknown id
 
--- of each of these updates, whether its id is that of one that is given up
+-- for each of these updates, whether its id is that of one that is given up
 abbrev pub given_up : List Update → List Update → List Bool
 given_up ts us = map (λ u. has_id ts (id_of_update u)) us
 
--- of each of these updates, whether it is trimmed below these ids, in whichever lawful journal they are the accepted ones
+-- for each of these updates, whether it is trimmed below these ids, in every lawful journal whose accepted updates
+-- these are
 abbrev pub TellTrimmed : List Update → List (List ℕ) → List Bool → Type 0
 TellTrimmed us ids flags = (here : Setting) (J : List Record) → IsLawful here J → accepted J ≡ us → flags ≡ given_up (trimmed J ids) (accepted J)
 
--- The state is that of a journal without the signed statements of the updates that are given up, of which these flags tell. The record may
--- stand behind it, and the updates that were accepted then are the first of these.
+-- The state is that of a journal without the signed statements of the updates that these flags mark as given up. The
+-- record may follow the journal, whose accepted updates are a prefix of these.
 pub record IsFilling {S : Type 0} (verifies : Verifies) (us : List Update) (flags : List Bool) (ts : List Update) (J : List Record) (r : Record) (v : View S) : Type 0 where
   pub flagged : flags ≡ given_up ts us
   pub state : IsStateOf (pruned ts J) v
@@ -92,6 +93,6 @@ pub record IsFilling {S : Type 0} (verifies : Verifies) (us : List Update) (flag
 abbrev pub MayFill : {S : Type 0} → Verifies → List Update → List Bool → View S → Record → Type 0
 MayFill verifies us flags v r = (ts : List Update) × ((J : List Record) × IsFilling verifies us flags ts J r v)
 
--- of whichever it was, now it is the state of that with the record behind it
+-- from a state of some such journal it becomes the state of that journal with the record appended
 abbrev pub Fills : {S : Type 0} → Verifies → List Update → List Bool → View S → Record → View S → Type 0
 Fills verifies us flags v r w = (ts : List Update) (J : List Record) → IsFilling verifies us flags ts J r v → IsStateOf (pruned ts (J ++ r ∷ [])) w

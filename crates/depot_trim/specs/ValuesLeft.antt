@@ -9,7 +9,8 @@ use Rattle.depot_values.specs.Values as values
 use Rattle.depot_values.specs.declared.values.Values.{Values}
 use Rattle.depot_trim.specs.Trimmings.{given_up, kept_of}
 
--- of whichever updates these flags tell that they are given up: the values are those held in the journal that the updates left name
+-- for any updates that these flags mark as given up: the values are those held in the journal that the remaining
+-- updates name
 abbrev pub AreValuesLeft : List Record → List Bool → Values → Type 0
 AreValuesLeft J flags kept = (ts : List Update) (hash : List ℕ) → flags ≡ given_up ts (accepted J)
     → values.held_in kept hash ≡ value_with hash (filter (is_named_by (left_of ts (accepted J))) (held J))
@@ -20,6 +21,6 @@ AreValuesLeft J flags kept = (ts : List Update) (hash : List ℕ) → flags ≡ 
 abbrev pub AreWanted : List (List ℕ) → (List ℕ → ℕ → Bool) → Values → Type 0
 AreWanted held wants kept = (hash : List ℕ) → values.held_in kept hash ≡ kept_of held wants hash
 
--- whichever of the held ones were kept, now those are that are wanted so, too
+-- whichever of the held ones were kept, those that are wanted by this test are now kept too
 abbrev pub KeepsMore : List (List ℕ) → (List ℕ → ℕ → Bool) → Values → Values → Type 0
 KeepsMore held more old new = (wants : List ℕ → ℕ → Bool) → AreWanted held wants old → AreWanted held (λ hash size. wants hash size || more hash size) new

@@ -1,4 +1,4 @@
-//! What stands below a checkpoint.
+//! What is below a checkpoint.
 ghost use Rattle.std.specs.Prelude.{◌≡◌, ◌<◌, List, [], ◌∷◌, ◌++◌, length, map, filter, IfOk, OnOk, Some, slice_get};
 ghost use Rattle.depot_base.specs.declared.record.Record.{Record};
 ghost use Rattle.depot_base.specs.declared.update.Update.{Update};
@@ -16,8 +16,8 @@ use depot_graph::Graph;
 use depot_model::{HelloLeaf, Past};
 use std::alloc::Global;
 
-/// The updates that are, or precede, one of these leaves, in the order in which they came. What an update
-/// names is below where the update is, so they fit behind one another.
+/// Returns the updates that are, or precede, one of these leaves, in the order of the journal. The parents of an update
+/// below are below too, so each fits after those before it.
 pub(crate) fn graph_below(
     alloc: Global,
     graph: &Graph,
@@ -37,7 +37,7 @@ pub(crate) fn graph_below(
     Ok(below)
 }
 
-/// Adds the update of an item of a graph to a graph, where it fits.
+/// Adds the update of a graph's item to another graph, if it fits.
 fn add_item(below: &mut Graph, graph: &Graph, item: u32) -> Result<(), Memory>
     requires item { item < length (⟦<Graph as Past>⟧.updates graph.now) }
     requires text { (u : Update) → slice_get (⟦<Graph as Past>⟧.updates graph.now) item ≡ Some u → IsUpdate u }
@@ -50,7 +50,7 @@ fn add_item(below: &mut Graph, graph: &Graph, item: u32) -> Result<(), Memory>
     Ok(())
 }
 
-/// Of each item of a graph, whether it is below and of none of its keys a latest write there: whether it is trimmed.
+/// For each item of a graph, whether it is trimmed: it is below, and a latest write of none of its keys there.
 pub(crate) fn trimmed_items(
     alloc: Global,
     graph: &Graph,
@@ -65,7 +65,7 @@ pub(crate) fn trimmed_items(
     Ok(trimmed)
 }
 
-/// Whether an update with this id is below, and of none of its keys a latest write there.
+/// Whether an update with this id is below, and a latest write of none of its keys there.
 fn is_given_up(below: &Graph, id: &Hash32, update: &Update) -> bool
     requires { id.now ≡ id_of_update update.now }
     ensures { result ≡ is_given_up_below (⟦<Graph as Past>⟧.updates below.now) update.now }
@@ -76,7 +76,7 @@ fn is_given_up(below: &Graph, id: &Hash32, update: &Update) -> bool
     }
 }
 
-/// Whether an item is a latest write of a key of one of these writes.
+/// Whether an item is a latest write of one of these writes' keys.
 fn is_latest(graph: &Graph, item: u32, writes: &[Write]) -> bool
     requires { item < length (⟦<Graph as Past>⟧.updates graph.now) }
     ensures { IsAnswerAt (⟦<Graph as Past>⟧.updates graph.now) item (is_latest_of (⟦<Graph as Past>⟧.updates graph.now) (map (λ w. w.key) writes.now)) result }

@@ -18,7 +18,7 @@ use depot_model::{Scheme, Taken};
 use depot_readings::{Growth, leaves_with};
 
 impl<S: Scheme> Trimmed<S> {
-    /// A decision is carried out where there is room for its growth, and its answer given.
+    /// Carries out a decision if there is room for its growth, and returns its answer.
     pub(crate) fn carry_out(&mut self, decision: Decision) -> Result<Taken, TrimTake>
         requires reader { (R : Reader) × (IsReaderOf S.verifies R self.old × ((x : Given) × IsDecidedOf R x decision.answer decision.growth)) }
         requires joined { AreJoined self.old.state.accepted decision.parents }
@@ -49,7 +49,7 @@ impl<S: Scheme> Trimmed<S> {
         }
     }
 
-    /// How many leaves of other writers there are with a growth, where it takes an update of another.
+    /// How many leaves of other writers there are with a growth, if it takes an update of another writer.
     fn leaves_with(&self, growth: &Growth) -> Option<u32>
         requires { (R : Reader) × IsReaderOf S.verifies R self.now }
         ensures { (R : Reader) → IsReaderOf S.verifies R self.now → result ≡ leaves_with (accepted R.journal) self.now.counts.leaves growth.now }
@@ -57,8 +57,8 @@ impl<S: Scheme> Trimmed<S> {
         leaves_with(self.state.graph(), self.counts.leaves, growth)
     }
 
-    /// The journal grows. With the growth there are so many leaves of other writers, where it takes an update of another. Memory for the
-    /// values that it names is found first, so that nothing is kept of it where none is left.
+    /// Grows the journal. With the growth there are so many leaves of other writers, if it takes an update of another.
+    /// Memory for the values that it names is reserved first, so that nothing is kept of it on `Memory`.
     fn grow(&mut self, growth: Growth, leaves: Option<u32>) -> Result<(), Memory>
         requires { (R : Reader) × (IsReaderOf S.verifies R self.old × MayTake R growth) }
         ensures ok { OnOk result (GrowsBy S.verifies growth leaves self.old self.new) }

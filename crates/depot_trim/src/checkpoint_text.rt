@@ -15,7 +15,8 @@ use std::marker::Model;
 /// The most leaves that a checkpoint names.
 pub const MOST_NAMED: u16 = 1024;
 
-/// The leaves of what a node accepted, under which it is to be known that every node of the roster has seen all.
+/// A checkpoint: a roster, and the leaves of what a node accepted. Its signatures by all members show that each of them
+/// has accepted all updates below.
 #[derive(Drop)]
 pub struct Checkpoint {
     /// SHA-256 of the roster.
@@ -53,8 +54,8 @@ fn whole_checkpoint(alloc: Global, fields: &mut Fields<'_>) -> Result<Checkpoint
     at_end(fields, found)
 }
 
-/// The checkpoint whose text this is (docs/FORMATS.md). `IllFormed` comes exactly where it is no checkpoint's text, with the offset in
-/// bytes of its first fault. Whether a roster has its writers isn't asked.
+/// Decodes a checkpoint's text (docs/FORMATS.md). `IllFormed` is returned exactly when it is no checkpoint's text, with
+/// the offset in bytes of its first fault. It doesn't check that a roster has the writers.
 pub fn decode_checkpoint(alloc: Global, text: &[u8]) -> Result<Checkpoint, DecodeError>
     ensures { Decodes checkpoint text.now result }
 {

@@ -21,8 +21,9 @@ use depot_sign::Roster;
 use depot_update::{decode_record, id_in_own_voucher};
 use std::alloc::Global;
 
-/// The state of a node's journal without the signed statements of the updates that are given up: of each item of the node's graph it is
-/// told whether it is one of them. The node accepted each statement, so no signature is verified again; no text of a record is kept.
+/// Returns the state of a node's journal without the signed statements of the updates that are given up: one flag for
+/// each item of the node's graph says which. The node accepted each statement, so no signature is verified again. No
+/// text of a record is kept.
 pub(crate) fn state_without<R: Replica, S: Scheme>(
     alloc: Global,
     node: &R,
@@ -47,7 +48,7 @@ pub(crate) fn state_without<R: Replica, S: Scheme>(
     Ok(state)
 }
 
-/// The record with this text, which is one's: nothing but memory can be wanting.
+/// Decodes this text, which is a record's: only memory can be lacking.
 fn record_of(alloc: Global, text: &[u8]) -> Result<Record, Memory>
     requires { (r : Record) × (IsRecord r × (text.now ≡ text_of_record r)) }
     ensures { IfOk result (λ item. (r : Record) → IsRecord r → text.now ≡ text_of_record r → item ≡ r) }
@@ -59,7 +60,7 @@ fn record_of(alloc: Global, text: &[u8]) -> Result<Record, Memory>
     }
 }
 
-/// Adds a record, whose text is at hand.
+/// Adds a record, whose text is available.
 fn add_record<S: Scheme>(
     state: &mut State<S>,
     graph: &Graph,
@@ -87,7 +88,7 @@ fn add_record<S: Scheme>(
     }
 }
 
-/// Adds another's statement: an update that is given up without its signature.
+/// Adds another writer's statement, without its signature if it is an update that is given up.
 fn add_foreign<S: Scheme>(
     state: &mut State<S>,
     graph: &Graph,
@@ -107,7 +108,8 @@ fn add_foreign<S: Scheme>(
     }
 }
 
-/// Adds another's update, without its signature where it is given up. It is the graph's next, from which its id is taken.
+/// Adds another writer's update, without its signature if it is given up. It is the graph's next item, from which its
+/// id is taken.
 fn add_foreign_update<S: Scheme>(
     state: &mut State<S>,
     graph: &Graph,
@@ -130,7 +132,7 @@ fn add_foreign_update<S: Scheme>(
     }
 }
 
-/// Adds an update without a signature. It is the graph's next, from which its id is taken.
+/// Adds an update without a signature. It is the graph's next item, from which its id is taken.
 fn add_update<S: Scheme>(state: &mut State<S>, graph: &Graph, update: Update) -> Result<(), Memory>
     requires text { IsUpdate update }
     requires next { slice_get (⟦<Graph as Past>⟧.updates graph.now) (length state.old.accepted) ≡ Some update }
@@ -159,7 +161,7 @@ fn is_next_given_up<S: Scheme>(state: &State<S>, trimmed: &[bool]) -> bool
     flag_at(trimmed, state.graph().count())
 }
 
-/// The id of a statement, of which the body is at hand.
+/// The id of a statement whose body is available.
 #[tactic(auto, using(depot_model::proofs::BodyLaws::body_is_text), unfolding(depot_model::specs::Texts::id_of_statement))]
 fn id_of_body(signed: &Signed) -> Hash32
     requires { IsSigned signed.now }

@@ -1,7 +1,7 @@
-//! What is told of each item.
+//! The flag of each item.
 ghost use Rattle.std.specs.Prelude.{◌≡◌, ◌<◌, length, Some, slice_get};
 
-/// What is told of an item.
+/// The flag of an item.
 pub(crate) fn flag_at(flags: &[bool], item: u32) -> bool
     requires { item < length flags.now }
     ensures { slice_get flags.now item ≡ Some result }

@@ -18,7 +18,8 @@ use depot_readings::{NamedValues, names_in_update};
 use depot_values::Values;
 use std::alloc::Global;
 
-/// The names of the values that the updates of a graph name which aren't given up: of each item it is told whether it is.
+/// The names of the values that the remaining updates of a graph name: one flag for each item says whether it is given
+/// up.
 pub(crate) fn names_left(
     alloc: Global,
     graph: &Graph,
@@ -46,7 +47,7 @@ fn add_names(alloc: Global, named: &mut NamedValues, update: &Update) -> Result<
     Ok(())
 }
 
-/// The held values of a node that runs which its updates name that aren't given up.
+/// The held values that the remaining updates of a running node name.
 pub(crate) fn values_left<N: LocalNode>(
     alloc: Global,
     node: &N,

@@ -6,7 +6,7 @@ use depot_base::{Bytes, Key, Memory};
 use depot_model::hash_of;
 use std::alloc::Global;
 
-/// What stands in front of the hash.
+/// What precedes the hash.
 const FRONT: &[u8; 11] = b"checkpoint:";
 
 /// The key that a checkpoint's text is put under: the 11 bytes `checkpoint:` and then the 32 bytes of the text's SHA-256.

@@ -1,16 +1,21 @@
-//! Checkpoints, and what they let a reader give up.
+//! Checkpoints, and readers that gave up what every member has accepted and superseded.
 //!
-//! A checkpoint names the leaves of what a node accepted, and the roster. A node signs one by a put of its text under its key, once it
-//! accepted all that it names (`make_checkpoint`, `sign_checkpoint`): from then on no own update of the node names anything below. So
-//! where every node of the roster has signed, no correct node names what is below and superseded any more.
+//! A checkpoint names a roster and the leaves of what a node accepted. A node signs one, once it accepted all leaves,
+//! by a put of the checkpoint's text under its key (`make_checkpoint`, `sign_checkpoint`). All its later updates follow
+//! these leaves, so none names anything below as a parent. Once every member has signed, no correct node names what is
+//! below and superseded.
 //!
-//! A reader (`Trimmed`) is made of a node then (`trim`). It gives up the records' texts, the signatures of what is below and superseded, and
-//! the values that only this named; it takes what others send, and reads as the node would with the whole journal. It doesn't write.
+//! A reader (`Trimmed`) is then made of a node (`trim`):
 //!
-//! `specs/Opens.antt` says what a text is opened to, `specs/Making.antt` and `specs/Signing.antt` what a node answers where it is to
-//! make a checkpoint or to sign one, `specs/ReaderView.antt` whose reader a `Trimmed` is, and `specs/ReaderAnswers.antt` what it answers, by
-//! the definitions of `Opening.antt`, `Readers.antt` and `ReaderFeeds.antt` of `depot_model`. The law of it all is `trim_law` of
-//! `depot_laws`, which is passed on here.
+//! - It drops the texts of records, the signatures of updates that are below and superseded, and the values that only
+//!   these named.
+//! - It takes what others send, and answers reads as the node would with the whole journal.
+//! - It writes nothing.
+//!
+//! `specs/Opens.antt` says when a text is opened as a checkpoint; `specs/Making.antt` and `specs/Signing.antt` what a
+//! node answers when it makes or signs one; `specs/ReaderView.antt` which reader a `Trimmed` is, and
+//! `specs/ReaderAnswers.antt` what it answers, by the definitions `Opening`, `Readers` and `ReaderFeeds` of
+//! `depot_model`. That readers and nodes agree is `trim_law` of `depot_laws`, reexported here.
 #![tactic(auto)]
 
 mod below;

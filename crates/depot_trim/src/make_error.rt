@@ -4,7 +4,7 @@ ghost use Rattle.depot_trim.specs.declared.make_error.MakeError.TheVariants as m
 
 use depot_base::Memory;
 
-/// Why a node makes no checkpoint. It is as before.
+/// Why a node makes no checkpoint. The node is unchanged.
 #[derive(Clone, Copy, Debug, PartialEq, Eq)]
 pub enum MakeError {
     /// No memory was found.

@@ -8,8 +8,8 @@ use depot_base::Bytes;
 use depot_model::{Peer, Replica};
 use std::alloc::Global;
 
-/// The text of the checkpoint over all leaves of what a node that runs accepted. `Empty` comes exactly where it accepted nothing, and
-/// `Many` exactly where its leaves are more than 1,024, with their number.
+/// Returns the text of the checkpoint over all leaves of what a running node accepted. `Empty` is returned exactly when
+/// it accepted nothing, and `Many` exactly when there are more than 1,024 leaves, with their number.
 pub fn make_checkpoint<P: Peer>(alloc: Global, node: &P) -> Result<Bytes, MakeError>
     requires { P.stopped node.now ≡ false }
     ensures { Makes (P.stands node.now) (P.records node.now) result }

@@ -1,4 +1,4 @@
-//! The marks of what was trimmed, and which of them comes first by each name.
+//! The marks of trimmed updates, and for each name the first mark that has it.
 ghost use Rattle.std.specs.Prelude.{◌≡◌, IfOk, OnOk};
 ghost use Rattle.std.specs.BTreeMap.{get};
 ghost use Rattle.std.specs.List.{list_any};
@@ -15,8 +15,8 @@ use std::collections::BTreeMap;
 
 pub(crate) type Firsts = BTreeMap<Name, usize>;
 
-/// The updates that were trimmed, by what names them, in the order of the journal. Strangers pick the names, so none is hashed: a look-up
-/// takes logarithmic time, whatever they are.
+/// The marks of trimmed updates, in the order of the journal. Strangers pick the names in them, so none is hashed: a
+/// look-up takes logarithmic time, whatever they are.
 #[derive(Drop)]
 pub struct Marks {
     pub(crate) list: Vec<UpdateMark>,
@@ -49,7 +49,7 @@ impl Marks {
     }
 }
 
-/// Of each name the place of the first of these marks that has it.
+/// For each name the place of the first of these marks that has it.
 fn firsts_of(alloc: Global, marks: &[UpdateMark]) -> Result<Firsts, Memory>
     ensures { IfOk result (λ firsts. AreFirsts marks.now firsts) }
 {

@@ -10,7 +10,7 @@ use depot_graph::Graph;
 use depot_model::Past;
 use std::alloc::Global;
 
-/// The marks of the items of a graph that are trimmed, in their order: of each item it is told whether it is.
+/// The marks of a graph's trimmed items, in their order: one flag for each item says whether it is trimmed.
 pub(crate) fn marks_of(
     alloc: Global,
     graph: &Graph,

@@ -14,8 +14,8 @@ use crate::marked_names::Marks;
 use crate::marks::{Name, UpdateMark};
 use depot_base::{Dep, Hash32, Statement, Update};
 
-/// The id of the first of these updates that a statement names: as a parent, or both are of one writer with one seq or one prev, 32 zero
-/// bytes too. It takes no memory, and looks up a name for each parent and two more.
+/// The id of the first of these updates that a statement names: as a parent, or as one of its own writer with the same
+/// seq or the same prev, be it 32 zero bytes. It takes no memory, and looks up one name for each parent and two more.
 pub(crate) fn first_named(marks: &Marks, statement: &Statement) -> Option<Hash32>
     ensures { (ts : List Update) → marks.now.list.items ≡ map mark_of ts → result ≡ option_map id_of_update (find (names statement.now) ts) }
 {
@@ -50,7 +50,7 @@ fn first_mark(marks: &Marks, statement: &Statement) -> Option<usize>
     }
 }
 
-/// The place of the first mark of an update's writer with its seq or its prev.
+/// The place of the first mark with an update's writer and its seq or its prev.
 fn first_of_numbers(marks: &Marks, update: &Update) -> Option<usize>
     ensures { result ≡ first_place (λ m. (update.now.writer == m.writer) && ((update.now.seq == m.seq) || bytes_eq update.now.prev m.prev)) marks.now.list.items }
 {
@@ -70,7 +70,7 @@ fn first_of_parents(marks: &Marks, update: &Update) -> Option<usize>
     )
 }
 
-/// The place of the mark of an update's prev: 32 zero bytes name nothing.
+/// The place of the mark of an update's prev. A prev of 32 zero bytes names nothing.
 fn first_of_prev(marks: &Marks, update: &Update) -> Option<usize>
     ensures { result ≡ first_place (λ m. is_among m.id (prevs update.now)) marks.now.list.items }
 {

@@ -28,7 +28,7 @@ pub enum OpenError {
     Unknown(Hash32),
 }
 
-/// The checkpoint of a text, where it is of the node's roster and its leaves are all accepted. The graph is the node's.
+/// Opens the text of a checkpoint of the node's roster whose leaves are all accepted. The graph is the node's.
 pub(crate) fn opened<R: Replica>(
     alloc: Global,
     node: &R,

@@ -2,7 +2,7 @@
 
 use depot_base::{Full, Hash32};
 
-/// Why a node signs no checkpoint. It is as before, but after `Disk`.
+/// Why a node signs no checkpoint. The node is unchanged, except after `Disk`.
 #[derive(Clone, Copy, Debug, PartialEq, Eq)]
 pub enum CheckpointError {
     /// No memory was found.
@@ -22,7 +22,7 @@ pub enum CheckpointError {
     },
     /// The first leaf that isn't an accepted update of its writer, by its id.
     Unknown(Hash32),
-    /// The node has made so many statements, and has no leaf left to sign another.
+    /// The node has made so many statements and has no unused leaf to sign another.
     Spent(u32),
     /// The update would have so many entries, more than 1,024.
     Tips(u32),

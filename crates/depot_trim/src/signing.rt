@@ -14,13 +14,13 @@ use depot_local::LocalNode;
 use depot_model::{Past, PutDone, PutError, Replica};
 use std::alloc::Global;
 
-/// Signs a checkpoint by a put of its text under its key: all that it names is in the past of this update.
+/// Signs a checkpoint by a put of its text under its key. All that it names is in the past of this update.
 ///
-/// `Stopped` comes exactly where the disk failed in an earlier call. `IllFormed` comes exactly where the text is no checkpoint's, with
-/// the offset in bytes of its first fault; else `OtherRoster` exactly where it is of another roster than the node's; else `Unknown`
-/// exactly where a leaf isn't an accepted update of its writer, with the first such id. Then come the answers of
-/// [`put`](LocalNode::put). What stands after each is as there: after `Disk` the node is stopped, and where another error is answered, its
-/// journal is as before.
+/// `Stopped` is returned exactly when the disk failed in an earlier call. `IllFormed` is returned exactly when the text
+/// is no checkpoint's, with the offset in bytes of its first fault; else `OtherRoster` exactly when it is of another
+/// roster than the node's; else `Unknown` exactly when a leaf isn't an accepted update of its writer, with the first
+/// such id. Then come the errors of [`put`](LocalNode::put), with the same effects: after `Disk` the node is stopped,
+/// after any other error its journal is unchanged.
 pub fn sign_checkpoint<N: LocalNode>(
     alloc: Global,
     node: &mut N,
@@ -38,14 +38,14 @@ pub fn sign_checkpoint<N: LocalNode>(
     }
 }
 
-/// The key and the value of the put by which a checkpoint is signed.
+/// The key and the value of a put that signs a checkpoint.
 #[derive(Drop)]
 pub struct SigningPut {
     pub(crate) key: Key,
     pub(crate) value: Value,
 }
 
-/// The put by which a text is signed, where it is that of a checkpoint that the node may sign. The graph is the node's.
+/// The put that signs a text, if that is a checkpoint that the node may sign. The graph is the node's.
 fn put_due<R: Replica>(
     alloc: Global,
     node: &R,

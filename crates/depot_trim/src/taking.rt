@@ -21,10 +21,11 @@ use depot_model::{Scheme, Taken, hash_of};
 use depot_update::{decode_proof, decode_signed};
 
 impl<S: Scheme> Trimmed<S> {
-    /// Takes the text of a signed statement of others. `BelowCheckpoint` comes exactly where the statement passes the checks of text,
-    /// writer and signature, isn't here, and names an update that was trimmed: as a parent, or both are of one writer with one seq or one
-    /// prev. Each other answer, but for `Memory`, is that of a node with the whole journal, and the reader is then that of the journal
-    /// with what the node would have appended. `Full` counts the records of the whole journal.
+    /// Takes the text of a signed statement of another writer. `BelowCheckpoint` is returned exactly when the statement
+    /// passes the checks of text, writer and signature, is new, and names a trimmed update: as a parent, or as one of
+    /// its own writer with the same seq or prev. Each other answer but `Memory` is that of a node with the whole
+    /// journal; the reader is then that of the journal with what the node would have appended. `Full` counts the
+    /// records of the whole journal.
     pub fn take_statement(&mut self, text: &[u8]) -> Result<Taken, TrimTake>
         requires { (R : Reader) × IsReaderOf S.verifies R self.old }
         ensures { (R : Reader) → IsReaderOf S.verifies R self.old → ReaderTakes S.verifies R as_statement text.now result self.new }
@@ -51,8 +52,8 @@ impl<S: Scheme> Trimmed<S> {
         }
     }
 
-    /// The same of one that passes the checks up to that of the signature and isn't here. It stands below where it names an update that
-    /// was trimmed, and else the checks go on.
+    /// Takes a new statement that passes the checks up to the signature. It is below if it names a trimmed update; else
+    /// the remaining checks run.
     fn take_passed(&mut self, signed: Signed, id: Hash32, text: &[u8]) -> Result<Taken, TrimTake>
         requires reader { (R : Reader) × IsReaderOf S.verifies R self.old }
         requires signed { IsSigned signed }
@@ -69,7 +70,7 @@ impl<S: Scheme> Trimmed<S> {
         self.carry_out(decision)
     }
 
-    /// Takes the text of a proof, which stands below nothing. All else is as of a statement.
+    /// Takes the text of a proof, which is never below. All else is as for a statement.
     pub fn take_proof(&mut self, text: &[u8]) -> Result<Taken, TrimTake>
         requires { (R : Reader) × IsReaderOf S.verifies R self.old }
         ensures { (R : Reader) → IsReaderOf S.verifies R self.old → ReaderTakes S.verifies R as_proof text.now result self.new }
@@ -84,8 +85,9 @@ impl<S: Scheme> Trimmed<S> {
         }
     }
 
-    /// Takes a value, whose text is its bytes, at most 65,536: it is known where one of its hash is held, new where a kept update names its
-    /// hash and its length, and else refused as unwanted. It takes no room. After `Memory` and a refusal the reader is as before.
+    /// Takes a value, whose text is its bytes, at most 65,536. It is known if a value of its hash is held, new if a
+    /// kept update names its hash and length, and else refused as unwanted. It takes no room in the journal. On
+    /// `Memory` and after a refusal the reader is unchanged.
     pub fn take_value(&mut self, text: &[u8]) -> Result<Taken, TrimTake>
         ensures { (R : Reader) → IsReaderOf S.verifies R self.old → ReaderTakes S.verifies R as_value text.now result self.new }
     {

@@ -36,13 +36,13 @@ impl From<Memory> for TrimError {
 /// Why a reader doesn't take what it is given.
 #[derive(Clone, Copy, Debug, PartialEq, Eq)]
 pub enum TrimTake {
-    /// No memory was found; the reader is as before.
+    /// No memory was found; the reader is unchanged.
     Memory,
-    /// The statement names an update that was trimmed: the first such in the order of the journal, by its id. The reader is as before.
+    /// The statement names a trimmed update: the id of the first one in the journal's order. The reader is unchanged.
     BelowCheckpoint(Hash32),
-    /// There is no room for what the journal would grow by; the reader is as before.
+    /// There is no room for what the journal would grow by. The reader is unchanged.
     Full(Full),
-    /// The first check that fails. The reader is as before, but where a fork or a step back convicts its writer.
+    /// The first check that fails. The reader is unchanged, except that a fork or a step backward convicts its writer.
     Refused(Check),
 }
 

@@ -20,11 +20,12 @@ use depot_readings::{JournalCounts, NamedValues};
 use depot_values::Values;
 use std::alloc::Global;
 
-/// A reader: what it keeps of the journal of a node that it was made from, without what every node of the roster signed off, and of what it
-/// took since. It takes and reads, and doesn't write. Records' texts, signatures of trimmed updates and dropped values aren't kept.
+/// A reader: what it keeps of the journal it was made from and of what it took since, without what every member signed
+/// off. It takes and reads, and doesn't write. The texts of records, the signatures of trimmed updates and dropped
+/// values aren't kept.
 ///
-/// Each call says what it answers for the reader whose it is (`IsReaderOf`): the node's journal when it was trimmed, with all that was taken
-/// since, the updates that were trimmed, and the values that are held.
+/// Each call states its answer for the reader that this is (`IsReaderOf`): the node's journal when it was trimmed, with
+/// all that was taken since; the trimmed updates; and the held values.
 #[derive(Drop)]
 pub struct Trimmed<S: Scheme> {
     pub(crate) alloc: Global,
@@ -36,8 +37,8 @@ pub struct Trimmed<S: Scheme> {
 }
 
 impl<S: Scheme> Trimmed<S> {
-    /// The items of the latest writes of a key among all accepted updates, in the listed order: as at a node with the whole journal. Each
-    /// is that of a kept update. It takes no memory.
+    /// The items of a key's latest writes among all accepted updates, in the listed order, as at a node with the whole
+    /// journal. Each is that of a kept update. It takes no memory.
     pub fn latest(&self, key: &Key) -> &[u32]
         ensures latest { (R : Reader) → IsReaderOf S.verifies R self.now → AreLatestIn key.now (accepted R.journal) (updates_at (accepted R.journal) result.now) }
         ensures items { (R : Reader) → IsReaderOf S.verifies R self.now → All (IsKeptItem R) result.now }
@@ -53,8 +54,8 @@ impl<S: Scheme> Trimmed<S> {
         self.state.graph().update(item)
     }
 
-    /// The value that the update of a kept item writes under the key, where it is held. None exactly where it isn't, or where the write is a
-    /// deletion. It takes no memory.
+    /// The value that the update of a kept item writes under the key, where it is held. `None` exactly when it isn't,
+    /// or where the write is a deletion. It takes no memory.
     pub fn value_of(&self, item: u32, key: &Key) -> Option<&[u8]>
         requires item { (R : Reader) × (IsReaderOf S.verifies R self.now × IsKeptItem R item) }
         requires writes { (R : Reader) (u : Update) → IsReaderOf S.verifies R self.now → slice_get (accepted R.journal) item ≡ Some u → Writes key.now u }
@@ -69,7 +70,7 @@ impl<S: Scheme> Trimmed<S> {
         held_as(&self.values, &name)
     }
 
-    /// The kept update with an id. None exactly where the id is of no kept update. It takes no memory.
+    /// The kept update with an id. `None` exactly when the id is of no kept update. It takes no memory.
     pub fn body(&self, id: &Hash32) -> Option<&Update>
         ensures { (R : Reader) → IsReaderOf S.verifies R self.now → option_copied result ≡ named (kept R) id.now }
     {
@@ -90,7 +91,7 @@ impl<S: Scheme> Trimmed<S> {
         (self.accepted() as usize).saturating_sub(self.marks.list.len()) as u32
     }
 
-    /// How many updates were accepted, those that were trimmed among them. It takes no memory.
+    /// How many updates were accepted, the trimmed ones too. It takes no memory.
     pub fn accepted(&self) -> u32
         ensures { (R : Reader) → IsReaderOf S.verifies R self.now → result ≡ length (accepted R.journal) }
     {

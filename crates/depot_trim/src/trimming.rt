@@ -25,11 +25,12 @@ use depot_model::{HelloLeaf, NodeState, Past, Scheme};
 use depot_sign::Roster;
 use std::alloc::Global;
 
-/// Makes a reader of a node that runs, where every node of the roster signed the checkpoint of this text. The roster is the node's, and the
-/// reader keeps it and the scheme. `IllFormed` comes exactly where the text is no checkpoint's, with the offset of its first fault; else
-/// `OtherRoster` exactly where it is of another roster than the node's; else `Unknown` exactly where a leaf isn't an accepted update of
-/// its writer, with the first such id; else `Unsigned` exactly where a node of the roster has no accepted update that puts the text under
-/// its key and has all listed ids in its past, with the first such node.
+/// Makes a reader of a running node, if every node of the roster signed the checkpoint of this text. The roster is the
+/// node's; the reader keeps it and the scheme. `IllFormed` is returned exactly when the text is no checkpoint's, with
+/// the offset of its first fault; else `OtherRoster` exactly when it is of another roster than the node's; else
+/// `Unknown` exactly when a leaf isn't an accepted update of its writer, with the first such id; else `Unsigned`
+/// exactly when a node of the roster has no accepted update that puts the text under its key and has all listed ids in
+/// its past, with the first such node.
 pub fn trim<S: Scheme, N: LocalNode<Of = S>>(
     alloc: Global,
     node: &N,
@@ -79,7 +80,7 @@ fn reader_of<S: Scheme, N: LocalNode<Of = S>>(
     let graph = node.graph();
     let trimmed = trimmed_below(alloc, graph, leaves)?;
     let trimmed = trimmed.as_slice();
-    // The state comes last, so that none is given up where memory runs out.
+    // The state comes last, so that no built state is dropped on `Memory`.
     Ok(Trimmed {
         alloc,
         values: values_left(alloc, node, trimmed)?,

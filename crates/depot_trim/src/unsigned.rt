@@ -41,7 +41,8 @@ pub(crate) fn first_unsigned(
     }
 }
 
-/// By what a node signs a checkpoint: its update puts a text of this hash under this key, and the leaves are in its past.
+/// What a node's signature of a checkpoint is: an update that puts a text of this hash under this key and has the
+/// leaves in its past.
 #[derive(Drop)]
 pub struct Signature<'a> {
     pub(crate) key: Key,
@@ -113,7 +114,7 @@ fn follows(graph: &Graph, item: u32, id: &Hash32) -> bool
     }
 }
 
-/// Whether the item `a` precedes the item `b`. The step goes into a ledger that is still blank, for nobody.
+/// Whether the item `a` precedes the item `b`. The step is counted in a fresh ledger that nobody reads.
 fn precedes<L: Ledger>(graph: &Graph, a: u32, b: u32, blank: Blank) -> bool
     requires name { blank.name ≡ L.name }
     requires parts { blank.parts ≡ L.parts }

@@ -5,8 +5,8 @@ use depot_base::{Bytes, DecodeError, Memory};
 use depot_update::{decode_update, encode_update};
 use std::alloc::Global;
 
-/// The text of an update, written anew from the update that it is read as: the same bytes, since each update has one text. None where
-/// it is no update's.
+/// The text of an update, written anew from the decoded update: the same bytes, since each update has one text. `None`
+/// if it is no update's.
 pub fn copied(alloc: Global, text: &[u8]) -> Result<Option<Bytes>, Memory>
     ensures { IfOk result (λ copy. IfSome copy (λ bytes. bytes ≡ text.now)) }
 {

@@ -9,7 +9,7 @@ use depot_model::{JudgeError, Scheme};
 use depot_sign::Roster;
 use std::alloc::Global;
 
-/// The node that the text of a proof convicts under a roster. None where it convicts nobody.
+/// The node that the text of a proof convicts under a roster. `None` if it convicts nobody.
 pub fn convicted<S: Scheme>(
     alloc: Global,
     roster: &Roster,

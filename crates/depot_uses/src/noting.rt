@@ -12,8 +12,8 @@ use depot_winter::{WinterScheme, WinterSigner};
 /// A node with a key by Winternitz signatures, over a disk in memory.
 pub type MemNode = Node<MemDisk, WinterScheme, WinterSigner>;
 
-/// Puts a value under a key, and tells how many latest writes the key has then: one, unless others wrote it beside this node. The
-/// journal has grown by the next own update.
+/// Puts a value under a key, and returns how many latest writes the key has then: one, unless others wrote it
+/// concurrently. The journal has grown by the next own update.
 pub fn note(node: &mut MemNode, key: Key, value: Value) -> Result<usize, PutError>
     ensures grown { OnOk result (HasNoted ⟦<MemNode as NodeState>⟧ node.old node.new key value) }
     ensures runs { OnOk result (⟦<MemNode as NodeState>⟧.stopped node.new ≡ false) }

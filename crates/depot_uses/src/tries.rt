@@ -14,7 +14,7 @@ use std::test::Fail;
 const ROSTER: &[u8; 39] =
     b"\x01\x04\x00\x01\x00\x01\x02\x80\xb6\x0b\x73\xf5\x7f\xe8\x4f\xe1\xfd\x40\x77\xd8\xcc\x2c\xf1\x36\xf2\x0e\x85\xd3\x7d\xe8\xa1\xf0\xcd\xa9\xa2\x96\x6f\x32\xbc";
 
-/// The node over an empty disk. None where it isn't started.
+/// The node over an empty disk. `None` if it isn't started.
 fn started(alloc: Global, roster: Roster, me: NodeId) -> Result<Option<MemNode>, Memory> {
     let disk = MemDisk::new(Bytes::new(alloc), Items::new(alloc));
     let signer = WinterSigner::from_seed(alloc, &Hash32::zeros(), 2)?;
@@ -24,7 +24,7 @@ fn started(alloc: Global, roster: Roster, me: NodeId) -> Result<Option<MemNode>,
     }
 }
 
-/// What is told of a note of this value under one key, and 0 where it is refused.
+/// The result of noting this value under one key, and 0 if it is refused.
 fn told(alloc: Global, node: &mut MemNode, value: &[u8]) -> Result<usize, Memory> {
     let (Ok(key), Ok(value)) = (Key::new(alloc, b"color"), Value::new(alloc, value)) else {
         return Ok(0);
@@ -32,7 +32,7 @@ fn told(alloc: Global, node: &mut MemNode, value: &[u8]) -> Result<usize, Memory
     Ok(note(node, key, value).unwrap_or(0))
 }
 
-/// What is told of two notes under one key.
+/// The results of two notes under one key.
 fn noted(alloc: Global) -> Result<usize, Memory> {
     let (Ok(roster), Some(me)) = (Roster::parse(alloc, ROSTER), NodeId::new(1)) else {
         return Ok(0);
@@ -58,7 +58,7 @@ static UPDATE: [u8; 120] =
     \x4e\x72\xb9\x80\x77\x85\xaf\xee\x48\xbb\x00\x00\x00\x01\x00\x00\xe3\xb0\xc4\x42\x98\xfc\x1c\x14\
     \x9a\xfb\xf4\xc8\x99\x6f\xb9\x24\x27\xae\x41\xe4\x64\x9b\x93\x4c\xa4\x95\x99\x1b\x78\x52\xb8\x55";
 
-/// Whether what is copied of a text is the text.
+/// Whether the copy of a text is the text.
 fn is_copied(alloc: Global, text: &[u8]) -> Result<bool, Memory> {
     match copied(alloc, text)? {
         Some(copy) => Ok(copy.as_slice() == text),

@@ -1,4 +1,4 @@
--- A run goes on as one with fewer labels does, where no event to come names those that are gone.
+-- A run goes on like one with fewer labels, if no later event names the missing ones.
 use Rattle.std.proofs.Common.{◌≡◌, ℕ, Bool, true, false, not, leb, cond, List, [], ◌∷◌, ◌++◌, codes, length, map, take, drop, Option, Some, None, Result, Ok, Err, option_map, refl, sym, ap, subst, ◌∙◌, inl, inr}
 use Rattle.std.specs.Prelude.{option_and_then}
 use Rattle.std.specs.Option.{option_map_or}
@@ -173,7 +173,7 @@ alike_sound setup es whole few a sound = subst (IsSound setup) (sym a.others) (s
 
 -- ---- events
 
--- an event came to the same, and the runs are alike for those behind it
+-- an event had the same outcome, and the runs agree for those after it
 pub record CameAlike (es : List Event) (whole few : Done) : Type 0 where
   pub answer : whole.answer ≡ few.answer
   pub behind : whole.behind ≡ few.behind

@@ -1,4 +1,4 @@
--- What an audit of a run's nodes finds in their traces is what is found in the world of these nodes.
+-- An audit finds in the traces of a run's nodes what is found in the world of these nodes.
 use Rattle.std.proofs.Common.{◌≡◌, ℕ, ◌≤◌, Bool, true, false, not, ltb, cond, List, [], ◌∷◌, map, take, drop, Option, Some, None, option_map, refl, sym, ap, subst, ◌∙◌, inl, inr, arith, take-append-drop}
 use Rattle.std.specs.Prelude.{find, position, unwrap_or}
 use Rattle.std.specs.List.{flat_map}
@@ -33,7 +33,7 @@ use Rattle.depot_world.specs.Setups.{Setup}
 
 -- ---- reads
 
--- an answer is told by its updates, where each is shown as the records show it
+-- an answer is reported by its updates, where each is shown as the records show it
 told_again : (J : List Record) (key : List ℕ) (ss : List Shown) → ((s : Shown) → IsIn s ss → s.seen ≡ seen_under J key s.update) → map (λ (u : Update). record { update = u; seen = seen_under J key u }) (map (λ (s : Shown). s.update) ss) ≡ ss
 told_again J key [] told = refl
 told_again J key (s ∷ ss) told =
@@ -50,7 +50,7 @@ answer_is here J r lawful is =
     let one = one_latest_list r.key (λ u. IsIn u (accepted K)) (Precedes (accepted K)) us (latest_in r.key (accepted K)) is.latest (latest_are_listed r.key (accepted K) (lawful_is_causal here K front)) in
     sym (told_again K r.key r.answer is.values) ∙ ap (map (λ (u : Update). record { update = u; seen = seen_under K r.key u })) one
 
--- so they are right as a trace tells them
+-- so they are right as a trace records them
 right_reads : (here : Setting) (J : List Record) (last : ℕ) (rs : List Read) → IsLawful here J → ((r : Read) → IsIn r rs → IsRead J r) → ((r : Read) → IsIn r rs → last ≤ r.at) → NeverFall rs → AreRightReads J last (map traced_read rs)
 right_reads here J last [] lawful are low falls = tt
 right_reads here J last (r ∷ rs) lawful are low falls =

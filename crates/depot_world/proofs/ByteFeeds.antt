@@ -1,4 +1,4 @@
--- A feed of bytes keeps the records of a journal, puts others behind them, and all of them are made of bytes.
+-- A feed of bytes keeps the records of a journal, puts others after them, and all of them are made of bytes.
 use Rattle.std.proofs.Common.{◌≡◌, ℕ, ◌+◌, ◌<◌, ◌==◌, Bool, true, false, not, ◌||◌, ltb, cond, is_some, List, [], ◌∷◌, ◌++◌, take, drop, length, Option, Some, None, Result, Ok, Err, refl, sym, ap, subst, ◌∙◌, append_assoc}
 use Rattle.std.specs.Int.{w32, from_be_bytes}
 use Rattle.std.proofs.lemmas.List.{append-nil}
@@ -77,7 +77,7 @@ frame_grows here J n f s only g = by_end (f.tag == 4) (given_grows here J n s (g
   by_end true taken = g
   by_end false taken = taken
 
--- the payload of a frame that stands there is bytes
+-- the payload of a frame that is there is bytes
 PayloadHolds : FrameAt → Type 0
 PayloadHolds (whole_frame f) = OnlyBytes f.payload
 PayloadHolds open_frame = Unit {0}

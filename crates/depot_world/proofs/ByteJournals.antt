@@ -42,7 +42,7 @@ AllHold J = AllByRecursion HoldsBytes J
 
 -- ---- what is read of them
 
--- what a reading tells of records holds of what it tells of the journal
+-- what a decoded list of records says holds of the journal
 pub read_holds : {X : Type 0} (f : Record → List X) (P : X → Type 0) → ((r : Record) → HoldsBytes r → AllByRecursion P (f r)) → (J : List Record) (x : X) → AllHold J → IsIn x (flat_map f J) → P x
 read_holds f P told J x hold on = let g = given_by f x J on in all_at P (f g.by) x (told g.by (all_at HoldsBytes J g.by hold (giver_in f x J g))) g.given
 

@@ -124,7 +124,7 @@ none_holds = record { bytes = tt; signed = tt }
 pub counted_holds : (bytes : List ℕ) → OnlyBytes bytes → IsByteText (counted_bytes bytes)
 counted_holds bytes only = record { bytes = only; signed = tt }
 
--- what stands once among values is one of them
+-- what occurs once among values is one of them
 once_holds : (vs : List (List ℕ)) → AllByRecursion OnlyBytes vs → (w : List ℕ) → IsIn w (each_once vs) → OnlyBytes w
 unfolding each_once
 once_holds [] only w never = absurd never

@@ -1,4 +1,4 @@
--- The change by which a node signs a checkpoint is bytes.
+-- The change that signs a checkpoint is made of bytes.
 use Rattle.std.proofs.Common.{◌≡◌, ℕ, Bool, true, false, cond, ltb, List, length, map, subst, arith}
 use Rattle.std.specs.Prelude.{codes, ◌==◌}
 use Rattle.std.specs.List.{AllByRecursion}

@@ -1,4 +1,4 @@
--- What an event asks a node for is a request that a node may be asked, of bytes.
+-- What an event asks a node for is a request that a node may be asked, made of bytes.
 use Rattle.std.proofs.Common.{◌≡◌, ℕ, ◌≤◌, List, length, Option, Some, None, refl, arith}
 use Rattle.std.specs.Prelude.{IfSome, map, option_map}
 use Rattle.depot_base.specs.declared.update.Update.{Update}

@@ -1,4 +1,5 @@
--- What a schedule says of its events: their keys and values are in their bounds, and all that they bring is bytes.
+-- What a schedule guarantees of its events: their keys and values are in their bounds, and all that they bring is made
+-- of bytes.
 use Rattle.std.proofs.Common.{ℕ, ◌<◌, ◌≤◌, List, [], ◌∷◌, length, Option, Some, None, arith}
 use Rattle.std.specs.List.{AllByRecursion}
 use Rattle.std.specs.Option.{option_to_list}

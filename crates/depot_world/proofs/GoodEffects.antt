@@ -1,4 +1,4 @@
--- What the events of correct nodes do is as a world asks.
+-- What the events of correct nodes do meets the conditions of a world.
 use Rattle.std.proofs.Common.{◌≡◌, ℕ, ◌<◌, ◌≤◌, false, List, [], ◌∷◌, ◌++◌, take, length, map, refl, sym, ap, subst, inl, inr, arith}
 use Rattle.std.proofs.Math.Seq.{take-length}
 use Rattle.depot_base.specs.declared.record.Record.{Record}
@@ -60,7 +60,7 @@ never_falls (s ∷ rs) r falls low = (all_push (λ (t : Read). s.at ≤ t.at) rs
 
 -- ---- requests
 
--- the reads of a node behind a request are reads of its journal
+-- the reads of a node after a request are reads of its journal
 reads_are_good : (setup : Setup) (c : Correct) (q : Request) → IsGoodNode setup c → (r : Read) → IsIn r (reads_after c q) → IsRead c.journal r
 reads_are_good setup c (request.Get key) g r on = elim (in_pushed r c.reads (read_at_end c.journal key) on) [
   | inl old ↦ g.reads r old

@@ -1,4 +1,4 @@
--- Nodes of a run that are as a world asks, and events that leave them so, stopped or not.
+-- Nodes of a run that meet the conditions of a world, and events that keep them, stopped or not.
 use Rattle.std.proofs.Common.{◌≡◌, ◌-◌, Bool, true, false, cond, leb, List, [], ◌∷◌, ◌++◌, take, drop, length, map, Option, Some, None, refl, sym, ap, subst, ◌∙◌, arith, append_assoc, length-append}
 use Rattle.std.proofs.lemmas.List.{take-append-drop, take-append-le}
 use Rattle.std.proofs.Math.Seq.{drop-append_seam}
@@ -31,7 +31,7 @@ pub record IsGoodNode (setup : Setup) (c : Correct) : Type 0 where
   pub holds : AllHold c.journal
   pub receipts : AreReceiptsTrue c.journal
 
--- what an event leaves where no stop falls into it: more behind the journal, and the reads of the journal
+-- what an event leaves where no stop falls into it: more after the journal, and the reads of the journal
 pub record IsGoodEffect (setup : Setup) (c : Correct) (d : Effect) : Type 0 where
   pub grown : IsGrown c.journal d.journal
   pub lawful : IsLawful (stands_on setup c.node) d.journal

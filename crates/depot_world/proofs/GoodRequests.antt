@@ -1,4 +1,4 @@
--- What a request of bytes leaves at a node is bytes.
+-- What a request of bytes makes of a node is made of bytes.
 use Rattle.std.proofs.Common.{◌≡◌, ℕ, Bool, true, false, not, cond, List, Option, Some, None, Result, Ok, Err, refl}
 use Rattle.std.specs.List.{AllByRecursion}
 use Rattle.std.specs.Str.{bytes_eq}

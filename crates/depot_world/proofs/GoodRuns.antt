@@ -1,4 +1,4 @@
--- A run that makes a world, and how one host or one label more leaves it so.
+-- A run that makes a world still does with one more host or label.
 use Rattle.std.proofs.Common.{◌≡◌, ℕ, Bool, true, false, eqb, cond, List, [], ◌∷◌, map, Option, Some, None, refl, sym, ap, subst, ◌∙◌, inl, inr, ◌⊎◌}
 use Rattle.std.proofs.lemmas.Bool.{eqb-true}
 use Rattle.depot_base.specs.declared.proof.Proof.{Proof}

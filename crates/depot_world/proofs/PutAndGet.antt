@@ -55,8 +55,8 @@ is_schedule = record {
   lines = omega arith;
 }
 
--- What its world comes to: the node has two records, and read when it had both; it met no signed statement of another; and these are the
--- first bytes of the digests of what it hashes, the update's body and its value.
+-- Its world: the node has two records, and read when it had both; it has no signed statement of another; and these are
+-- the first bytes of the digests of what it hashes, the update's body and its value.
 record Computes : Type 0 where
   pub lengths : map (λ (c : Correct). length c.journal ∷ map (λ (r : Read). r.at) c.reads) (world_of put_and_get).nodes ≡ (2 ∷ 2 ∷ []) ∷ []
   pub met : signed_met (world_of put_and_get) ≡ []
@@ -71,7 +71,7 @@ computes = record { lengths = refl; met = refl; first_bytes = refl }
 authentic : IsAuthentic (world_of put_and_get)
 authentic = record { made = λ s c met on same. absurd (subst (λ (ss : List _). IsIn s ss) computes.met met) }
 
--- of two texts whose digests begin with two bytes one digest tells which it is
+-- of two texts whose digests begin with two bytes one digest says which it is
 told : {X Y : Type 0} (f : X → Y) (p q : Y) (xs : List X) → (p ≡ q → ⊥) → map f xs ≡ p ∷ q ∷ [] → (a b : X) → IsIn a xs → IsIn b xs → f a ≡ f b → a ≡ b
 told f p q [] other is a b never on same = absurd never
 told f p q (x ∷ []) other is a b on b_on same = absurd cc

@@ -73,7 +73,7 @@ result_whole s d apart = by_stop s.pending refl where
 
 -- ---- what an event adds
 
--- the reads behind a request are kept
+-- the reads after a request are kept
 pub request_reads : (here : Setting) (sign : Signs) (c : Correct) (r : Request) → (effect_of here sign c r).reads ≡ reads_after c r
 unfolding effect_of
 request_reads here sign c r = refl

@@ -14,7 +14,7 @@ use Rattle.depot_schedule.specs.EventWords.{is_declared}
 abbrev pub nodes_of : List Member → List ℕ
 nodes_of ms = map (λ (m : Member). m.node) ms
 
--- Members behind others: each number is in range and none of another member, and all together they are at most 256.
+-- Members after others: each number is in range and none of another member, and all together they are at most 256.
 pub record AreMembersBehind (front ms : List Member) : Type 0 where
   pub low : (m : Member) → IsIn m ms → 1 ≤ m.node
   pub high : (m : Member) → IsIn m ms → m.node ≤ 65535

@@ -1,4 +1,4 @@
--- The runs of a schedule may be audited, at each point.
+-- The runs of a schedule may be audited at each point.
 use Rattle.std.proofs.Common.{◌≡◌, ℕ, ◌+◌, ◌<◌, ◌≤◌, Bool, true, false, not, ◌&&◌, ◌||◌, ltb, cond, List, [], ◌∷◌, ◌++◌, length, take, zero, suc, sym, ap, subst, ◌∙◌, arith, append_assoc, length-append}
 use Rattle.std.specs.Prelude.{filter}
 use Rattle.std.specs.List.{list_any}
@@ -21,7 +21,7 @@ use Rattle.depot_world.proofs.GoodRuns.{numbers_of}
 use Rattle.depot_world.proofs.GoodWorlds.{begins_good, events_keep, run_makes_world}
 use Rattle.depot_world.proofs.ReadCounts.{HaveFewReads, few_after, few_taken, same_after}
 
--- ---- a front of the events
+-- ---- a prefix of the events
 
 fit_front : (s : Schedule) (n : ℕ) (es : List Event) → FitEvents s es → FitEvents s (take n es)
 fit_front s zero es fit = tt

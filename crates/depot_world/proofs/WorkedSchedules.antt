@@ -173,7 +173,7 @@ keys_are_put_and_deleted : played (codes "depot schedule 1\nscheme plain 4\nnode
 unfolding rest_of numeral number bytes_of inner list_of dep roster_entry signed_with is_covered candidates records_where values_behind candidate_parcels parcels fitting sent_for sent_foreign unvouched bundle_frames bundle_of bundle_answer sight content_checks opponent forked refused_as_convicted statement_checks proof_checks first_failed_check is_known answer_to due named_opponent added growth is_of_kind contradicts kind_of proof_of given_by take_frame fed_frame fed_byte fed ending_of report_of frame_at hello_leaf hello convicted_nodes lacking record_place hello_of leaves_of put_by_id by_id history_text history_hash places_where first_values has_id named prev_of is_convicted is_vouched holds_hash holds is_wanted points spent_by tips_of collides_by limit_of_own limit_of_put text_of_log firsts_behind orphan_behind past IsCausal precedes_named next_entries next_own leaf_count plain_root plain_signature plain_verifies birth own_put tagged record_text foreign_leaves full_with key_of is_signed given_as answer_to_text growth_of_text update_fields voucher_fields update_body voucher_body statement signed proof roster id_of_update id_of_statement hash_of_roster put_rising rising groups_behind groups_of new_vouchers limit_of_new limit_of_vouchers put_line get_line hello_line bundle_line give_line restart_line update_line voucher_line proof_line judge_line raw_line cut_line flip_line join_line stop_line verb_named text_of_schedule read_line schedule_of value_behind named_by text_of_check text_of_limit text_of_report served effect_of restart_by insert_by order_by latest_in run_of world_by host_in made_in referred seen_with put_host with_host all_of updated vouched_text proof_text flip_at standing_after event_result suite_of seed_of setup_of done_at_node pending_at done lines_of run_after printed world_of transcript_of sha256 first_words schedule rounds compress hash_after digest_bytes encode_with decode_pairs digits seen_under id_referred each_once write marked is_update_text is_hollow hollow_text puts_line updates_line hollow_line receipt_of is_checkpoint_key
 keys_are_put_and_deleted = refl
 
--- a faulty update of two equal values and a deletion: the value stands once in its bytes
+-- a faulty update of two equal values and a deletion: the value occurs once in its bytes
 a_value_goes_once : played (codes "depot schedule 1\nscheme plain 4\nnode 1\nfaulty 9\nupdates x 9 0 1 - 6b=61,6c=61,6d! - right\ngive 1 x\nget 1 6b\nget 1 6c\nget 1 6d\n") ≡ codes "updates x -> 9/0/1\ngive 1 x -> accepted 2 known 0 refused 0 bare\nget 1 6b -> 9/0/1=61\nget 1 6c -> 9/0/1=61\nget 1 6d -> 9/0/1!\n"
 unfolding rest_of numeral number bytes_of inner list_of dep roster_entry signed_with is_covered candidates records_where values_behind candidate_parcels parcels fitting sent_for sent_foreign unvouched bundle_frames bundle_of bundle_answer sight content_checks opponent forked refused_as_convicted statement_checks proof_checks first_failed_check is_known answer_to due named_opponent added growth is_of_kind contradicts kind_of proof_of given_by take_frame fed_frame fed_byte fed ending_of report_of frame_at hello_leaf hello convicted_nodes lacking record_place hello_of leaves_of put_by_id by_id history_text history_hash places_where first_values has_id named prev_of is_convicted is_vouched holds_hash holds is_wanted points spent_by tips_of collides_by limit_of_own limit_of_put text_of_log firsts_behind orphan_behind past IsCausal precedes_named next_entries next_own leaf_count plain_root plain_signature plain_verifies birth own_put tagged record_text foreign_leaves full_with key_of is_signed given_as answer_to_text growth_of_text update_fields voucher_fields update_body voucher_body statement signed proof roster id_of_update id_of_statement hash_of_roster put_rising rising groups_behind groups_of new_vouchers limit_of_new limit_of_vouchers put_line get_line hello_line bundle_line give_line restart_line update_line voucher_line proof_line judge_line raw_line cut_line flip_line join_line stop_line verb_named text_of_schedule read_line schedule_of value_behind named_by text_of_check text_of_limit text_of_report served effect_of restart_by insert_by order_by latest_in run_of world_by host_in made_in referred seen_with put_host with_host all_of updated vouched_text proof_text flip_at standing_after event_result suite_of seed_of setup_of done_at_node pending_at done lines_of run_after printed world_of transcript_of sha256 first_words schedule rounds compress hash_after digest_bytes encode_with decode_pairs digits seen_under id_referred each_once write marked is_update_text is_hollow hollow_text puts_line updates_line hollow_line receipt_of is_checkpoint_key
 a_value_goes_once = refl

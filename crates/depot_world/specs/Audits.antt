@@ -1,4 +1,4 @@
--- The traces of correct nodes, and the world that an audit of them looks at.
+-- The traces of correct nodes, and the world that an audit of them examines.
 use Rattle.std.specs.Prelude.{◌<◌, ◌≤◌, List, [], length, map, Bool, not, nat_lt}
 use Rattle.depot_base.specs.declared.limits.TheConstants.{MOST_CORRECT, MOST_LINES}
 use Rattle.depot_model.specs.Insertion.{order_by}
@@ -11,7 +11,7 @@ use Rattle.depot_world.specs.Setups.{Setup}
 
 -- ---- traces
 
--- a read as a trace tells it
+-- a read as a trace records it
 abbrev pub traced_read : Read → ReadTrace
 traced_read r = record { length = r.at; key = r.key; answer = map answered r.answer }
 
@@ -33,7 +33,8 @@ traces_by run = map trace_by (map (λ s. s.correct) run.hosts)
 abbrev pub comes_before : Correct → Correct → Bool
 comes_before c d = not (nat_lt d.node c.node)
 
--- The correct nodes of a run in rising order of their numbers, as an audit looks at them. What was judged is no node's, and isn't handed in.
+-- The correct nodes of a run in rising order of their numbers, as an audit examines them. What was judged belongs to no
+-- node and isn't handed in.
 unfoldable pub audited : Setup → Run → World
 audited setup run = record { verifies = setup.suite.verifies; listed = setup.listed; nodes = order_by comes_before (map (λ s. s.correct) run.hosts); judged = [] }
 

@@ -31,13 +31,13 @@ label_by (event.Bundle node hello label) = Some label
 label_by (event.Checkpoint node label) = Some label
 label_by e = None
 
--- how many bytes each piece of a stream has: so many as are asked for, or more than any stream
+-- how many bytes each piece of a stream has: the given number, or more than any stream
 abbrev pub piece_of : Option ℕ → ℕ
 piece_of (Some size) = size
 piece_of None = 4294967295
 
--- What an event asks its node for, by what labels and references name: nothing where a reference names nothing. Receipts are given for each id
--- once, rising.
+-- What an event asks its node for, by what labels and references name: nothing if a reference names nothing. Receipts
+-- are given for each id once, in rising order.
 abbrev pub request_in : Run → Event → Option Request
 request_in run (event.Put node key value) = Some (request.Put (one_change key value))
 request_in run (event.Puts node changes) = Some (request.Put changes)

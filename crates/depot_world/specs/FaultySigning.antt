@@ -35,8 +35,8 @@ use Rattle.depot_answers.specs.AnswerTexts.{spaced, text_of_number}
 use Rattle.depot_world.specs.Run.{Run, bytes_of_label, referred, id_referred, signed_of}
 use Rattle.depot_world.specs.Setups.{Setup}
 
--- What an event that no node takes part in gives its label: bytes, the signed statement where it signs one, whether they are plain bytes,
--- and what is printed.
+-- What an event without a node gives its label: bytes, the signed statement if it signs one, whether they are plain
+-- bytes, and what is printed.
 pub record Text : Type 0 where
   pub bytes : List ℕ
   pub signed : Option Signed
@@ -63,12 +63,13 @@ all_of (Some x ∷ xs) = option_map (λ ys. x ∷ ys) (all_of xs)
 abbrev pub all_referred : Run → List Ref → Option (List Update)
 all_referred run refs = all_of (map (referred run) refs)
 
--- the id that a prev names: zeros where there is none, and nothing where its reference names no update
+-- the id that a prev names: zeros if there is none, and nothing if its reference names no update
 abbrev pub prev_of_ref : Run → Option Ref → Option (List ℕ)
 prev_of_ref run None = Some zeros
 prev_of_ref run (Some r) = option_map id_of_update (referred run r)
 
--- the updates that are named as entries, if each is there and another writer's: in rising order of writer and id, each once
+-- the updates that are named as entries, if each is there and by another writer: in rising order of writer and id, each
+-- once
 abbrev pub entries_of : Run → ℕ → List Ref → Option (List Update)
 entries_of run writer refs = option_and_then (λ us. if list_any (λ u. u.writer == writer) us then None else Some (by_id (firsts us))) (all_referred run refs)
 
@@ -78,7 +79,7 @@ entries_of run writer refs = option_and_then (λ us. if list_any (λ u. u.writer
 abbrev pub with_history : Update → List ℕ → Update
 with_history u h = record u { history = h }
 
--- the history hash that is given, or that of the update's past among those that were seen
+-- the given history hash, or that of the update's past among those that were seen
 abbrev pub history_by : List Update → HistoryWord → Update → List ℕ
 history_by seen history.Right u = history_hash (past u seen)
 history_by seen (history.Given h) u = h
@@ -95,12 +96,12 @@ drafted writer seq clock prev writes entries = record {
   history = [];
 }
 
--- each different value once, where it stands first
+-- each different value once, where it occurs first
 unfoldable pub each_once : List (List ℕ) → List (List ℕ)
 each_once [] = []
 each_once (v ∷ vs) = v ∷ filter (λ w. not (bytes_eq w v)) (each_once vs)
 
--- the frames of values, one behind another, each different value once
+-- the frames of values, one after another, each different value once
 abbrev pub text_of_values : List (List ℕ) → List ℕ
 text_of_values values = flat_map (λ v. text_of_frame (value_frame v)) (each_once values)
 
@@ -147,18 +148,19 @@ proof_text run kind a b = elim (all_of (signed_of run a ∷ signed_of run b ∷ 
   | others ↦ no_reference
 ]
 
--- a voucher and the bytes of a plain label as a proof that the voucher is hollow, if they aren't too many; whether it is, the judge says
+-- a voucher and the bytes of a plain label as a proof that the voucher is hollow, if they aren't too many; the judge
+-- decides whether it is
 unfoldable pub hollow_text : Run → List ℕ → List ℕ → Text
 hollow_text run voucher plain = elim (signed_of run voucher) [
   | None ↦ no_reference
   | Some s ↦ if nat_le (length (bytes_of_label run plain)) MOST_VALUE then proof_with NotUpdate (Hollow s (bytes_of_label run plain)) else no_reference
 ]
 
--- the proof whose frame these bytes are from the payload on, or where it goes wrong; what stands before, a tag and a length, is passed
+-- the proof whose frame these bytes are, after a tag and a length that are skipped, or where it goes wrong
 abbrev pub proof_in : List ℕ → Result Proof ℕ
 proof_in bytes = whole proof (record { at = 0; rest = drop 5 bytes })
 
--- the first point in which what stands in these bytes fails as a proof
+-- the first point in which what is in these bytes fails as a proof
 abbrev pub point_by : Setup → Result Proof ℕ → Option JudgeError
 point_by setup (Err at) = Some (point.IllFormed at)
 point_by setup (Ok p) = first_failed_point setup.suite.verifies setup.listed p

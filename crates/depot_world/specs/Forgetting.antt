@@ -1,4 +1,4 @@
--- Labels that events name, and runs that agree but for labels that no event to come names.
+-- Labels that events name, and runs that agree except for labels that no later event names.
 use Rattle.std.specs.Prelude.{◌≡◌, ℕ, List, [], ◌∷◌, ◌++◌, filter, not, Option, Some, None}
 use Rattle.std.specs.List.{flat_map}
 use Rattle.std.specs.Str.{bytes_eq}
@@ -26,7 +26,7 @@ labels_of_prev (Some r) = labels_of_ref r
 abbrev pub labels_of_refs : List Ref → List (List ℕ)
 labels_of_refs refs = flat_map labels_of_ref refs
 
--- the labels that an event names, the one that it makes among them; the name of a reader is none
+-- the labels that an event names, the one that it makes too; the name of a reader is no label
 abbrev pub labels_in : Event → List (List ℕ)
 labels_in (event.Hello node label) = label ∷ []
 labels_in (event.Bundle node hello label) = hello ∷ label ∷ []
@@ -76,7 +76,7 @@ pub record IsAlikeFor (es : List Event) (whole few : Run) : Type 0 where
   pub others : few ≡ with_labels whole few.labels
   pub named : NameTheSameIn es whole.labels few.labels
 
--- An event is told of two runs in the same lines, and behind it they are alike for these events.
+-- An event prints the same lines of two runs, which then agree for these events.
 pub record GoesAlike (setup : Setup) (es : List Event) (e : Event) (whole few : Run) : Type 0 where
   pub lines : lines_of e (done setup few e) ≡ lines_of e (done setup whole e)
   pub run : IsAlikeFor es (done setup whole e).run (done setup few e).run

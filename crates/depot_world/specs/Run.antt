@@ -1,4 +1,4 @@
--- A run of a schedule as it stands between two events.
+-- A run of a schedule as it is between two events.
 use Rattle.std.specs.Prelude.{ℕ, ◌==◌, List, [], ◌∷◌, ◌++◌, map, filter, Bool, Option, Some, None, option_map, option_and_then, if◌then◌else◌}
 use Rattle.std.specs.List.{flat_map}
 use Rattle.std.specs.Option.{option_map_or}
@@ -22,32 +22,34 @@ use Rattle.depot_world.specs.Setups.{Setup}
 
 -- ---- what a run keeps
 
--- A stop that waits on a node's disk: at which call from now on it falls, from 1, and which image the disk then holds.
+-- A stop that is set on a node's disk: at which call from now on it comes, from 1, and which image the disk then holds.
 pub record PendingStop : Type 0 where
   pub call : ℕ
   pub image : ℕ
 
--- a correct node at work, and the stop that waits on its disk, if one does
+-- a correct node at work, and the stop that is set on its disk, if any
 pub record Host : Type 0 where
   pub correct : Correct
   pub pending : Option PendingStop
 
--- What an event made under a label: its bytes, the signed statement where it made one, and whether it is plain: made as bytes, by `raw`,
--- `cut`, `flip` or `join`. A label whose event was refused or stopped holds no bytes; a plain one may hold none as well.
+-- What an event made under a label: its bytes, the signed statement if it made one, and whether it is plain: made as
+-- bytes, by `raw`, `cut`, `flip` or `join`. The label of a refused or stopped event has no bytes; a plain one may have
+-- none as well.
 pub record Labelled : Type 0 where
   pub label : List ℕ
   pub bytes : List ℕ
   pub signed : Option Signed
   pub plain : Bool
 
--- What an event made under the name of a reader: the reader, or none where it was refused.
+-- What an event made under the name of a reader: the reader, or none if it was refused.
 pub record NamedReader : Type 0 where
   pub name : List ℕ
   pub reader : Option Reader
 
--- The nodes in the order of their lines, the labels, the proofs that were judged with a verdict, the updates that a right history is
--- computed over: those that events made and those that correct nodes accepted, each id once, in the order in which they came; and the
--- readers, in the order in which they were made. A reader is in memory alone, but outlives what happens to its node.
+-- The nodes in the order of their lines, the labels, the proofs that were judged with a verdict, the updates that a
+-- right history is computed over (those that events made and those that correct nodes accepted, each id once, in the
+-- order in which they came), and the readers, in the order in which they were made. A reader is in memory alone, but
+-- outlives what happens to its node.
 pub record Run : Type 0 where
   pub hosts : List Host
   pub labels : List Labelled
@@ -121,7 +123,7 @@ id_referred run r = first_or (option_map sha256 (plain_referred run r)) (option_
 
 -- ---- how a run goes on
 
--- updates put behind those that were seen, but for those whose id was
+-- updates put after those that were seen, but for those whose id was
 unfoldable pub seen_with : List Update → List Update → List Update
 seen_with seen [] = seen
 seen_with seen (u ∷ us) = seen_with (if has_id seen (id_of_update u) then seen else seen ++ u ∷ []) us
@@ -144,6 +146,6 @@ unfoldable pub put_host : Host → List Host → List Host
 put_host s [] = []
 put_host s (t ∷ ts) = if t.correct.node == s.correct.node then s ∷ ts else t ∷ put_host s ts
 
--- the run with a host as an event left it, whose accepted updates were seen
+-- the run with a host as an event left it, and with its accepted updates among those seen
 unfoldable pub with_host : Run → Host → Run
 with_host run s = record run { hosts = put_host s run.hosts; seen = seen_with run.seen (accepted s.correct.journal) }

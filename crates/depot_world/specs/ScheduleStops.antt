@@ -1,4 +1,4 @@
--- What a stop leaves of an event of a node.
+-- The crash images of an event of a node.
 use Rattle.std.specs.Prelude.{ℕ, ◌+◌, ◌-◌, ◌/◌, ◌%◌, List, [], ◌∷◌, ◌++◌, length, take, drop, ◌&&◌, ◌==◌, nat_le, Option, Some, None, codes, if◌then◌else◌}
 use Rattle.depot_base.specs.declared.record.Record.{Record}
 use Rattle.depot_model.specs.World.{Correct}
@@ -6,13 +6,13 @@ use Rattle.depot_answers.specs.AnswerTexts.{spaced, text_of_number, text_of_reco
 use Rattle.depot_requests.specs.Effects.{Effect}
 use Rattle.depot_world.specs.Run.{PendingStop, Host}
 
--- How many of the records that an event appends stand in the image of a stop at this call, from 1. Those before the one at hand stand in
--- each; that one in image 1 alone, which has all that was written, once its gate is written, by the third of its calls. In image 2 the
--- written gate is 255, which is closed, and so is the gate before it was written.
+-- How many of the records that an event appends are in the image of a stop at this call, from 1. Every image has those
+-- before the current one. Image 1 alone, which has all that was written, has the current one once its gate is written,
+-- by the third of its calls. In image 2 the written gate is 255, which is closed, as is the gate before it was written.
 unfoldable pub standing_after : PendingStop → ℕ
 standing_after a = (a.call - 1) / 4 + (if a.image == 1 && nat_le 2 ((a.call - 1) % 4) then 1 else 0)
 
--- what a stop leaves of a journal that was to grow to another
+-- the crash images of a journal that was to grow to another
 abbrev pub journal_left : List Record → List Record → PendingStop → List Record
 journal_left J longer a = J ++ take (standing_after a) (drop (length J) longer)
 
@@ -41,7 +41,7 @@ stopped_with s J = record {
   bytes = [];
 }
 
--- the stop falls into the event, or waits on, so many calls nearer
+-- the stop comes in this event, or stays set, so many calls nearer
 abbrev pub result_pending : Host → Effect → PendingStop → EventResult
 result_pending s d a =
     if nat_le a.call d.calls then stopped_with s (journal_left s.correct.journal d.journal a)
@@ -56,6 +56,6 @@ event_result s d = elim s.pending [
 
 -- ---- starting again
 
--- A node is started again from its disk: a sync, a look at the file's length, and a read of its bytes.
+-- A node is started again from its disk: a sync, a query of the file's length, and a read of its bytes.
 unfoldable pub restart_by : Correct → Effect
 restart_by c = record { journal = c.journal; reads = c.reads; calls = 3; answer = spaced (text_of_records c.journal); behind = []; bytes = [] }

@@ -12,8 +12,8 @@ use Rattle.depot_schedule.specs.declared.member.Member.{Member}
 use Rattle.depot_schedule.specs.declared.schedule.Schedule.{Schedule}
 use Rattle.depot_model.specs.Insertion.{order_by}
 
--- What a scheme makes of a seed: how it verifies, the root of the key of a tree of this height, and the signature of a body by the
--- leaf of a seq.
+-- What a scheme makes of a seed: how it verifies, the root of the key of a tree of this height, and the signature of a
+-- body by the leaf of a seq.
 pub record SignatureSuite : Type 0 where
   pub verifies : Verifies
   pub root : List ℕ → ℕ → List ℕ
@@ -46,7 +46,7 @@ pub record Setup : Type 0 where
 abbrev pub roster_entry_of : SignatureSuite → ℕ → Member → RosterEntry
 roster_entry_of suite height m = record { node = m.node; key = record { root = suite.root (seed_of m.node) height; height = height } }
 
--- an entry stands before those of greater nodes
+-- an entry precedes those of greater nodes
 abbrev pub is_entry_before : RosterEntry → RosterEntry → Bool
 is_entry_before e f = nat_lt e.node f.node
 
@@ -58,7 +58,7 @@ roster_of suite height members = order_by is_entry_before (map (roster_entry_of 
 unfoldable pub setup_of : Schedule → Setup
 setup_of s = record { suite = suite_of s.winter; height = s.height; listed = roster_of (suite_of s.winter) s.height s.members }
 
--- where a node stands in a setup
+-- where a node is in a setup
 abbrev pub stands_on : Setup → ℕ → Setting
 stands_on setup node = record { verifies = setup.suite.verifies; me = node; listed = setup.listed }
 

@@ -34,7 +34,7 @@ use Rattle.depot_world.specs.FaultySigning.{Text, no_reference, counted_bytes, u
 use Rattle.depot_world.specs.ScheduleStops.{EventResult, event_result}
 use Rattle.depot_world.specs.Setups.{Setup, setup_of, stands_on, signs_on}
 
--- an event that was done: what is printed behind the arrow, the lines behind that line, and the run after it
+-- an event that was done: what is printed after the arrow, the lines after that line, and the run afterwards
 pub record Done : Type 0 where
   pub answer : List ℕ
   pub behind : List (List ℕ)
@@ -42,7 +42,7 @@ pub record Done : Type 0 where
 
 -- ---- events of correct nodes
 
--- what a node's event comes to, and the label that its bytes are given
+-- the outcome of a node's event, and the label that its bytes are given
 abbrev pub done_by_node : Run → Option (List ℕ) → EventResult → Done
 done_by_node run None w = record { answer = w.answer; behind = w.behind; run = with_host run w.host }
 done_by_node run (Some label) w = record { answer = w.answer; behind = w.behind; run = with_label (with_host run w.host) (record { label = label; bytes = w.bytes; signed = None; plain = false }) }
@@ -54,14 +54,14 @@ done_at_node run node label effect = elim (host_in run.hosts node) [
   | Some s ↦ done_by_node run label (event_result s (effect s))
 ]
 
--- a stop is set on a node's disk; one that waits there falls away
+-- a stop is set on a node's disk; it replaces one that is set there
 unfoldable pub pending_at : Run → ℕ → ℕ → ℕ → Done
 pending_at run node call image = elim (host_in run.hosts node) [
   | None ↦ record { answer = []; behind = []; run = run }
   | Some s ↦ record { answer = codes " armed"; behind = []; run = with_host run (record { correct = s.correct; pending = Some (record { call = call; image = image }) }) }
 ]
 
--- a reference names nothing: that is told, and no node is asked
+-- a reference names nothing: that is printed, and no node is asked
 abbrev pub not_referred : Run → Done
 not_referred run = record { answer = codes " NoRef"; behind = []; run = run }
 
@@ -69,7 +69,7 @@ not_referred run = record { answer = codes " NoRef"; behind = []; run = run }
 abbrev pub asked_at : Setup → Run → ℕ → Option (List ℕ) → Request → Done
 asked_at setup run node label r = done_at_node run node label (λ s. effect_of (stands_on setup node) (signs_on setup node) s.correct r)
 
--- the same, where references name what is asked for
+-- the same, if references name what is needed
 abbrev pub asked_for : Setup → Run → ℕ → Option (List ℕ) → Option Request → Done
 asked_for setup run node label None = not_referred run
 asked_for setup run node label (Some r) = asked_at setup run node label r
@@ -88,22 +88,22 @@ reader_made (unopened why) = None
 reader_made (unsigned node) = None
 reader_made (reading R) = Some R
 
--- what a node answers is told; its reader, if there is one, is that of the name
+-- what a node answers is printed; its reader, if there is one, gets this name
 abbrev pub trimmed_with : Run → List ℕ → TrimAnswer → Done
 trimmed_with run name answer = record { answer = spaced (text_of_trim answer); behind = []; run = with_reader run (record { name = name; reader = reader_made answer }) }
 
--- a reader is made of a node and a checkpoint's text; the node and its disk stay as they are
+-- a reader is made of a node and a checkpoint's text; the node and its disk are unchanged
 unfoldable pub trim_at : Setup → Run → ℕ → List ℕ → List ℕ → Done
 trim_at setup run node text name = elim (host_in run.hosts node) [
   | None ↦ record { answer = []; behind = []; run = run }
   | Some s ↦ trimmed_with run name (trim_of (stands_on setup node) s.correct.journal text)
 ]
 
--- what a reader made of a stream is told, and it goes on so
+-- what a reader made of a stream is printed, and it goes on
 abbrev pub reader_told : Run → List ℕ → ReaderFeed → Done
 reader_told run name s = record { answer = spaced (text_of_reader_feed s); behind = []; run = record run { readers = put_reader name s.reader run.readers } }
 
--- the reader of a name takes a stream; where none was made, nothing is told
+-- the reader of a name takes a stream; if none was made, nothing is printed
 unfoldable pub tgive_by : Run → List ℕ → List ℕ → Done
 tgive_by run name stream = elim (reader_in run.readers name) [
   | None ↦ record { answer = []; behind = []; run = run }
@@ -114,7 +114,7 @@ tgive_by run name stream = elim (reader_in run.readers name) [
 abbrev pub answer_of_reader : Reader → List ℕ → List ℕ
 answer_of_reader R key = flat_map (λ w. spaced (text_of_write w)) (shown_by_reader R key)
 
--- the reader of a name reads a key; where none was made, nothing is told
+-- the reader of a name reads a key; if none was made, nothing is printed
 abbrev pub tget_by : Run → List ℕ → List ℕ → Done
 tget_by run name key = record { answer = option_map_or (λ R. answer_of_reader R key) (reader_in run.readers name) []; behind = []; run = run }
 
@@ -168,7 +168,7 @@ done setup run e = asked_for setup run (event_node e) (label_by e) (request_in r
 
 -- ---- its lines
 
--- how many of an event's first words stand before the arrow
+-- how many of an event's first words precede the arrow
 abbrev pub head_count : Event → ℕ
 head_count (event.Put node key value) = 3
 head_count (event.Get node key) = 3
@@ -182,7 +182,7 @@ head_count (event.Tgive name label) = 3
 head_count (event.Tget name key) = 3
 head_count other = 2
 
--- the words that stand before the arrow: of `trim` its label is left out
+-- the words that precede the arrow: of `trim` its label is left out
 abbrev pub head_words : Event → List (List ℕ)
 head_words (event.Trim node label name) = take 2 (event_words (event.Trim node label name)) ++ drop 3 (event_words (event.Trim node label name))
 head_words e = take (head_count e) (event_words e)

@@ -1,12 +1,13 @@
 //! The world and the transcript of a schedule.
 //!
-//! What a schedule makes happen is defined in `specs`, event by event over one journal and one list of reads a correct node, one list
-//! of bytes a label, and one reader a name: `world_of` is the world that comes of it, and `transcript_of` is what is printed. `Effects`
-//! says what a correct node does, `ScheduleStops` what a stop of its disk leaves, `FaultySigning` what faulty nodes sign, `Transcript`
-//! what readers do, `Audits` what a node's traces are and in which world an audit looks, and `Forgetting` which labels events name,
-//! and when runs go on alike though labels are gone.
+//! `specs` defines what a schedule makes happen, event by event, over one journal and one list of reads for each
+//! correct node, one list of bytes for each label, and one reader for each name: `world_of` is the resulting world, and
+//! `transcript_of` is what is printed. `Effects` has what a correct node does, `ScheduleStops` the crash images of its
+//! disk, `FaultySigning` what faulty nodes sign, `Transcript` what readers do, `Audits` the traces of nodes and the
+//! world that an audit examines, and `Forgetting` which labels events name, and when runs agree though labels are gone.
 //!
-//! `world_laws` says that this is a world, whatever faulty nodes sign and send and wherever disks stop, so that the laws of worlds hold of it.
+//! `world_laws` has the laws: this is a world, whatever faulty nodes sign and send and wherever disks stop. So the laws
+//! of worlds hold of it.
 #![tactic(auto)]
 
 mod world_laws;

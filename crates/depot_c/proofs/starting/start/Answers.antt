@@ -48,7 +48,7 @@ only_disk (start_error.OtherRoster kept given) well = refl
 only_disk start_error.UnknownMe well = refl
 only_disk (start_error.OtherKey roster signer) well = refl
 
--- what a refusal says of a disk that tells its bytes
+-- what a refusal says of a disk whose bytes are visible
 told_of : {told : Type 0} → told → (here : Setting) (key : PublicKey) (file : List ℕ) (e : StartError) → IsNotStarted here key told file e → IsNotStarted here key (Unit {0}) file e
 told_of tells here key file start_error.Memory is = is
 told_of tells here key file start_error.Disk is = is

@@ -3,7 +3,7 @@ use Rattle.depot_world.specs.Transcript.{transcript_of}
 use Rattle.depot_cli.proofs.Endings.{written_front}
 use Rattle.depot_cli.proofs.replay_command.play.Goals as goal
 
--- a front of the transcript was written
+-- a prefix of the transcript was written
 pub returns-in-Err-Memory-clause-plays : goal.returns-in-Err-Memory-clause-plays
 returns-in-Err-Memory-clause-plays g c =
     let out = g.S.Sink.written c.args.out.now in

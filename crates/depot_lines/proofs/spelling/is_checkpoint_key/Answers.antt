@@ -1,4 +1,4 @@
--- The front is looked for, and behind it 32 bytes.
+-- The prefix is looked for, and after it 32 bytes.
 use Rattle.depot_lines.proofs.KeyForms.{other_checkpoint_front, behind_checkpoint_front}
 use Rattle.depot_lines.proofs.spelling.is_checkpoint_key.Goals as goal
 

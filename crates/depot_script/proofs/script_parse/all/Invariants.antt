@@ -7,7 +7,7 @@ use Rattle.depot_script.proofs.script_parse.all.Given as goal
 abbrev pub decreases-loop-text : goal.decreases-loop-text
 decreases-loop-text l = length (lines_of_parts l.parts)
 
--- the commands so far, and those that are read behind them, are those of the text
+-- the commands so far, and those that are read after them, are those of the text
 abbrev pub invariant-loop-text : goal.invariant-loop-text
 invariant-loop-text l = record {
   few : l.number ≤ 100001;

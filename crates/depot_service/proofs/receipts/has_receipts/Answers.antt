@@ -5,7 +5,7 @@ use Rattle.depot_receipts.specs.Books.{IsBookOf}
 use Rattle.depot_receipts.proofs.BookLaws.{goes_on}
 use Rattle.depot_service.proofs.receipts.has_receipts.Goals as goal
 
--- a new book has read what stands in front of any updates
+-- a new book has read what precedes any updates
 pub catch_up-requires : goal.catch_up-requires
 catch_up-requires g c = record { begins = goes_on [] _ c.new-book.result c.new-book.ensures }
 

@@ -128,7 +128,7 @@ returns-in_err-line-clause-somebodys g c = not_without_memory c.from_residual-in
 pub returns-in_err-line-clause-loads : goal.returns-in_err-line-clause-loads
 returns-in_err-line-clause-loads g c = rw (c.requires.command, c.in-Some.is) c.load.ensures.loads
 
--- ---- the line was told, or not
+-- ---- the line was reported, or not
 
 pub returns-clause-keeps : goal.returns-clause-keeps
 returns-clause-keeps g c =

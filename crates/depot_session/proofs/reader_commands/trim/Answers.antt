@@ -73,7 +73,7 @@ returns-in_err-line-clause-reader g c = not_without_memory c.from_residual-in_er
 pub returns-in_err-line-clause-somebodys : goal.returns-in_err-line-clause-somebodys
 returns-in_err-line-clause-somebodys g c = not_without_memory c.from_residual-in_err-line.result _ c.from_residual-in_err-line.ensures.1
 
--- ---- the line was told, or not
+-- ---- the line was reported, or not
 
 pub keep-requires : goal.keep-requires
 keep-requires g c = c.in_ok-line.ensures.settled

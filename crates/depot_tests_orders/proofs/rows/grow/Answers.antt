@@ -5,7 +5,7 @@ use Rattle.depot_clocks.proofs.ChainCounts.{chain_length-own, chain_length-other
 use Rattle.depot_base.proofs.GeneralLaws.{get_last}
 use Rattle.depot_tests_orders.proofs.rows.grow.Goals as goal
 
--- where the item that was added stands
+-- where the added item is
 last_at : (items new : List ChainItem) (x : ChainItem) (n place : ℕ) → new ≡ items ++ x ∷ [] → length items ≡ n → x.place ≡ place → IsChainItemAt new n x.chain place
 last_at items new x n place is long place_is =
     subst (λ (l : List ChainItem). IsChainItemAt l n x.chain place) (sym is) (subst (λ (k : ℕ). IsChainItemAt (items ++ x ∷ []) k x.chain place) long (x, (get_last items x, (refl, place_is))))

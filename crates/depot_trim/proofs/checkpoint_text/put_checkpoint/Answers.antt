@@ -14,7 +14,7 @@ use Rattle.depot_trim.proofs.checkpoint_text.put_checkpoint.Goals as goal
 joined : (out a b c n l o1 o2 o3 : List ℕ) → o1 ≡ out ++ a → o2 ≡ o1 ++ b → o3 ≡ o2 ++ c → o3 ++ (n ++ l) ≡ out ++ (a ++ (b ++ (c ++ (n ++ (l ++ [])))))
 joined out a b c n l o1 o2 o3 p1 p2 p3 = rw (p3, p2, p1) (simp (append_assoc, append-nil))
 
--- a list behind its count
+-- a list preceded by its count
 abbrev counted : List ℕ → List HelloLeaf → List ℕ
 counted out s = out ++ (numeral w16 (length s) ++ flat_map (λ l. hello_leaf.text l) s)
 
