@@ -10,6 +10,7 @@ together in acceptance/models/messages.py.
 # make_cases puts acceptance/models on the path, where messages.py is.
 from make_cases import ZEROS, checkpoint, checkpoint_key, frame, sha, u
 import messages as say
+from make_audit_cases import trace
 from make_node_cases import END, LISTED, MORE, ONE, THREE, TWO, Case, X, Y, branch, fresh, refused_starts, script, seed
 from make_node_cases import words as node_words
 from make_receipt_nodes import of as receipt_of
@@ -128,6 +129,22 @@ def questions():
         [say.taken(1, 0, refused=[(1, b"\x0b" + X.id + Y.id + b"\x02")]), say.is_status(1, LISTED, 0, 4, 3, len(one.file()), 1, 1, (9,)),
          say.page(b"\x11", say.conviction(2, 9, proof)), say.page(b"\x11", say.conviction(2, 9, proof)), say.page(b"\x11"),
          say.are_latest((X, 0, say.not_held(b"x")))])
+
+
+def exports():
+    """A node hands its trace in: first with its birth alone, then with what it put and what it took. A read isn't in it."""
+    one, two = fresh(), fresh(TWO)
+    first = trace(one)
+    a = one.put(b"k", b"a")
+    b = two.put(b"k", b"b")
+    to_one = two.bundle(one)
+    one.take(b)
+    last = trace(one)
+    case = ServeCase("serve_hands_its_trace_in", A=last, B=trace(two)).after(journal=one.file())
+    case.serve(1, [say.EXPORT, say.put((b"k", b"a")), say.get(b"k"), say.TAKE + to_one, say.EXPORT, say.EXPORT],
+               [say.exported(first), say.was_put(a.id, 0, 1), say.was_read(" 1/0/1=61"), say.taken(2, 0), say.exported(last), say.exported(last)])
+    case.run(["audit", "ROSTER", "A", "B"], ["yes"])
+
 
 def far_hello(node, chain):
     """The hello of a node that has a chain of four, and nothing else: it names the last, and the ids 1 and 3 back."""
@@ -260,6 +277,7 @@ def no_requests():
         "a_get_that_is_cut": say.message(say.get(b"kl")[:-1]), "a_get_that_goes_on": say.message(say.get(b"k") + b"k"), "a_hello_that_goes_on": say.message(say.HELLO + b"\x00"),
         "a_receipt_for_nothing": say.message(say.receipt()), "a_receipt_for_ids_that_fall": say.message(say.receipt(b"b" * 32, b"a" * 32)),
         "a_settled_that_is_cut": say.message(say.settled(ZEROS, 1)[:-1]), "a_checkpoint_that_goes_on": say.message(say.CHECKPOINT + b"\x00"),
+        "an_export_that_goes_on": say.message(say.EXPORT + b"\x00"),
     }.items():
         # What stands behind would be a request, had the text before it been one.
         behind = b"" if "cut" in name and "get" not in name and "settled" not in name else say.message(put)
@@ -287,7 +305,7 @@ def words_and_rosters():
 
 
 def main():
-    for make in (put_and_read, goes_on, exchange, questions, sends, checkpoints, streams, not_done, no_requests, starts, words_and_rosters):
+    for make in (put_and_read, goes_on, exchange, questions, exports, sends, checkpoints, streams, not_done, no_requests, starts, words_and_rosters):
         make()
 
 

@@ -66,10 +66,10 @@ def settled(id, nodes):
     return SETTLED + id + u(4, nodes)
 
 
-# ---- questions, and what is to be sent
+# ---- questions, what is to be sent, and the trace
 
 
-STATUS, FAR_HELLO = b"\x10", b"\x20"
+STATUS, FAR_HELLO, EXPORT = b"\x10", b"\x20", b"\x30"
 ANY = 0xFFFFFFFF
 
 
@@ -154,6 +154,11 @@ def are_accepted(*flags):
 
 def update_keys(it, seq, *names):
     return it.id + head(it.writer, seq, it.clock) + u(1, len(names)) + b"".join(key(name) for name in names)
+
+
+def exported(trace):
+    """The text of a trace is handed in."""
+    return b"\x30" + trace
 
 
 # ---- replies

@@ -1,5 +1,5 @@
 -- The outcome of what a node is asked, and what answering makes of the node.
-use Rattle.std.specs.Prelude.{◌≡◌, List, ◌++◌, ℕ, false, IsTrue, Result, Ok, Err}
+use Rattle.std.specs.Prelude.{◌≡◌, List, [], ◌++◌, ℕ, false, IsTrue, Result, Ok, Err}
 use Rattle.depot_base.specs.Faults.{HasCause}
 use Rattle.depot_base.specs.declared.record.Record.{Record}
 use Rattle.depot_bounds.specs.SendCalls.{sent_by}
@@ -12,9 +12,11 @@ use Rattle.depot_model.specs.Stops.{LeavesAll}
 use Rattle.depot_model.specs.declared.node_state.NodeState.{Ghosts}
 use Rattle.depot_question_texts.specs.QuestionAnswers.{text_of_answer}
 use Rattle.depot_questions.specs.Answers.{told_of_question}
+use Rattle.depot_request_texts.specs.ExportTexts.{text_of_export}
 use Rattle.depot_request_texts.specs.ReplyTexts.{text_of_reply}
 use Rattle.depot_requests.specs.Requests.{Served, served}
 use Rattle.depot_requests.specs.declared.reply.Halt.{Halt}
+use Rattle.depot_service.specs.TracePrinting.{export_of}
 use Rattle.depot_asking.specs.declared.asked.Asked.{Asked}
 use Rattle.depot_asking.specs.declared.asked.Asked.TheVariants as asked
 
@@ -27,11 +29,13 @@ pub record Came : Type 0 where
 abbrev pub came_to : Served → Came
 came_to s = record { journal = s.journal; text = text_of_reply s.reply }
 
--- The outcome of what is asked, by the node's setting, its signer and its journal. A question changes nothing.
+-- The outcome of what is asked, by the node's setting, its signer and its journal. A question changes nothing, nor does
+-- an export: the trace has no reads.
 abbrev pub came_by : Setting → Signs → List Record → Asked → Came
 came_by here sign J (asked.Request r) = came_to (served here sign J r)
 came_by here sign J (asked.Question q) = record { journal = J; text = text_of_answer (told_of_question here J q) }
 came_by here sign J (asked.Sending s) = came_to (sent_by here sign J s)
+came_by here sign J asked.Export = record { journal = J; text = text_of_export (export_of here.me J []) }
 
 -- ---- one call
 

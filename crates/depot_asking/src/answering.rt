@@ -10,9 +10,9 @@ use depot_bounds::{SendRequest, send};
 use depot_local::LocalNode;
 use depot_question_texts::encode_answer;
 use depot_questions::{Question, ask};
-use depot_request_texts::encode_reply;
+use depot_request_texts::{encode_exported, encode_reply};
 use depot_requests::{Halt, Request};
-use depot_service::serve;
+use depot_service::{export, serve};
 use std::alloc::Global;
 
 /// Carries a request out.
@@ -51,6 +51,17 @@ fn send_to<N: LocalNode>(alloc: Global, node: &mut N, sending: &SendRequest) -> 
     Ok(encode_reply(alloc, &reply)?)
 }
 
+/// Returns the message that hands in the trace of a running node, without reads.
+fn hand_in<N: LocalNode>(alloc: Global, node: &N) -> Result<Bytes, Halt>
+    requires running { IsServing N.NodeState node.now }
+    ensures answers { AnswersAsked (N.stands node.now) (N.signature_of node.now) (N.records node.now) Asked.Export result (N.records node.now) }
+    ensures call { IsAskedCall N.NodeState node.now node.now (came_by (N.stands node.now) (N.signature_of node.now) (N.records node.now) Asked.Export).journal (IsErrOf result Halt.Disk) }
+    ensures runs { IsErrOf result Halt.Stopped → ⊥ }
+{
+    let trace = export(alloc, node, &[])?;
+    Ok(encode_exported(alloc, trace.as_slice())?)
+}
+
 /// Has a running node carry out or answer what is asked, and returns the message that answers. `Memory` may be returned
 /// after a request was carried out.
 pub fn answer<N: LocalNode>(alloc: Global, node: &mut N, asked: Asked) -> Result<Bytes, Halt>
@@ -65,5 +76,6 @@ pub fn answer<N: LocalNode>(alloc: Global, node: &mut N, asked: Asked) -> Result
         Asked::Request(request) => reply_to(alloc, node, request),
         Asked::Question(question) => tell(alloc, node, &question),
         Asked::Sending(sending) => send_to(alloc, node, &sending),
+        Asked::Export => hand_in(alloc, node),
     }
 }

@@ -13,4 +13,6 @@ pub enum Asked {
     Question(Question),
     /// To send within bounds, or to say a hello that goes further back.
     Sending(SendRequest),
+    /// To hand its trace in for an audit. The trace has no reads: a node that is asked so keeps none.
+    Export,
 }

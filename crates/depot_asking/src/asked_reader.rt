@@ -1,12 +1,12 @@
 //! Reads what is asked.
 ghost use Rattle.std.specs.Prelude.{◌≡◌, IfOk, true, false};
-ghost use Rattle.depot_asking.specs.Bodies.{FindsAsked, MayBeAsked, begins_question, begins_sending, begins_within};
+ghost use Rattle.depot_asking.specs.Bodies.{FindsAsked, MayBeAsked, begins_export, begins_question, begins_sending, begins_within};
 
 use crate::asked::Asked;
 use depot_base::DecodeError;
 use depot_bounds::decode_sending;
 use depot_question_texts::decode_question;
-use depot_request_texts::decode_request;
+use depot_request_texts::{EXPORT_KIND, decode_export, decode_request};
 use std::alloc::Global;
 
 /// Whether the first byte of a body is in a range.
@@ -38,10 +38,23 @@ fn sending_in(alloc: Global, body: &[u8]) -> Result<Asked, DecodeError>
     Ok(Asked::Sending(decode_sending(alloc, body)?))
 }
 
+/// That a trace is asked for by a body.
+fn export_in(body: &[u8]) -> Result<Asked, DecodeError>
+    requires no_question { begins_question body.now ≡ false }
+    requires no_sending { begins_sending body.now ≡ false }
+    requires export { begins_export body.now ≡ true }
+    ensures finds { FindsAsked body.now result }
+    ensures may_be_asked { IfOk result MayBeAsked }
+{
+    decode_export(body)?;
+    Ok(Asked::Export)
+}
+
 /// The request of a body.
 fn request_in(alloc: Global, body: &[u8]) -> Result<Asked, DecodeError>
     requires no_question { begins_question body.now ≡ false }
     requires no_sending { begins_sending body.now ≡ false }
+    requires no_export { begins_export body.now ≡ false }
     ensures finds { FindsAsked body.now result }
     ensures may_be_asked { IfOk result MayBeAsked }
 {
@@ -60,6 +73,9 @@ pub fn decode_asked(alloc: Global, body: &[u8]) -> Result<Asked, DecodeError>
     }
     if begins_within(32, 33, body) {
         return sending_in(alloc, body);
+    }
+    if begins_within(EXPORT_KIND, EXPORT_KIND, body) {
+        return export_in(body);
     }
     request_in(alloc, body)
 }

@@ -1,4 +1,5 @@
-//! What a node may be asked over its input: to do something, to answer what it knows, or to send within bounds.
+//! What a node may be asked over its input: to carry out a request, to answer what it knows, to send within bounds, or
+//! to hand in its trace.
 //!
 //! `decode_asked` reads the body of a message. Its first byte says of which sort it is, so it is read in one way.
 //! `answer` has a `LocalNode` carry it out or answer it, and returns the message that answers.

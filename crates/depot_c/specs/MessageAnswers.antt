@@ -22,11 +22,12 @@ IsReplyMessage (Ok reply) (Err refused.Memory) = Unit {0}
 IsReplyMessage (Ok reply) other = ⊥
 IsReplyMessage (Err e) told = told ≡ Err (refused.Halted e)
 
--- what the node is where it was kept from answering what is asked; a question changes nothing
+-- what the node is where it was kept from answering what is asked; a question changes nothing, nor does a trace that is handed in
 abbrev pub IsLeftBy : NodeView → Asked → Halt → NodeView → Type 0
 IsLeftBy s (asked.Request r) e t = Serves s.here s.sign s.records r (Err e) t.records
 IsLeftBy s (asked.Question q) e t = t ≡ s
 IsLeftBy s (asked.Sending r) e t = Sends s.here s.sign s.records r (Err e) t.records
+IsLeftBy s asked.Export e t = t ≡ s
 
 -- What is answered to what is asked, and what the node is then: the message that answers; or what is asked was done, and no memory was found for the
 -- message; or the node was kept from it.

@@ -13,9 +13,9 @@ use depot_bounds::{SendRequest, send};
 use depot_model::Replica;
 use depot_question_texts::encode_answer;
 use depot_questions::{Question, ask};
-use depot_request_texts::encode_reply;
+use depot_request_texts::{encode_exported, encode_reply};
 use depot_requests::{Halt, Reason, Reply, Request};
-use depot_service::serve;
+use depot_service::{export, serve};
 use std::alloc::Global;
 
 /// The message of a reply, or why there is none.
@@ -66,6 +66,21 @@ fn tell(alloc: Global, node: &Over, question: &Question) -> Result<Answer, Refus
     }
 }
 
+/// Hands the trace in.
+fn hand_in(alloc: Global, node: &Over) -> Result<Answer, Refused>
+    requires { (⟦<Over as HasNodeView>⟧.node_view node.now).stopped ≡ false }
+    ensures runs { RunsOn (⟦<Over as HasNodeView>⟧.node_view node.now) result (⟦<Over as HasNodeView>⟧.node_view node.now) }
+    ensures answers { AnswersBody (⟦<Over as HasNodeView>⟧.node_view node.now) Asked.Export result (⟦<Over as HasNodeView>⟧.node_view node.now) }
+{
+    let Ok(trace) = export(alloc, node, &[]) else {
+        return Err(Refused::Memory);
+    };
+    match encode_exported(alloc, trace.as_slice()) {
+        Ok(text) => Ok(Answer::Text(text)),
+        Err(_) => Err(Refused::Memory),
+    }
+}
+
 /// Does or tells what is asked by the body of a message, and answers by a message.
 pub fn message(alloc: Global, node: &mut Over, body: &[u8]) -> Result<Answer, Refused>
     ensures stays { Stays (⟦<Over as HasNodeView>⟧.node_view node.old) (⟦<Over as HasNodeView>⟧.node_view node.new) }
@@ -79,6 +94,7 @@ pub fn message(alloc: Global, node: &mut Over, body: &[u8]) -> Result<Answer, Re
         Ok(Asked::Request(request)) => carry_out(alloc, node, request),
         Ok(Asked::Question(question)) => tell(alloc, node, &question),
         Ok(Asked::Sending(sending)) => send_out(alloc, node, &sending),
+        Ok(Asked::Export) => hand_in(alloc, node),
         Err(DecodeError::Memory) => Err(Refused::Memory),
         Err(DecodeError::IllFormed(at)) => Err(Refused::Unmet(Reason::IllFormed(at))),
     }

@@ -6,3 +6,4 @@ pub mod TellingLaws
 pub mod ReplyLaws
 pub mod RequestExamples
 pub mod ReplyExamples
+pub mod ExportLaws

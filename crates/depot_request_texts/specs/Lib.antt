@@ -1,4 +1,5 @@
 pub mod ChangeTexts
+pub mod ExportTexts
 pub mod RequestTexts
 pub mod ClosedParts
 pub mod TellingTexts

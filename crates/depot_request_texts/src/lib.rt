@@ -5,6 +5,7 @@
 #![tactic(auto)]
 
 mod changes;
+mod export_texts;
 mod reply_laws;
 mod reply_writer;
 mod request_laws;
@@ -12,6 +13,10 @@ mod request_reader;
 mod telling_writer;
 
 pub use changes::whole_key;
+pub use export_texts::{
+    EXPORT_KIND, decode_export, encode_exported, exported_are_read_in_one_way,
+    exports_are_read_in_one_way,
+};
 pub use reply_laws::replies_are_read_in_one_way;
 pub use reply_writer::encode_reply;
 pub use request_laws::requests_are_read_in_one_way;

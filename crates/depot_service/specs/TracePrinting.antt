@@ -6,6 +6,7 @@ use Rattle.depot_model.specs.Journal.{accepted, seen_under}
 use Rattle.depot_model.specs.Records.{text_of_record}
 use Rattle.depot_model.specs.Traces as audits
 use Rattle.depot_traces.specs.SeenTraces as seen_traces
+use Rattle.depot_traces.specs.ToldTraces.{file_of_trace}
 use Rattle.depot_traces.specs.TraceTexts.{IsTrace, answered_text}
 use Rattle.depot_traces.specs.declared.trace.Answered.{Answered}
 use Rattle.depot_traces.specs.declared.trace.ReadTrace.{ReadTrace}
@@ -19,3 +20,7 @@ IsTracedWrite J item key a = (u : Update) × ((slice_get (accepted J) item ≡ S
 -- It has a text, and is the trace of the node of this number, with the texts of its records and with these reads.
 abbrev pub IsTraceOf : ℕ → List Record → List ReadTrace → Trace → Type 0
 IsTraceOf me J reads t = IsTrace t × (seen_traces.trace_of t ≡ record { node = me; texts = map text_of_record J; reads = map seen_traces.read_of reads })
+
+-- The bytes of the trace that the node of this number hands in for an audit: the texts of its records, and these reads.
+abbrev pub export_of : ℕ → List Record → List audits.ReadTrace → List ℕ
+export_of me J reads = file_of_trace (record { node = me; texts = map text_of_record J; reads = reads })

@@ -30,4 +30,4 @@ pub use readers::{ReaderFeedResult, feed_reader, reader_feed_line, reader_shown_
 pub use reads::shown_words;
 pub use receipts::has_receipts;
 pub use serving::serve;
-pub use traces::{node_trace, read_traced, traced_line};
+pub use traces::{export, node_trace, read_traced, traced_line};

@@ -13,14 +13,14 @@ ghost use Rattle.depot_traces.specs.TraceTexts.{read_text};
 ghost use Rattle.depot_traces.specs.declared.trace.TheConstants.{MOST_READS};
 ghost use Rattle.depot_world.specs.Audits.{traced_read};
 ghost use Rattle.depot_requests.specs.Effects.{read_at_end, ended};
-ghost use Rattle.depot_service.specs.TracePrinting.{IsTraceOf, IsTracedWrite};
+ghost use Rattle.depot_service.specs.TracePrinting.{IsTraceOf, IsTracedWrite, export_of};
 
 use crate::reads::seen;
 use depot_answers::{Seen, traced};
 use depot_base::{Bytes, Key, Memory, Texts, Value};
 use depot_local::LocalNode;
 use depot_model::{Past, Replica};
-use depot_traces::{Answered, Listing, ReadTrace, Reads, Shown, Trace};
+use depot_traces::{Answered, Listing, ReadTrace, Reads, Shown, Trace, encode_trace};
 use std::alloc::Global;
 
 /// What a read shows of a write, as a trace records it: a value is copied.
@@ -129,6 +129,16 @@ pub fn node_trace<R: Replica>(alloc: Global, node: &R, reads: &[ReadTrace]) -> R
         texts: record_texts(alloc, node)?,
         reads: reads_again(alloc, reads)?,
     })
+}
+
+/// The bytes of the trace that a node hands in for an audit, with these reads. It doesn't matter whether the node is stopped.
+pub fn export<R: Replica>(alloc: Global, node: &R, reads: &[ReadTrace]) -> Result<Bytes, Memory>
+    requires few { length reads.now ≤ MOST_READS }
+    requires fit { AllByRecursion read_text.fits reads.now }
+    ensures { IfOk result (λ text. text ≡ export_of (R.stands node.now).me (R.records node.now) (map seen_traces.read_of reads.now)) }
+{
+    let trace = node_trace(alloc, node, reads)?;
+    encode_trace(alloc, &trace)
 }
 
 /// The line of a trace that was handed in: how many records and reads it has.

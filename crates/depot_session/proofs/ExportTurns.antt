@@ -5,7 +5,6 @@ use Rattle.depot_base.specs.declared.record.Record.{Record}
 use Rattle.depot_model.specs.Bundle.{Signs}
 use Rattle.depot_model.specs.Checks.{Setting}
 use Rattle.depot_model.specs.Records.{text_of_record}
-use Rattle.depot_model.specs.Traces as traces
 use Rattle.depot_model.specs.declared.node_state.NodeState.{Ghosts}
 use Rattle.depot_answers.specs.AnswerTexts.{spaced, text_of_traced}
 use Rattle.depot_outside.specs.Told.{Shelves, Sinks}
@@ -15,6 +14,7 @@ use Rattle.depot_traces.specs.ToldTraces.{file_of_trace}
 use Rattle.depot_traces.specs.declared.trace.ReadTrace.{ReadTrace}
 use Rattle.depot_world.specs.Audits.{traced_read}
 use Rattle.depot_requests.specs.Effects.{ended}
+use Rattle.depot_service.specs.TracePrinting.{export_of}
 use Rattle.depot_session.specs.declared.ending.ScriptEnding.{ScriptEnding}
 use Rattle.depot_session.specs.Sessions.{Session, command_text, reads_of_run, step_of, stored, trace_of_run}
 use Rattle.depot_session.specs.ScriptTelling.{Stores}
@@ -22,12 +22,8 @@ use Rattle.depot_session.specs.Turns.{IsAt, IsRunning, Turns}
 use Rattle.depot_session.proofs.StoredFiles.{stored_alike}
 use Rattle.depot_session.proofs.Uncalled.{uncalled_stored}
 
--- the trace that a node with these records and these reads hands in
-abbrev pub trace_at : ℕ → List Record → List ReadTrace → traces.Trace
-trace_at node J reads = record { node = node; texts = map text_of_record J; reads = map read_of reads }
-
 -- it is that of the run, where its reads are kept
-trace_is : (s : Session) (node : ℕ) (J : List Record) (reads : List ReadTrace) → s.correct.node ≡ node → s.correct.journal ≡ J → map read_of reads ≡ map traced_read (reads_of_run s) → trace_of_run s ≡ trace_at node J reads
+trace_is : (s : Session) (node : ℕ) (J : List Record) (reads : List ReadTrace) → s.correct.node ≡ node → s.correct.journal ≡ J → map read_of reads ≡ map traced_read (reads_of_run s) → trace_of_run s ≡ record { node = node; texts = map text_of_record J; reads = map read_of reads }
 trace_is s node J reads own journal are = λ i. record { node = own i; texts = map text_of_record (journal i); reads = sym are i }
 
 -- the text of the step is that of the command and the line of the trace
@@ -40,7 +36,7 @@ export_text here sign s J reads file line journal are is =
 
 -- the files after the step
 export_files : (here : Setting) (sign : Signs) (s : Session) (J : List Record) (reads : List ReadTrace) (file text : List ℕ) (files : List ℕ → Option (List ℕ)) → s.correct.node ≡ here.me → s.correct.journal ≡ J → map read_of reads ≡ map traced_read (reads_of_run s)
-    → text ≡ file_of_trace (trace_at here.me J reads) → ((name : List ℕ) → files name ≡ s.files name) → (other : List ℕ) → (step_of here sign s (command.Export file)).session.files other ≡ stored files file text other
+    → text ≡ export_of here.me J (map read_of reads) → ((name : List ℕ) → files name ≡ s.files name) → (other : List ℕ) → (step_of here sign s (command.Export file)).session.files other ≡ stored files file text other
 unfolding step_of
 export_files here sign s J reads file text files own journal are is same other =
     stored_alike s.files files file (file_of_trace (trace_of_run s)) text (λ name. sym (same name)) (ap file_of_trace (trace_is s here.me J reads own journal are) ∙ sym is) other
@@ -56,7 +52,7 @@ export_stays here sign s file = refl
 
 -- the trace was stored and its line reported, or not
 pub export_turns : {N : Type 0} (g : Ghosts N) (v : N) (s : Session) (reads : List ReadTrace) (file text line : List ℕ) (shelf : Shelves) (sink : Sinks) (r : Result (Unit {0}) ScriptEnding) → IsRunning g v → IsAt (g.stands v) (g.records v) shelf.file s
-    → map read_of reads ≡ map traced_read (reads_of_run s) → text ≡ file_of_trace (trace_at (g.stands v).me (g.records v) reads) → line ≡ ended (spaced (text_of_traced (length (g.records v)) (length reads))) → IsTrue shelf.tells
+    → map read_of reads ≡ map traced_read (reads_of_run s) → text ≡ export_of (g.stands v).me (g.records v) (map read_of reads) → line ≡ ended (spaced (text_of_traced (length (g.records v)) (length reads))) → IsTrue shelf.tells
     → Stores shelf sink (command_text (command.Export file) line) file text r → Turns g v v (command.Export file) (step_of (g.stands v) (g.signature_of v) s (command.Export file)) shelf sink r
 export_turns g v s reads file text line shelf sink r running at are text_is line_is tells stores =
     let here = g.stands v in

@@ -1,10 +1,7 @@
 //! The command by which a node hands in its trace.
-ghost use Rattle.std.specs.Prelude.{◌≡◌, ◌≤◌, ◌∷◌, [], length, map, IfOk};
+ghost use Rattle.std.specs.Prelude.{◌≡◌, ◌≤◌, ◌∷◌, [], length};
 ghost use Rattle.std.specs.List.{AllByRecursion};
-ghost use Rattle.depot_model.specs.Records.{text_of_record};
 ghost use Rattle.depot_outside.specs.Told.{shelves, sinks};
-ghost use Rattle.depot_traces.specs.SeenTraces as seen;
-ghost use Rattle.depot_traces.specs.ToldTraces.{file_of_trace};
 ghost use Rattle.depot_traces.specs.TraceTexts.{read_text};
 ghost use Rattle.depot_traces.specs.declared.trace.TheConstants.{MOST_READS};
 ghost use Rattle.depot_session.specs.ScriptTelling.{StoresUnder, TellsShelf};
@@ -12,24 +9,13 @@ ghost use Rattle.depot_session.specs.Turns.{IsRunning, Keeps, TurnsTracing};
 
 use crate::ending::ScriptEnding;
 use crate::telling::store_and_tell;
-use depot_base::{Bytes, Memory};
 use depot_lines::FileName;
 use depot_local::LocalNode;
 use depot_outside::{Shelf, Sink};
 use depot_script::Command;
-use depot_service::{node_trace, traced_line};
-use depot_traces::{ReadTrace, encode_trace};
+use depot_service::traced_line;
+use depot_traces::ReadTrace;
 use std::alloc::Global;
-
-/// The text of a node's trace with these reads.
-fn trace_text<R: LocalNode>(alloc: Global, node: &R, reads: &[ReadTrace]) -> Result<Bytes, Memory>
-    requires few { length reads.now ≤ MOST_READS }
-    requires fit { AllByRecursion read_text.fits reads.now }
-    ensures { IfOk result (λ text. text ≡ file_of_trace (record { node = (R.stands node.now).me; texts = map text_of_record (R.records node.now); reads = map seen.read_of reads.now })) }
-{
-    let trace = node_trace(alloc, node, reads)?;
-    encode_trace(alloc, &trace)
-}
 
 /// Stores the node's trace with these reads, and reports it.
 pub fn export<R: LocalNode, F: Shelf, K: Sink>(
@@ -53,7 +39,7 @@ pub fn export<R: LocalNode, F: Shelf, K: Sink>(
     ensures same_shelf { F.tells shelf.new ≡ F.tells shelf.old }
     ensures shelf { TellsShelf (F.faults shelf.old) (F.faults shelf.new) (F.failed shelf.old) (F.failed shelf.new) result }
 {
-    let text = trace_text(alloc, node, reads)?;
+    let text = depot_service::export(alloc, node, reads)?;
     let lines = traced_line(alloc, node.record_count(), reads.len() as u32)?;
     store_and_tell(alloc, command, &lines, file, &text, shelf, out)
 }

@@ -1,7 +1,7 @@
 use Rattle.std.proofs.Common.{◌≡◌, ℕ, List, subst}
 use Rattle.std.specs.Prelude.{IfOk}
 use Rattle.depot_traces.proofs.ToldAgain.{text_is_file}
-use Rattle.depot_session.proofs.exporting.trace_text.Goals as goal
+use Rattle.depot_service.proofs.traces.export.Goals as goal
 
 pub encode_trace-requires : goal.encode_trace-requires
 encode_trace-requires g c = c.in_ok-trace.ensures.0
