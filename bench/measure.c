@@ -1,4 +1,4 @@
-/* Measures: puts in memory and on a file, a bundle and a feed of them, a start. usage: measure SEED1 SEED2 FOLDER COUNT ROSTER HEIGHT */
+/* Measures: puts in memory and on a file, one and 100 at a time, bundles of them, their taking, a start. usage: measure SEED1 SEED2 FOLDER COUNT ROSTER HEIGHT */
 #define _POSIX_C_SOURCE 200809L
 #define _DEFAULT_SOURCE
 #include "journal_file.h"
@@ -40,15 +40,18 @@ static void *handle(const uint8_t *roster, size_t length, const char *hex, unsig
     return node;
 }
 
-/* Puts values of 10 bytes under 100 keys; with a journal, each is kept before the next. */
-static double puts_of(void *node, int count, struct journal *j)
+/* Puts values of 10 bytes under 100 keys; with a journal, as many as `together` are kept before the next. */
+static double puts_of(void *node, int count, struct journal *j, int together)
 {
     double begun = now();
     for (int i = 0; i < count; i++) {
-        char text[40];
-        int key = sprintf(text, "key%02d", i % 100), all = key + sprintf(text + key, "%010d", i);
-        must(depot_put(node, text, (size_t)key, (size_t)all));
-        if (j && journal_keep(j, node))
+        char key[16], value[32];
+        uint8_t change[64];
+        int key_length = sprintf(key, "key%02d", i % 100), length = sprintf(value, "%010d", i);
+        must(depot_put(node, 1, change, (size_t)(depot_change(change, key, (size_t)key_length, value, (size_t)length) - change)));
+        if (depot_field(node, 0, 1) != 1)
+            exit(8);
+        if (j && ((i + 1) % together == 0 || i + 1 == count) && journal_keep(j, node))
             exit(4);
     }
     return now() - begun;
@@ -80,19 +83,26 @@ int main(int argc, char **argv)
     must(depot_start(one, 1, NULL, 0));
     must(depot_start(two, 2, NULL, 0));
     long before = memory();
-    double took = puts_of(one, count, NULL);
+    double took = puts_of(one, count, NULL, 1);
     printf("%d puts in memory: %.3f s, %.0f a second, %.0f bytes of memory each\n", count, took, count / took, 1024.0 * (double)(memory() - before) / count);
-    must(depot_hello(two));
-    uint8_t *hello = answer(two, &hello_size);
-    begun = now();
-    must(depot_bundle(one, hello, hello_size));
-    uint8_t *bundle = answer(one, &size);
-    printf("a bundle of %d updates, %zu bytes: %.3f s\n", count, size, now() - begun);
-    begun = now();
-    for (size_t at = 0; at < size; at += 1000)
-        must(depot_feed(two, bundle + at, size - at < 1000 ? size - at : 1000));
-    must(depot_feed_end(two));
-    printf("its feed, in pieces of 1000 bytes: %.3f s\n", now() - begun);
+    double sent = 0, read = 0;
+    size_t bytes_sent = 0;
+    for (int more = 1; more;) {
+        must(depot_hello(two));
+        uint8_t *hello = answer(two, &hello_size);
+        begun = now();
+        must(depot_bundle(one, 1 << 20, UINT32_MAX, 0, hello + 5, hello_size - 5));
+        sent += now() - begun;
+        uint8_t *bundle = answer(one, &size);
+        more = (int)depot_field(one, 17, 1);
+        begun = now();
+        must(depot_take(two, bundle + 22, size - 22));
+        read += now() - begun;
+        bytes_sent += size - 22;
+        free(hello), free(bundle);
+    }
+    printf("bundles of %d updates, of 1 MiB at most, %zu bytes: %.3f s\n", count, bytes_sent, sent);
+    printf("their taking: %.3f s\n", read);
     struct journal j;
     uint8_t *bytes;
     must(depot_end(one));
@@ -100,8 +110,12 @@ int main(int argc, char **argv)
         return 4;
     must(depot_start(one, 1, bytes, size));
     free(bytes);
-    took = puts_of(one, count, &j);
-    printf("%d puts on a file, with its syncs: %.3f s, %.0f a second\n", count, took, count / took);
+    if (journal_keep(&j, one))
+        return 4;
+    for (int together = 1; together <= 100; together += 99) {
+        took = puts_of(one, count, &j, together);
+        printf("%d puts on a file, %d kept by one pair of syncs: %.3f s, %.0f a second\n", count, together, took, count / took);
+    }
     close(j.file);
     must(depot_end(one));
     if (journal_open(&j, argv[3]) || journal_read(&j, &bytes, &size))
@@ -110,21 +124,13 @@ int main(int argc, char **argv)
     must(depot_start(one, 1, bytes, size));
     printf("a start from them, %zu bytes: %.3f s\n", size, now() - begun);
     close(j.file);
-    free(bytes), free(hello), free(bundle);
+    free(bytes);
     /* the reader's own journal: foreign records, whose signatures are verified again */
-    uint8_t *file = malloc(1);
-    size = 0;
-    for (uint64_t place = 0, all = depot_count(two); place < all; place++) {
-        must(depot_record(two, place));
-        size_t n = depot_length(two);
-        file = realloc(file, size + n + 6);
-        if (!file)
-            return 6;
-        uint8_t head[5] = {1, (uint8_t)(n >> 24), (uint8_t)(n >> 16), (uint8_t)(n >> 8), (uint8_t)n};
-        memcpy(file + size, head, 5);
-        depot_copy(two, 0, file + size + 5, n);
-        size += 5 + n;
-    }
+    must(depot_records(two, 0));
+    size = depot_records_length(two);
+    uint8_t *file = malloc(size + 1);
+    if (!file || depot_records_copy(two, 0, file, size) != size)
+        return 6;
     file[size++] = 0;
     must(depot_end(two));
     begun = now();

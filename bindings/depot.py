@@ -1,49 +1,75 @@
 """Depot in a Python process, by ctypes over a shared object that is linked of the static library (bindings/run.sh).
 
     lib = depot.load("./libdepot.so")
-    with depot.JournalFile("one", roster, 1, "seed", is_first=True) as journal:
-        with depot.Node(lib, roster, seed, 12, 1, journal) as node:
-            node.put(b"color", b"blue")
+    with depot.open_node(lib, "one", "roster", 1, 12, "seed", is_first=True) as node:
+        node.put({b"color": b"blue"})
+        print(node.get(b"color"))
 
-A node is in memory, and its journal keeps what it signs: a JournalFile, or another Journal, as one over a database. It uses
-tools/guard.py, tools/alarms.py and tools/formats.py of the repository.
+A node is in memory, and its journal keeps what it signs: a JournalFile, or another Journal, as one over a database. Each call
+keeps the records that it adds before it answers, and there is no order to keep to: what can't be done raises. It stands alone
+with depot_messages.py, and tools/guard.py, tools/alarms.py and tools/formats.py of the repository.
+
+What is raised: where the node doesn't do what was asked, a NotDone with a name (Spent, Full, Unknown ..); BadRequest, where
+it isn't in its form; at a start BadJournal or WrongIdentity; NoMemory; Closed, once the node is. All of these are Refused.
+guard.Unfit comes before a start: the journal of the folder must not be run.
 """
 import ctypes
 import fcntl
 import io
 import os
-import struct
 import sys
+import threading
 import time
 
-sys.path.append(os.path.join(os.path.dirname(os.path.abspath(__file__)), os.pardir, "tools"))
+HERE = os.path.dirname(os.path.abspath(__file__))
+sys.path += [HERE, os.path.join(HERE, os.pardir, "tools")]
 import alarms  # noqa: E402
+import depot_messages as m  # noqa: E402
 import formats  # noqa: E402
 import guard  # noqa: E402
+from depot_messages import (  # noqa: E402,F401
+    BadRequest, Full, IdTaken, IllFormed, Malformed, NotDone, NothingAccepted, OtherRoster, Refused, Spent, TooManyLeaves, TooManyTips, Unknown,
+    ValueNotHeld,
+)
 
-LENGTH, COPY, NUMBER, SEQ, TALLY, ROSTER, KEY, START, END, CLEAR = 0, 1, 2, 3, 4, 5, 6, 7, 8, 9
-PUT, PUTS, HELLO, BUNDLE, RECEIPT, SETTLED, CHECKPOINT, SIGN = 10, 11, 12, 13, 14, 15, 16, 17
-FEED, FEED_END, REFUSAL, LATEST, VALUE, COUNT, RECORD, MESSAGE = 18, 19, 20, 21, 22, 23, 24, 25
+LENGTH, COPY, RECORDS_LENGTH, RECORDS_COPY = 0, 1, 2, 3
+ROSTER, KEY, START, END, CLEAR, MESSAGE, RECORDS = 4, 5, 6, 7, 8, 9, 10
 ABI = 1
 INPUT = 2
-CLOSED = 12
-ABSENT = 13
-DELETED, HELD, LACKED = 0, 1, 2  # what a latest write says of its key
-# What is said of a status where the library's answer has no words.
-REASONS = {
-    INPUT: "the input isn't in its form", 6: "no memory was found", 8: "a limit was met", 9: "the journal isn't lawful",
-    10: "another key, node or roster", 11: "no node, a node already, no roster or key, or no open stream", ABSENT: "nothing stands there",
-}
-RESERVED = {(b"receipt:", 40): "a receipt", (b"checkpoint:", 43): "a checkpoint"}
+NO_MEMORY = 6
+NOT_LAWFUL = 9
+IDENTITY = 10
+ORDER = 11
 
 
-class Refused(Exception):
-    """A call that wasn't done: its status, and why, in the words of the program's lines where it has any (docs/TROUBLESHOOTING.md)."""
+class BadJournal(Refused):
+    """No node is started: the journal is damaged, or isn't lawful."""
 
-    def __init__(self, status, why):
-        why = why or REASONS.get(status, "")
-        super().__init__("status %d: %s" % (status, why))
-        self.status, self.why = status, why
+
+class WrongIdentity(Refused):
+    """No node is started: the key isn't the roster's, or the journal is of another node or roster."""
+
+
+class NoMemory(Refused):
+    """No memory was found. What a message asked may stand: ask what the node has."""
+
+
+class Closed(Refused):
+    """The node takes no more calls: it was closed, or its records couldn't be kept."""
+
+
+class WrongThread(Refused):
+    """A node stays on the thread that made it."""
+
+
+REFUSALS = {INPUT: BadRequest, NO_MEMORY: NoMemory, NOT_LAWFUL: BadJournal, IDENTITY: WrongIdentity, ORDER: Closed}
+# What is said where the library's answer has no words.
+REASONS = {INPUT: "it isn't in its form", NO_MEMORY: "no memory was found", ORDER: "there is no node"}
+
+
+def refusal(status, words, what=""):
+    """What is raised for a status of a call."""
+    return REFUSALS.get(status, Refused)(what + (words or REASONS.get(status, "status %d" % status)))
 
 
 class Judged(ctypes.Structure):
@@ -71,48 +97,43 @@ def judge(lib, roster, proof):
     return told.status, told.node, told.kind
 
 
-def fault_of(changes):
-    """Why a put of changes isn't in its form; no text where nothing of that is seen."""
-    if not 1 <= len(changes) <= formats.MOST_WRITES:
-        return "%d keys, and one put writes 1 to %d" % (len(changes), formats.MOST_WRITES)
-    for key, value in changes.items():
-        if not 1 <= len(key) <= formats.MOST_KEY:
-            return "a key has %d bytes, and may have 1 to %d" % (len(key), formats.MOST_KEY)
-        if value is not None and len(value) > formats.MOST_VALUE:
-            return "a value has %d bytes, and may have %d" % (len(value), formats.MOST_VALUE)
-        for (front, length), kind in RESERVED.items():
-            if key.startswith(front) and len(key) == length:
-                return "the key %s is that of %s, which no put writes" % (key.hex(), kind)
-    return ""
-
-
 def file_of(records):
     """The journal's file of records: 01, the length and the record of each, and then 00."""
     return b"".join(b"\1" + len(r).to_bytes(4, "big") + r for r in records) + b"\0"
 
 
-def bytes_of_change(key, value):
-    """A change in bytes: a value of a key, or None, which deletes it."""
-    told = b"\0" if value is None else b"\1" + len(value).to_bytes(4, "big") + value
-    return len(key).to_bytes(2, "big") + key + told
+def records_of(data):
+    """The records of a run of them, or of a journal's file: each behind 01 and its length."""
+    found, at = [], 0
+    while data[at:at + 1] == b"\1":
+        end = at + 5 + int.from_bytes(data[at + 1:at + 5], "big")
+        found.append(data[at + 5:end])
+        at = end
+    return found
 
 
 # ---- journals
 
 
 class Journal:
-    """What keeps a node's records. One over a database has these two methods of its own; records are bytes."""
+    """What keeps a node's records. One over a database has `load` and `keep` of its own; records are bytes."""
 
     def load(self):
         """The journal's file of all records that were kept, in their order (file_of); no bytes at a node's first start."""
         raise NotImplementedError
 
-    def keep(self, records):
-        """Stores new records for good, in their order, all or a front of them, and returns once they are. Where it fails the node is closed."""
+    def keep(self, run):
+        """Stores new records for good, in their order, all or a front of them, and returns once they are (records_of parts the run).
+
+        Where it raises, the node is closed, and is to be started again over those that were kept.
+        """
         raise NotImplementedError
 
     def heed(self, refusals, stream):
-        """Is told of the refused frames of a stream that was fed: some are alarms."""
+        """Is told of the refused frames of a stream that was taken: some are alarms."""
+
+    def close(self):
+        """Lets go of what it holds; the node closes its journal."""
 
 
 class Forgetful(Journal):
@@ -124,7 +145,7 @@ class Forgetful(Journal):
     def load(self):
         return self.file
 
-    def keep(self, records):
+    def keep(self, run):
         """Forgets them."""
 
 
@@ -193,22 +214,19 @@ class JournalFile(Journal):
             data, at = data[count:], at + count
         os.fdatasync(self.file)
 
-    def keep(self, records):
+    def keep(self, run):
         """Appends records behind the closed gate, and then opens that: by two syncs, be they many. A stop leaves all of them or none.
 
         An OSError ends it: the file is touched no more, and the node has to be started again from it.
         """
         if self.is_stopped:
             raise OSError("an earlier call on the journal's file failed")
-        if not records:
-            return
-        if not self.gate and records[0] != self.birth:
+        if not self.gate and records_of(run)[0] != self.birth:
             raise guard.Unfit("another node was started over %s, or under another roster" % self.guard.journal.path)
         self.is_stopped = True
-        block = b"\1".join(len(it).to_bytes(4, "big") + it for it in records) + b"\0"
-        self.write(block, self.gate + 1)
-        self.write(b"\1", self.gate)
-        self.gate += len(block)
+        self.write(run[1:] + b"\0", self.gate + 1)
+        self.write(run[:1], self.gate)
+        self.gate += len(run)
         self.is_stopped = False
         if self.noted is None or time.monotonic() > self.noted + self.NOTED_EACH:
             self.note()
@@ -222,7 +240,7 @@ class JournalFile(Journal):
         """Says of alarms among the refused frames of a stream, and remembers those that aren't forged: the next start is refused then."""
         listener = alarms.Listener(self.member, lambda _: io.BytesIO(stream))
         listener.begin(b"a stream")
-        for alarm in filter(None, (listener.hear(line.encode()) for line in refusals)):
+        for alarm in filter(None, (listener.hear(it.line().encode()) for it in refusals)):
             self.guard.say(alarm.told)
             if alarm.ring:
                 self.guard.ring(alarm.ring)
@@ -240,181 +258,225 @@ class JournalFile(Journal):
                 self.guard.note()
             self.guard.close()
 
-    def __enter__(self):
-        return self
-
-    def __exit__(self, *fault):
-        self.close()
-
 
 # ---- nodes
 
 
-class Node:
-    """A node that stays open, in memory. One call at a time, on the thread that made it.
+def open_node(lib, folder, roster_file, number, height, seed_file, is_first=False, though_convicted=False, say=guard.say_on_stderr):
+    """The node of this number over the journal of a folder, guarded: JournalFile says what is refused, and what `is_first` means.
 
-    It is started from what its journal loads, and has it keep each new record before a call answers. Where that fails the
-    node takes no more calls, and is to be started again over what was kept.
+    The seed's file has 64 hexadecimal digits, as `depot node` takes them.
+    """
+    with open(roster_file, "rb") as file:
+        roster = file.read()
+    with open(seed_file, "rb") as file:
+        digits = file.read(200).strip()
+    try:
+        seed = bytes.fromhex(digits.decode("ascii"))
+    except ValueError:
+        raise BadRequest("%s has no seed" % seed_file) from None
+    journal = JournalFile(folder, roster, number, seed_file, is_first, though_convicted, say)
+    return Node(lib, roster, seed, height, number, journal)
+
+
+class Node:
+    """A node that stays open, in memory, over a journal that it starts from, and closes with itself. One thread has it, the one that made it.
+
+    Each call keeps the records that it adds, and only then answers. Where they can't be kept it raises what the journal
+    raised, and the node is closed: what the call would have answered was never told. Keys, values and ids are bytes.
     """
 
     def __init__(self, lib, roster, seed, height, number, journal):
-        self.lib, self.journal, self.kept, self.closed = lib, journal, 0, "it was closed"
+        self.lib, self.journal, self.kept, self.at = lib, journal, 0, None
+        self.closed, self.thread, self.nothing = "it was closed", threading.get_ident(), ctypes.create_string_buffer(1)
         align = lib.depot_c_align()
         self.room = ctypes.create_string_buffer(lib.depot_c_size() + align)
-        self.at = (ctypes.addressof(self.room) + align - 1) // align * align
-        self.nothing = ctypes.create_string_buffer(1)
-        lib.depot_c_init(self.at)
         try:
-            file = journal.load()
-            self.ask(ROSTER, 0, roster)
-            self.ask(KEY, height, seed)
-            self.ask(START, number, file)
-            self.kept = sum(1 for _ in formats.spans_of(file))
-            self.keep_new()
+            self.at = (ctypes.addressof(self.room) + align - 1) // align * align
+            lib.depot_c_init(self.at)
+            self.start(roster, seed, height, number)
         except BaseException:
             self.close()
             raise
 
+    def start(self, roster, seed, height, number):
+        """Starts the node from what its journal loads."""
+        file = self.journal.load()
+        for what, operation, at, data in (("the roster: ", ROSTER, 0, roster), ("the seed: ", KEY, height, seed), ("", START, number, file)):
+            status = self.call(operation, at, data)
+            if status:
+                raise refusal(status, self.lent(LENGTH, COPY).decode(), what)
+        self.kept = len(records_of(file))
+        self.keep()
+
+    # ---- calls of the library
+
     def call(self, operation, number=0, data=b""):
-        """A call of the library, as the header has it."""
+        """A call of the library, as the header has it: its status."""
         if self.at is None:
-            raise Refused(CLOSED, self.closed)
+            raise Closed(self.closed)
+        self.look_at_thread()
         return self.lib.depot_c_call(self.at, operation, number, data, len(data), self.nothing, 0)
 
-    def answer(self):
-        """The bytes of the last answer."""
-        size = self.call(LENGTH)
+    def look_at_thread(self):
+        """Refuses another thread."""
+        if threading.get_ident() != self.thread:
+            raise WrongThread("the node was made on another thread")
+
+    def lent(self, length, copy):
+        """The bytes of the last answer, or those of the records that are lent."""
+        size = self.call(length)
         if not size:
             return b""
         found = bytearray(size)
-        self.lib.depot_c_call(self.at, COPY, 0, b"", 0, (ctypes.c_char * size).from_buffer(found), size)
+        self.lib.depot_c_call(self.at, copy, 0, b"", 0, (ctypes.c_char * size).from_buffer(found), size)
         return bytes(found)
 
-    def ask(self, operation, number=0, data=b""):
-        """The answer of a call that adds no record."""
-        status = self.call(operation, number, data)
+    def run(self, start):
+        """The records from a place on, in one run of bytes."""
+        status = self.call(RECORDS, start)
         if status:
-            raise Refused(status, self.answer().decode())
-        return self.answer()
+            raise refusal(status, "")
+        return self.lent(RECORDS_LENGTH, RECORDS_COPY)
 
-    def change(self, operation, number=0, data=b""):
-        """Asks for what may add records, and keeps the new ones, also where it is refused. Its numbers are read before."""
-        status = self.call(operation, number, data)
-        told = self.answer(), self.call(SEQ), self.call(NUMBER), [self.call(TALLY, place) for place in range(5)]
-        self.keep_new()
-        if status:
-            raise Refused(status, told[0].decode())
-        return told
-
-    def keep_new(self):
+    def keep(self):
         """Has the journal keep the records that it lacks, all at once."""
-        self.ask(COUNT)
-        count = self.call(NUMBER)
-        if self.kept == count:
-            return
         try:
-            self.journal.keep([self.ask(RECORD, place) for place in range(self.kept, count)])
-            self.kept = count
+            run = self.run(self.kept)
+            if run:
+                self.journal.keep(run)
+                self.kept += len(records_of(run))
         except BaseException as why:
-            self.close()
             self.closed = "its records couldn't be kept (%s): start it again over those that were" % why
+            self.close()
             raise
+
+    def asked(self, body):
+        """Has the node do what the body of a message asks: what raises the refusal, if there is one, and the body of the answer."""
+        status = self.call(MESSAGE, 0, body)
+        answer = self.lent(LENGTH, COPY)
+        return (refusal(status, answer.decode()), b"") if status else (None, answer[4:])
+
+    def message(self, body):
+        """The body of the message that answers one of `depot serve`, once what it added is kept."""
+        why, answer = self.asked(body)
+        self.keep()
+        if why:
+            raise why
+        return answer
+
+    # ---- writing
+
+    def put(self, changes):
+        """One update: a dict of 1 to 16 keys with their values, where None deletes. Gives a Put: its id, seq and clock."""
+        return m.read_put(self.message(m.put_body(changes)))
+
+    def put_each(self, many):
+        """Several updates, one for each dict, kept by one pair of syncs. Of each a Put, or the Refused that says why it wasn't done."""
+        answers = [self.asked(body) for body in [m.put_body(changes) for changes in many]]
+        self.keep()
+        return [why or self.told_of_put(answer) for why, answer in answers]
+
+    @staticmethod
+    def told_of_put(answer):
+        """The Put that an answer tells, or why it wasn't done."""
+        try:
+            return m.read_put(answer)
+        except NotDone as why:
+            return why
+
+    def receipt(self, ids):
+        """Gives receipts for 1 to 16 updates by their ids: the Put that says so."""
+        return m.read_put(self.message(m.receipt_body(ids)))
+
+    def checkpoint(self):
+        """Makes a checkpoint of all that was accepted, and signs it."""
+        return m.read_checkpoint(self.message(m.CHECKPOINT))
+
+    def sign(self, text):
+        """Signs a checkpoint by its text: the Put that says so."""
+        return m.read_put(self.message(m.SIGN + text))
+
+    # ---- exchanges
+
+    def hello(self, is_far=False):
+        """What the node has, for others' bundles. A far one names older updates, too: for an exchange behind a long silence."""
+        return m.read_hello(self.message(m.FAR_HELLO if is_far else m.HELLO))
+
+    def bundle(self, hello, most_bytes=1_048_576, most_vouchers=None, own=False):
+        """What the maker of a hello lacks: a stream of at most so many bytes, that signs at most so many new vouchers (None: any number).
+
+        Each voucher spends a leaf of the key, for whoever asks. With `own` it has updates of this node alone. Where `has_more`
+        is told, the other takes this one and asks again with its new hello.
+        """
+        return m.read_bundle(self.message(m.bundle_body(hello, most_bytes, most_vouchers, own)))
+
+    def take(self, stream):
+        """Takes a stream, or whole frames of one. The journal hears of those that it refused: some are alarms."""
+        taken = m.read_taken(self.message(m.TAKE + stream))
+        self.journal.heed(taken.refused, stream)
+        return taken
+
+    # ---- what it knows
+
+    def get(self, key):
+        """The values of a key's latest writes that are held: mostly one, several where writers didn't see each other."""
+        return [it.value for it in self.latest(key) if it.value is not None]
+
+    def latest(self, key):
+        """The latest writes of a key, in rising order of clock, writer, seq and id."""
+        return m.read_latest(self.message(m.latest_body(key)))
+
+    def keys(self):
+        """All keys, rising, page by page as they are asked for."""
+        page = m.Page((b"",), True)
+        while page.has_more:
+            page = m.read_keys(self.message(m.keys_body(page.entries[-1])))
+            yield from page.entries
+
+    def update(self, update):
+        """What is known of the update with an id; None where none was accepted."""
+        return m.read_update(self.message(m.update_body(update)))
+
+    def updates(self, start=0):
+        """The accepted updates from this number on, with their keys, page by page as they are asked for."""
+        page = m.Page((), True)
+        while page.has_more:
+            page = m.read_updates(self.message(m.page_body(m.UPDATES, start)))
+            start += len(page.entries)
+            yield from page.entries
+
+    def accepted(self, ids):
+        """Which of 1 to 16 ids are those of accepted updates: a dict of the ids."""
+        return dict(zip(sorted(set(ids)), m.read_accepted(self.message(m.accepted_body(ids)))))
+
+    def settled(self, update, nodes):
+        """Whether at least so many nodes gave a receipt for an update."""
+        return m.read_settled(self.message(m.settled_body(update, nodes)))
+
+    def status(self):
+        """Who the node is, and how much it has."""
+        return m.read_status(self.message(m.STATUS))
+
+    def convictions(self, start=0):
+        """The proofs among the records from a place on, page by page as they are asked for."""
+        page = m.Page((), True)
+        while page.has_more:
+            page = m.read_convictions(self.message(m.page_body(m.CONVICTIONS, start)))
+            start = page.entries[-1].place + 1 if page.entries else start
+            yield from page.entries
 
     def records(self):
         """All records of the node."""
-        self.ask(COUNT)
-        return [self.ask(RECORD, place) for place in range(self.call(NUMBER))]
-
-    def put(self, key, value):
-        """Writes a value: the id, the seq and the clock of the update."""
-        return self.changed(PUT, len(key), key + value, {key: value})
-
-    def puts(self, changes):
-        """The same of several keys: a dict of values, where None deletes."""
-        data = b"".join(bytes_of_change(*it) for it in sorted(changes.items()))
-        return self.changed(PUTS, len(changes), data, changes)
-
-    def changed(self, operation, number, data, changes):
-        """The id, the seq and the clock of an update; where it isn't in its form, why."""
-        try:
-            return self.change(operation, number, data)[:3]
-        except Refused as refused:
-            if refused.status == INPUT and fault_of(changes):
-                raise Refused(INPUT, fault_of(changes)) from None
-            raise
-
-    def receipt(self, ids):
-        """Gives receipts for ids of updates: the same of the update that says so."""
-        ids = sorted(set(ids))
-        return self.change(RECEIPT, len(ids), b"".join(ids))[:3]
-
-    def settled(self, update, nodes):
-        """Whether at least so many nodes gave a receipt for an id."""
-        self.ask(SETTLED, nodes, update)
-        return self.call(NUMBER) == 1
-
-    def checkpoint(self):
-        """Makes a checkpoint and signs it: its text, and the seq and the clock of the update that says so."""
-        return self.change(CHECKPOINT)[:3]
-
-    def sign(self, text):
-        """Signs a checkpoint: the id, the seq and the clock of the update that says so."""
-        return self.change(SIGN, 0, text)[:3]
-
-    def message(self, body):
-        """The body of the message that answers one of `depot serve`: a request, a question or a bounded send, each in its bytes."""
-        return self.change(MESSAGE, 0, body)[0][4:]
-
-    def writes(self, key):
-        """The latest writes of a key: writer, seq, clock, what it says of the key, and the value, which is empty but of HELD."""
-        found = []
-        while True:
-            try:
-                data = self.ask(LATEST, len(found), key)
-            except Refused as refused:
-                if refused.status == ABSENT:
-                    return found
-                raise
-            found.append((*struct.unpack(">HIQB", data[:15]), data[15:]))
-
-    def lines(self, key):
-        """The same in the words of the program's lines."""
-        words = {DELETED: "!", LACKED: "=?"}
-        return ["%d/%d/%d%s" % (*it[:3], words.get(it[3]) or "=" + it[4].hex()) for it in self.writes(key)]
-
-    def get(self, key):
-        """The latest writes of a key: writer, seq, clock, and the value, None of a deletion and of one that isn't held."""
-        return [(*it[:3], it[4] if it[3] == HELD else None) for it in self.writes(key)]
-
-    def hello(self):
-        """What the node has, for others' bundles."""
-        return self.ask(HELLO)
-
-    def bundle(self, hello):
-        """A stream of what the sender of a hello lacks. It may sign vouchers, each by a leaf of the key."""
-        return self.change(BUNDLE, 0, hello)[0]
-
-    def feed(self, stream, size=1000):
-        """Feeds a stream in pieces: what became of its frames, as a line, the lines of those that were refused, and why it was closed."""
-        why = None
-        for at in range(0, max(len(stream), 1), size):
-            status = self.call(FEED, 0, stream[at:at + size])
-            if status:
-                why = Refused(status, self.answer().decode())
-            self.keep_new()
-            if why:
-                break
-        told, refusals = self.ask(FEED_END).decode(), []
-        for place in range(int(told.split()[5])):
-            refusals.append(self.ask(REFUSAL, place).decode())
-        self.journal.heed(refusals, stream)
-        return told, refusals, why
+        return records_of(self.run(0))
 
     def close(self):
-        """Lets go of all. It takes no more calls."""
+        """Lets go of all, its journal too. It takes no more calls."""
+        self.look_at_thread()
         if self.at is not None:
-            self.call(CLEAR)
+            self.lib.depot_c_call(self.at, CLEAR, 0, b"", 0, self.nothing, 0)
             self.at = None
+        self.journal.close()
 
     def __enter__(self):
         return self

@@ -31,27 +31,15 @@ unsafe extern "C" {
 pub enum Op {
     Length = 0,
     Copy = 1,
-    Number = 2,
-    Seq = 3,
-    Roster = 5,
-    Key = 6,
-    Start = 7,
-    End = 8,
-    Clear = 9,
-    Put = 10,
-    Puts = 11,
-    Hello = 12,
-    Bundle = 13,
-    Receipt = 14,
-    Settled = 15,
-    Checkpoint = 16,
-    Sign = 17,
-    Feed = 18,
-    FeedEnd = 19,
-    Refusal = 20,
-    Latest = 21,
-    Count = 23,
-    Record = 24,
+    RecordsLength = 2,
+    RecordsCopy = 3,
+    Roster = 4,
+    Key = 5,
+    Start = 6,
+    End = 7,
+    Clear = 8,
+    Message = 9,
+    Records = 10,
 }
 
 /// Judges the text of a proof under the text of a roster.
@@ -94,28 +82,31 @@ impl Handle {
         unsafe { depot_c_call(self.at, op as u32, number, input.as_ptr(), input.len(), output.as_mut_ptr(), output.len()) }
     }
 
-    /// The bytes of the last answer.
-    pub fn answer(&mut self) -> Vec<u8> {
-        let mut bytes = vec![0; self.call(Op::Length, 0, &[], &mut []) as usize];
-        self.call(Op::Copy, 0, &[], &mut bytes);
+    /// The bytes of the last answer, or those of the records that are lent.
+    fn lent(&mut self, length: Op, copy: Op) -> Vec<u8> {
+        let mut bytes = vec![0; self.call(length, 0, &[], &mut []) as usize];
+        self.call(copy, 0, &[], &mut bytes);
         bytes
     }
 
-    /// A number of the last answer.
-    pub fn number(&mut self, op: Op) -> u64 {
-        self.call(op, 0, &[], &mut [])
-    }
-
+    /// What a call answers: bytes, or why it is refused.
     pub fn ask(&mut self, op: Op, number: u64, input: &[u8]) -> Result<Vec<u8>, Refused> {
         let status = self.call(op, number, input, &mut []);
-        let bytes = self.answer();
+        let bytes = self.lent(Op::Length, Op::Copy);
         if status == 0 { Ok(bytes) } else { Err(Refused(status, String::from_utf8_lossy(&bytes).into_owned())) }
     }
 
-    /// The records of its node.
-    pub fn records(&mut self) -> Result<Vec<Vec<u8>>, Refused> {
-        self.ask(Op::Count, 0, &[])?;
-        (0..self.number(Op::Number)).map(|place| self.ask(Op::Record, place, &[])).collect()
+    /// The body of the message that answers one. Its records are to be kept before it is used.
+    pub fn message(&mut self, body: &[u8]) -> Result<Vec<u8>, Refused> {
+        self.ask(Op::Message, 0, body).map(|answer| answer[4..].to_vec())
+    }
+
+    /// The records of its node from a place on, each as 01, its length in four bytes, and its text.
+    pub fn records(&mut self, place: u64) -> Result<Vec<u8>, Refused> {
+        match self.call(Op::Records, place, &[], &mut []) {
+            0 => Ok(self.lent(Op::RecordsLength, Op::RecordsCopy)),
+            status => Err(Refused(status, String::new())),
+        }
     }
 }
 

@@ -5,7 +5,7 @@
  * is made again. Each function gives 0, or -1 where a call failed; errno says why. Then the file is touched no more: use no
  * answer that came since the last journal_keep, end the node, and start again from the file.
  *
- *     journal_open, journal_read, depot_start of what was read; then journal_keep after the start and each call that may add records
+ *     journal_open, journal_read, depot_start of what was read; then journal_keep after the start and after each message
  *
  * A file whose records nobody read is never written: journal_keep fails with EINVAL before journal_read. Nothing here knows
  * whether the file is the node's newest: tools/guard.py does, and the Python caller uses it. */
@@ -103,30 +103,43 @@ static int journal_read(struct journal *j, uint8_t **bytes, size_t *size)
     return 0;
 }
 
-/* One record: its length, its text and a closed gate behind the closed gate; then that gate is opened. */
-static int journal_append(struct journal *j, void *node)
+/* Appends a run of records: all but its first gate, and a closed one, behind the closed gate; then that is opened. By two syncs, be they many. */
+static int journal_append(struct journal *j, uint8_t *run, size_t size)
 {
-    size_t n = depot_length(node);
-    uint8_t *block = malloc(n + 5);
-    if (!block)
-        return -1;
-    uint8_t length[4] = {(uint8_t)(n >> 24), (uint8_t)(n >> 16), (uint8_t)(n >> 8), (uint8_t)n};
-    memcpy(block, length, 4);
-    block[4 + depot_copy(node, 0, block + 4, n)] = 0;
-    int failed = journal_write(j->file, block, n + 5, j->gate + 1) || journal_sync(j->file) ||
-                 journal_write(j->file, (const uint8_t *)"\1", 1, j->gate) || journal_sync(j->file);
-    free(block);
-    j->gate += 5 + n, j->kept++;
-    return failed ? -1 : 0;
+    uint8_t first = *run;
+    memmove(run, run + 1, size - 1);
+    run[size - 1] = 0;
+    return journal_write(j->file, run, size, j->gate + 1) || journal_sync(j->file) || journal_write(j->file, &first, 1, j->gate) ||
+           journal_sync(j->file) ? -1 : 0;
 }
 
-/* Appends the records that the node has and the file lacks. It takes the node's last answer: copy out of it before. */
+/* How many records a run has. */
+static uint64_t journal_count(const uint8_t *run, size_t size)
+{
+    uint64_t count = 0;
+    for (size_t at = 0; at < size; count++)
+        at += 5 + ((size_t)run[at + 1] << 24 | (size_t)run[at + 2] << 16 | (size_t)run[at + 3] << 8 | run[at + 4]);
+    return count;
+}
+
+/* Appends the records that the node has and the file lacks, all at once. The answer stays as it was. ENOMEM: no memory was found, nothing
+ * was written, and it may be called again. */
 static int journal_keep(struct journal *j, void *node)
 {
     if (!j->is_read)
         return errno = EINVAL, -1;
-    for (uint64_t count = depot_count(node); j->is_read && j->kept < count;)
-        j->is_read = depot_record(node, j->kept) == DEPOT_DONE && !journal_append(j, node);
+    uint64_t lent = depot_records(node, j->kept);
+    if (lent != DEPOT_DONE)
+        return errno = lent == DEPOT_MEMORY ? ENOMEM : EINVAL, -1;
+    size_t size = depot_records_length(node);
+    uint8_t *run = size ? malloc(size) : NULL;
+    if (!run)
+        return size ? errno = ENOMEM, -1 : 0;
+    depot_records_copy(node, 0, run, size);
+    uint64_t count = journal_count(run, size);
+    j->is_read = !journal_append(j, run, size);
+    free(run);
+    j->gate += size, j->kept += count;
     return j->is_read ? 0 : -1;
 }
 #endif

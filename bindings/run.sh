@@ -63,7 +63,7 @@ if command -v cc >/dev/null; then
             "$work/roster" "$one" 4 1 || status=1
     check "puts under the keys of receipts and checkpoints, which are refused" python3 -B bindings/tests/keys.py "$work/libdepot.so" \
         "$work/roster" "$one" 4 1
-    check "requests by their bytes" python3 -B bindings/tests/forms.py "$work/libdepot.so" \
+    check "messages by their bytes, and each method" python3 -B bindings/tests/forms.py "$work/libdepot.so" \
         "$work/roster" "$one" 4 1
     check "${OPERATIONS:-10000} commands by chance, as the program" python3 -B bindings/tests/sessions.py "$work/libdepot.so" "${OPERATIONS:-10000}"
 else

@@ -31,13 +31,14 @@ static void must(void *node, uint64_t status)
     exit((int)status);
 }
 
-/* Whether something stands at the place that was asked for. */
-static int stands(void *node, uint64_t status)
+/* What was asked of a node was done, and its answer is of this kind. */
+static void does(void *node, uint64_t status, unsigned kind)
 {
-    if (status == DEPOT_ABSENT)
-        return 0;
     must(node, status);
-    return 1;
+    if (depot_field(node, 0, 1) == kind)
+        return;
+    fprintf(stderr, "kind %d\n", (int)depot_field(node, 0, 1));
+    exit(8);
 }
 
 static void *handle(struct bytes roster, const char *hex, unsigned height)
@@ -71,99 +72,92 @@ static void start(void *node, unsigned number, struct journal *j, const char *fo
 static void told_put(const char *who, void *node, struct journal *j, uint64_t status)
 {
     must(node, status);
-    unsigned seq = (unsigned)depot_seq(node), clock = (unsigned)depot_number(node);
     if (j && journal_keep(j, node))
         exit(4);
-    printf("%s put %u/%u\n", who, seq, clock);
+    printf("%s put %u/%u\n", who, (unsigned)depot_field(node, 33, 4), (unsigned)depot_field(node, 37, 8));
+}
+
+/* A check as the program prints it, of those that this one meets. Its fields begin at `at`. */
+static void show_check(void *node, size_t at)
+{
+    unsigned check = (unsigned)depot_field(node, at, 1), kind = (unsigned)depot_field(node, at + 65, 1);
+    if (check == 11 && kind == 1)
+        printf("11 Forked SameNumber\n");
+    else if (check == 14)
+        printf("14 Unwanted\n");
+    else
+        printf("%u\n", check);
 }
 
 /* `to` asks `from` once, and says what became of it. */
 static void exchange(void *from, struct journal *sent, void *to, struct journal *read)
 {
-    must(to, depot_hello(to));
+    does(to, depot_hello(to), 3);
     struct bytes hello = answer(to);
-    must(from, depot_bundle(from, hello.at, hello.size));
-    struct bytes bundle = answer(from);
+    does(from, depot_bundle(from, 1 << 20, UINT32_MAX, 0, hello.at + 5, hello.size - 5), 4);
     if (sent && journal_keep(sent, from))
         exit(4);
-    for (size_t at = 0; at < bundle.size; at += 1000)
-        must(to, depot_feed(to, bundle.at + at, bundle.size - at < 1000 ? bundle.size - at : 1000));
-    must(to, depot_feed_end(to));
-    struct bytes told = answer(to);
+    struct bytes bundle = answer(from);
+    does(to, depot_take(to, bundle.at + 22, bundle.size - 22), 5);
     if (read && journal_keep(read, to))
         exit(4);
-    printf("%s\n", (char *)told.at);
-    free(told.at);
-    for (uint64_t place = 0; stands(to, depot_refusal(to, place)); place++) {
-        struct bytes refusal = answer(to);
-        printf("%s\n", (char *)refusal.at);
-        free(refusal.at);
+    unsigned refused = (unsigned)depot_field(to, 10, 4);
+    printf("accepted %u known %u refused %u %s\n", (unsigned)depot_field(to, 1, 4), (unsigned)depot_field(to, 5, 4), refused,
+           depot_field(to, 9, 1) == 2 ? "whole" : "otherwise");
+    for (size_t at = 14; refused--; at += 4 + (depot_field(to, at + 4, 1) == 11 ? 66 : 33)) {
+        printf(" refused %u ", (unsigned)depot_field(to, at, 4));
+        show_check(to, at + 4);
     }
     free(hello.at);
     free(bundle.at);
 }
 
-/* The number of some bytes, the highest first. */
-static unsigned long long number(const uint8_t *at, int size)
-{
-    unsigned long long n = 0;
-    while (size--)
-        n = n << 8 | *at++;
-    return n;
-}
-
-/* A write in the words of the program's lines: its writer, number and clock, and its value, if it has one that is held. */
-static void show_write(struct bytes write)
-{
-    printf(" %llu/%llu/%llu%s", number(write.at, 2), number(write.at + 2, 4), number(write.at + 6, 8),
-           write.at[14] == 0 ? "!" : write.at[14] == 2 ? "=?" : "=");
-    for (size_t at = 15; at < write.size; at++)
-        printf("%02x", write.at[at]);
-}
-
+/* The latest writes of a key, in the words of the program's lines: writer, number and clock, and the value, if there is one that is held. */
 static void show(void *node, const char *key)
 {
+    does(node, depot_latest(node, key, strlen(key)), 0x13);
+    struct bytes told = answer(node);
     printf("%s", key);
-    for (uint64_t place = 0; stands(node, depot_latest(node, key, strlen(key), place)); place++) {
-        struct bytes write = answer(node);
-        show_write(write);
-        free(write.at);
+    size_t at = 5, count = (size_t)depot_field(node, 1, 4);
+    while (count--) {
+        unsigned mark = (unsigned)depot_field(node, at + 46, 1);
+        printf(" %u/%u/%u%s", (unsigned)depot_field(node, at + 32, 2), (unsigned)depot_field(node, at + 34, 4), (unsigned)depot_field(node, at + 38, 8),
+               mark == 0 ? "!" : mark == 2 ? "=?" : "=");
+        size_t length = mark == 1 ? (size_t)depot_field(node, at + 47, 4) : 0;
+        for (size_t i = 0; i < length; i++)
+            printf("%02x", told.at[4 + at + 51 + i]);
+        at += 47 + (mark == 2 ? 36 : mark ? 4 + length : 0);
     }
     printf("\n");
+    free(told.at);
+}
+
+/* The records of a node in one run: 01, the length in four bytes and the text of each. The caller frees it. */
+static struct bytes records(void *node)
+{
+    must(node, depot_records(node, 0));
+    struct bytes run = {NULL, depot_records_length(node)};
+    run.at = malloc(run.size + 1);
+    if (!run.at || depot_records_copy(node, 0, run.at, run.size) != run.size)
+        exit(6);
+    run.at[run.size] = 0; /* the closed gate of a file */
+    return run;
 }
 
 /* Judges each proof among the node's records. */
 static void judge(void *node, struct bytes roster)
 {
-    for (uint64_t place = 0; stands(node, depot_record(node, place)); place++) {
-        struct bytes record = answer(node);
-        if (record.at[0] == 5) { /* behind the tag of a conviction stands the proof */
-            struct depot_judged told = depot_c_judge(roster.at, roster.size, record.at + 1, record.size - 1);
-            if (told.status == DEPOT_MEMORY)
-                exit(6);
-            printf("judged %u: node %u, kind %u\n", told.status, told.node, told.kind);
-        }
-        free(record.at);
-    }
-}
-
-/* A journal's file of the first records of a node, as an old copy of it would have them. */
-static struct bytes old_copy(void *node, uint64_t count)
-{
-    struct bytes file = {malloc(1), 0};
-    for (uint64_t place = 0; place < count; place++) {
-        must(node, depot_record(node, place));
-        size_t n = depot_length(node);
-        file.at = realloc(file.at, file.size + n + 6);
-        if (!file.at)
+    struct bytes run = records(node);
+    for (size_t at = 0, next; at < run.size; at = next) {
+        next = at + 5 + ((size_t)run.at[at + 1] << 24 | (size_t)run.at[at + 2] << 16 | (size_t)run.at[at + 3] << 8 | run.at[at + 4]);
+        if (run.at[at + 5] != 5) /* behind the tag of a conviction stands the proof */
+            continue;
+        struct depot_judged told = depot_c_judge(roster.at, roster.size, run.at + at + 6, next - at - 6);
+        if (told.status == DEPOT_MEMORY)
             exit(6);
-        uint8_t head[5] = {1, (uint8_t)(n >> 24), (uint8_t)(n >> 16), (uint8_t)(n >> 8), (uint8_t)n};
-        memcpy(file.at + file.size, head, 5);
-        depot_copy(node, 0, file.at + file.size + 5, n);
-        file.size += 5 + n;
+        printf("judged %u: node %u, kind %u\n", told.status, told.node, told.kind);
     }
-    file.at[file.size++] = 0;
-    return file;
+    free(run.at);
 }
 
 int main(int argc, char **argv)
@@ -179,34 +173,37 @@ int main(int argc, char **argv)
     struct journal j;
     start(one, 1, &j, argv[5]);
     must(two, depot_start(two, 2, NULL, 0));
-    told_put("one", one, &j, depot_put(one, "colorblue", 5, 9));
-    told_put("two", two, NULL, depot_put(two, "colorgreen", 5, 10));
-    struct bytes green = answer(two); /* the id of that update */
-    struct bytes copy = old_copy(one, 2);
-    uint8_t changes[32], *end = depot_change(depot_change(changes, "a", 1, "1", 1), "b", 1, "2", 1);
-    told_put("one", one, &j, depot_puts(one, 2, changes, (size_t)(end - changes))); /* a and b, at once */
+    uint8_t changes[32], *end = depot_change(changes, "color", 5, "blue", 4);
+    told_put("one", one, &j, depot_put(one, 1, changes, (size_t)(end - changes)));
+    end = depot_change(changes, "color", 5, "green", 5);
+    told_put("two", two, NULL, depot_put(two, 1, changes, (size_t)(end - changes)));
+    struct bytes green = answer(two); /* the id of that update, behind the length and the kind */
+    struct bytes copy = records(one); /* an old copy of the journal */
+    end = depot_change(depot_change(changes, "a", 1, "1", 1), "b", 1, "2", 1);
+    told_put("one", one, &j, depot_put(one, 2, changes, (size_t)(end - changes))); /* a and b, at once */
     exchange(one, &j, two, NULL);
     exchange(two, NULL, one, &j);
     show(one, "color"); /* two: neither had seen the other */
-    told_put("two", two, NULL, depot_put(two, "colorred", 5, 8));
+    end = depot_change(changes, "color", 5, "red", 3);
+    told_put("two", two, NULL, depot_put(two, 1, changes, (size_t)(end - changes)));
     end = depot_change(changes, "a", 1, NULL, 0);
-    told_put("two", two, NULL, depot_puts(two, 1, changes, (size_t)(end - changes))); /* a is deleted */
+    told_put("two", two, NULL, depot_put(two, 1, changes, (size_t)(end - changes))); /* a is deleted */
     exchange(two, NULL, one, &j);
-    told_put("one", one, &j, depot_receipt(one, 1, green.at)); /* it holds what two put first */
-    must(one, depot_settled(one, 1, green.at));
-    printf("settled %s\n", depot_number(one) ? "yes" : "no");
-    must(one, depot_checkpoint(one));
+    told_put("one", one, &j, depot_receipt(one, 1, green.at + 5)); /* it holds what two put first */
+    does(one, depot_settled(one, green.at + 5, 1), 6);
+    printf("settled %s\n", depot_field(one, 1, 1) ? "yes" : "no");
+    told_put("one", one, &j, depot_checkpoint(one));
     struct bytes checkpoint = answer(one);
-    told_put("one", one, &j, DEPOT_DONE);
     exchange(one, &j, two, NULL);
-    told_put("two", two, NULL, depot_sign(two, checkpoint.at, checkpoint.size));
+    told_put("two", two, NULL, depot_sign(two, checkpoint.at + 49, checkpoint.size - 49));
     must(one, depot_end(one));
     close(j.file);
     start(one, 1, &j, argv[5]); /* again, from its file: the roster and the key are kept */
     show(one, "color");
     show(one, "a");
-    must(old, depot_start(old, 1, copy.at, copy.size)); /* node one from an old copy of its journal: a fork */
-    told_put("old", old, NULL, depot_put(old, "colorblack", 5, 10));
+    must(old, depot_start(old, 1, copy.at, copy.size + 1)); /* node one from an old copy of its journal: a fork */
+    end = depot_change(changes, "color", 5, "black", 5);
+    told_put("old", old, NULL, depot_put(old, 1, changes, (size_t)(end - changes)));
     exchange(old, NULL, two, NULL);
     judge(two, roster);
     free(copy.at);

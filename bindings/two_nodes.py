@@ -21,22 +21,27 @@ class Table(depot.Journal):
         records = [row[0] for row in self.base.execute("select record from %s order by place" % self.name)]
         return depot.file_of(records) if records else b""
 
-    def keep(self, records):
+    def keep(self, run):
         with self.base:
-            self.base.executemany("insert into %s (record) values (?)" % self.name, [(it,) for it in records])
+            self.base.executemany("insert into %s (record) values (?)" % self.name, [(it,) for it in depot.records_of(run)])
 
 
-def told(who, answer):
-    print("%s put %d/%d" % (who, *answer[1:]))
+def told(who, put):
+    print("%s put %d/%d" % (who, put.seq, put.clock))
 
 
 def exchange(sender, reader):
-    line, refusals, _ = reader.feed(sender.bundle(reader.hello()))
-    print(line, *refusals, sep="\n")
+    """Until the sender has no more for the reader: here at once."""
+    has_more = True
+    while has_more:
+        bundle = sender.bundle(reader.hello())
+        taken = reader.take(bundle.stream)
+        print(taken.line(), *(it.line() for it in taken.refused), sep="\n")
+        has_more = bundle.has_more
 
 
 def show(node, key):
-    print(*[key.decode()] + node.lines(key))
+    print(*[key.decode()] + [it.words() for it in node.latest(key)])
 
 
 def main(library, roster, one_seed, two_seed, height, folder):
@@ -46,43 +51,38 @@ def main(library, roster, one_seed, two_seed, height, folder):
     one_is = roster, bytes.fromhex(one_seed), int(height), 1
     two_is = roster, bytes.fromhex(two_seed), int(height), 2
     table = Table(sqlite3.connect(":memory:"), "two")
-    file = depot.JournalFile(folder, roster, 1, is_first=True)  # a service names its seed's file, too
-    one = depot.Node(lib, *one_is, file)
+    one = depot.Node(lib, *one_is, depot.JournalFile(folder, roster, 1, is_first=True))  # a service has its seed in a file, too: depot.open_node
     two = depot.Node(lib, *two_is, table)
-    told("one", one.put(b"color", b"blue"))
-    green = two.put(b"color", b"green")
+    told("one", one.put({b"color": b"blue"}))
+    green = two.put({b"color": b"green"})
     told("two", green)
     copy = one.records()
-    told("one", one.puts({b"a": b"1", b"b": b"2"}))
+    told("one", one.put({b"a": b"1", b"b": b"2"}))
     exchange(one, two)
     exchange(two, one)
     show(one, b"color")  # two: neither had seen the other
     two.close()
     two = depot.Node(lib, *two_is, table)  # again, from its records
-    told("two", two.put(b"color", b"red"))
-    told("two", two.puts({b"a": None}))  # a is deleted
+    for put in two.put_each([{b"color": b"red"}, {b"a": None}]):  # a is deleted
+        told("two", put)
     exchange(two, one)
-    told("one", one.receipt([green[0]]))  # it holds what two put first
-    print("settled", "yes" if one.settled(green[0], 1) else "no")
+    told("one", one.receipt([green.id]))  # it holds what two put first
+    print("settled", "yes" if one.settled(green.id, 1) else "no")
     checkpoint = one.checkpoint()
     told("one", checkpoint)
     exchange(one, two)
-    told("two", two.sign(checkpoint[0]))
+    told("two", two.sign(checkpoint.text))
     one.close()
-    file.close()
-    file = depot.JournalFile(folder, roster, 1)
-    one = depot.Node(lib, *one_is, file)  # again, from its file
+    one = depot.Node(lib, *one_is, depot.JournalFile(folder, roster, 1))  # again, from its file
     show(one, b"color")
     show(one, b"a")
     old = depot.Node(lib, *one_is, depot.Forgetful(depot.file_of(copy)))  # node one from an old copy of its journal: a fork
-    told("old", old.put(b"color", b"black"))
+    told("old", old.put({b"color": b"black"}))
     exchange(old, two)
-    for record in two.records():
-        if record[0] == 5:  # behind the tag of a conviction stands the proof
-            print("judged %d: node %d, kind %d" % depot.judge(lib, roster, record[1:]))
+    for conviction in two.convictions():
+        print("judged %d: node %d, kind %d" % depot.judge(lib, roster, conviction.proof))
     for node in (one, two, old):
         node.close()
-    file.close()
 
 
 main(*sys.argv[1:])

@@ -38,17 +38,20 @@ int main(int argc, char **argv)
         return puts("disk"), 4;
     int count = atoi(argv[6]);
     for (int i = 0; i < count; i++) {
-        char text[32];
-        int key = sprintf(text, "k%d", i % 7), all = key + sprintf(text + key, "v%d", i);
-        if (depot_put(node, text, (size_t)key, (size_t)all))
+        char key[16], value[16];
+        uint8_t change[40];
+        int key_length = sprintf(key, "k%d", i % 7), length = sprintf(value, "v%d", i);
+        uint8_t *end = depot_change(change, key, (size_t)key_length, value, (size_t)length);
+        if (depot_put(node, 1, change, (size_t)(end - change)))
             return refused(node, "put");
-        unsigned seq = (unsigned)depot_seq(node), clock = (unsigned)depot_number(node);
         if (journal_keep(&j, node))
             return puts("disk"), 4;
-        printf("%u/%u\n", seq, clock);
+        if (depot_field(node, 0, 1) != 1)
+            return puts("not done"), 8;
+        printf("%u/%u\n", (unsigned)depot_field(node, 33, 4), (unsigned)depot_field(node, 37, 8));
         fflush(stdout);
     }
-    printf("records %llu\n", (unsigned long long)depot_count(node));
+    printf("records %llu\n", (unsigned long long)j.kept);
     depot_free(node);
     close(j.file);
     return 0;

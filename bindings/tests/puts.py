@@ -9,7 +9,8 @@ library, roster, seed, height, number, folder, count = sys.argv[1:]
 with open(roster, "rb") as file:
     roster = file.read()
 is_first = not os.path.exists(os.path.join(folder, "depot.journal"))
-with depot.JournalFile(folder, roster, int(number), is_first=is_first) as journal:
-    with depot.Node(depot.load(library), roster, bytes.fromhex(seed), int(height), int(number), journal) as node:
-        for i in range(int(count)):
-            print("%d/%d" % node.put(b"k%d" % (i % 7), b"v%d" % i)[1:], flush=True)
+journal = depot.JournalFile(folder, roster, int(number), is_first=is_first)
+with depot.Node(depot.load(library), roster, bytes.fromhex(seed), int(height), int(number), journal) as node:
+    for i in range(int(count)):
+        put = node.put({b"k%d" % (i % 7): b"v%d" % i})
+        print("%d/%d" % (put.seq, put.clock), flush=True)

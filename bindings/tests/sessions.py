@@ -14,10 +14,16 @@ import tempfile
 HERE = os.path.dirname(os.path.abspath(__file__))
 sys.path[:0] = [os.path.join(HERE, ".."), os.path.join(HERE, "..", "..", "tools")]
 import depot  # noqa: E402
+import depot_messages as m  # noqa: E402
 import formats  # noqa: E402
 
 DEPOT = os.environ.get("DEPOT", os.path.join(HERE, "..", "..", "depot"))
 JOURNAL = "depot.journal"
+# With what status the program ends on each.
+STATUSES = {
+    depot.Spent: 8, depot.TooManyTips: 8, depot.IdTaken: 8, depot.Full: 8, depot.TooManyLeaves: 8, depot.IllFormed: 2, depot.OtherRoster: 10,
+    depot.Unknown: 0, depot.ValueNotHeld: 0, depot.NothingAccepted: 0,
+}
 KEYS = [b"a", b"b", b"b\0", b"color", b"k" * 255]
 
 
@@ -69,29 +75,29 @@ class World:
 
     def put(self, node):
         key, value = self.draw.choice(KEYS), self.draw.randbytes(self.draw.choice([0, 1, 20, 300, 300, 65536]))
-        return ("put %s %s" % (key.hex(), value.hex() or "-"), "put %s ->" % key.hex(), lambda: self.put_line(lambda: node.put(key, value)))
+        return ("put %s %s" % (key.hex(), value.hex() or "-"), "put %s ->" % key.hex(), lambda: self.put_line(lambda: node.put({key: value})))
 
     def puts(self, node):
         keys = sorted(self.draw.sample(KEYS, self.draw.randint(1, 4)))
         changes = {key: self.draw.choice([None, b"", self.draw.randbytes(9)]) for key in keys}
         words = ",".join(k.hex() + ("!" if v is None else "=" + (v.hex() or "-")) for k, v in changes.items())
-        return "puts " + words, "puts ->", lambda: self.put_line(lambda: node.puts(changes))
+        return "puts " + words, "puts ->", lambda: self.put_line(lambda: node.put(changes))
 
     def put_line(self, put):
         try:
-            update, seq, clock = put()
-        except depot.Refused as refused:
+            made = put()
+        except depot.NotDone as refused:
             return self.refusal(refused)
-        self.ids.append(update)
-        return " %d/%d" % (seq, clock), 0
+        self.ids.append(made.id)
+        return " %d/%d" % (made.seq, made.clock), 0
 
     def refusal(self, refused):
         """What isn't there ends no script of the program."""
-        return " " + refused.why, 0 if refused.status == depot.ABSENT else refused.status
+        return " " + refused.words, STATUSES[type(refused)]
 
     def get(self, node):
         key = self.draw.choice(KEYS)
-        return "get " + key.hex(), "get %s ->" % key.hex(), lambda: ("".join(" " + line for line in node.lines(key)), 0)
+        return "get " + key.hex(), "get %s ->" % key.hex(), lambda: ("".join(" " + it.words() for it in node.latest(key)), 0)
 
     def hello(self, node):
         name = self.name("hello")
@@ -111,19 +117,25 @@ class World:
         return hello and ("bundle %s %s" % (hello, name), "bundle %s %s ->" % (hello, name), lambda: self.bundle_line(node, hello, name))
 
     def bundle_line(self, node, hello, name):
+        """By the message without bounds, or by the widest: both are the bundle of the program."""
         try:
-            self.files[name], _, _, tallies = node.change(depot.BUNDLE, 0, self.files[hello])
-        except depot.Refused as refused:
-            return " " + refused.why, refused.status
-        return " proofs %d vouchers %d updates %d values %d " % tuple(tallies[:4]) + ("more" if tallies[4] else "whole"), 0
+            if self.draw.random() < 0.5:
+                bundle = node.bundle(self.files[hello], m.MOST_BUNDLE)
+            else:
+                bundle = m.read_bundle(node.message(b"\4" + self.files[hello]))
+        except depot.NotDone as refused:
+            return self.refusal(refused)
+        self.files[name] = bundle.stream
+        return " proofs %d vouchers %d updates %d values %d " % bundle[:4] + ("more" if bundle.has_more else "whole"), 0
 
     def take(self, node):
         name = self.some_file("bundle")
         return name and ("take " + name, "take %s ->" % name, lambda: self.take_line(node, self.files[name]))
 
     def take_line(self, node, stream):
-        told, refusals, why = node.feed(stream, self.draw.choice([1, 7, 1000, 100000]) if len(stream) < 3000 else 1000)
-        return " " + told + "".join("\n" + line for line in refusals), why.status if why else 0
+        taken = node.take(stream)
+        status = 2 if taken.how.startswith("ill-formed") else 8 if taken.how.startswith("full") else 0
+        return " " + taken.line() + "".join("\n" + it.line() for it in taken.refused), status
 
     def some_id(self):
         """The id of a late update, or now and then of none."""
@@ -144,10 +156,11 @@ class World:
 
     def checkpoint_line(self, node, name):
         try:
-            self.files[name], seq, clock = node.checkpoint()
-        except depot.Refused as refused:
+            made = node.checkpoint()
+        except depot.NotDone as refused:
             return self.refusal(refused)
-        return " %d/%d" % (seq, clock), 0
+        self.files[name] = made.text
+        return " %d/%d" % (made.seq, made.clock), 0
 
     def sign(self, node):
         name = self.some_file("checkpoint")
@@ -223,7 +236,8 @@ class World:
         try:
             node = self.start(number, bytes(text))
         except depot.Refused as refused:
-            assert (told.decode(), status) == (refused.why + "\n", refused.status), (told, status, refused)
+            want = 9 if isinstance(refused, depot.BadJournal) else 10
+            assert (told.decode(), status) == (refused.words + "\n", want), (told, status, refused)
             return 1
         assert (told, status) == (b"", 0), (told, status)
         with open(os.path.join(folder, JOURNAL), "rb") as file:

@@ -56,9 +56,8 @@ class Blocks(InARoom):
         self.assertEqual(self.typed("./prog", "./prog"), (0, ["put 0 blue", "put 1 blue"]))
         line = "PYTHONPATH=bindings python3 prog.py"
         self.assertIn(line, section("docs/EMBEDDING.md", "A node in Python").splitlines())
-        told = "(%d, %d)", "[(2, %d, %d, b'blue')]", "('accepted 0 known 0 refused 0 whole', [], None)"
-        for seq in (0, 2):
-            right = [told[0] % (seq, seq + 1), told[1] % (seq, seq + 1), told[2]]
+        for seq in (0, 3):
+            right = ["%d %d" % (seq, seq + 1), "[b'blue']", "accepted 0 known 0 refused 0 whole"]
             self.assertEqual(self.typed(line), (0, right))
 
 

@@ -1,5 +1,2 @@
-mod AskedRequests
-mod ByteFormLaws
 mod Examples
-mod LatestPlaces
-mod NodeViewCalls
+mod RecordRuns

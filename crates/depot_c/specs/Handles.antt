@@ -1,28 +1,17 @@
 -- A handle, and what its calls make of it.
-use Rattle.std.specs.Prelude.{◌≡◌, ◌≤◌, ◌⊎◌, ℕ, List, Bool, true, false, Option, Some, None, Result, Ok, Err, length, slice_get, is_none, is_some, ◌&&◌}
+use Rattle.std.specs.Prelude.{◌≡◌, ◌≤◌, ℕ, List, [], Bool, false, true, Option, Some, None, Result, Ok, Err, length, is_none, is_some, ◌&&◌}
 use Rattle.depot_base.specs.declared.key.PublicKey.{PublicKey}
 use Rattle.depot_base.specs.declared.key.RosterEntry.{RosterEntry}
 use Rattle.depot_base.specs.declared.limits.TheConstants.{GREATEST_HEIGHT, LEAST_HEIGHT}
-use Rattle.depot_answers.specs.AnswerTexts.{report_text, text_of_refused}
-use Rattle.depot_answers.specs.Closings.{closing_of}
-use Rattle.depot_answers.specs.declared.exchange_answers.Closing.{Closing}
-use Rattle.depot_answers.specs.declared.exchange_answers.Closing.TheVariants as closing
-use Rattle.depot_feeds.specs.Pieces.{Feeds, Stream, at_work, no_stream, report_of_stream}
-use Rattle.depot_feeds.specs.declared.feed_error.FeedError.{FeedError}
-use Rattle.depot_feeds.specs.declared.feed_error.FeedError.TheVariants as feed_error
 use Rattle.depot_model.specs.Bundle.{Signs}
 use Rattle.depot_model.specs.RosterText.{ParsesRoster}
 use Rattle.depot_model.specs.Winternitz.{winternitz_signature, winternitz_verifies}
-use Rattle.depot_model.specs.declared.bundle.Refusal.{Refusal}
-use Rattle.depot_model.specs.declared.bundle.Report.{Report}
 use Rattle.depot_winter.specs.TreeSigning.{key_of_seed}
-use Rattle.depot_c.specs.NodeViews.{IsAnswerText, RunsOn, NodeView, Stays, CallAnswer}
-use Rattle.depot_c.specs.Serving.{AsksNode}
+use Rattle.depot_c.specs.MessageAnswers.{Messaging}
+use Rattle.depot_c.specs.NodeViews.{CallAnswer, NodeView, RunsOn, Stays, records_onward}
 use Rattle.depot_c.specs.Starts.{IsNodeNumber, IsRefusedOn, IsViewStarted}
-use Rattle.depot_c.specs.declared.answer.Answer.TheVariants as answer
 use Rattle.depot_c.specs.declared.ask.Ask.{Ask}
 use Rattle.depot_c.specs.declared.ask.Ask.TheVariants as ask
-use Rattle.depot_c.specs.declared.ask.NodeAsk.{NodeAsk}
 use Rattle.depot_c.specs.declared.refused.Refused.{Refused}
 use Rattle.depot_c.specs.declared.refused.Refused.TheVariants as refused
 
@@ -38,20 +27,15 @@ pub record HandleView : Type 0 where
   pub kept : Option KeptSigner
   -- the node
   pub node_view : Option NodeView
-  -- the stream that is fed to it, and why it was closed, where the program's lines say why
-  pub feed : Option Stream
-  pub closing : Option Closing
-  -- what became of the stream that ended last
-  pub report : Option Report
 
 abbrev pub nothing_kept : HandleView
-nothing_kept = record { listed = None; kept = None; node_view = None; feed = None; closing = None; report = None }
+nothing_kept = record { listed = None; kept = None; node_view = None }
 
 -- ---- rosters and keys
 
 -- Keeps the roster of a text. Where the text is none, the handle is unchanged, with the roster from before.
 abbrev pub KeepsRoster : List ℕ → HandleView → CallAnswer → HandleView → Type 0
-KeepsRoster text v (Ok answer.Nothing) w = (listed : List RosterEntry) × (ParsesRoster text (Ok listed) × (w ≡ record v { listed = Some listed }))
+KeepsRoster text v (Ok told) w = (told ≡ []) × ((listed : List RosterEntry) × (ParsesRoster text (Ok listed) × (w ≡ record v { listed = Some listed })))
 KeepsRoster text v (Err (refused.Roster e)) w = ParsesRoster text (Err e) × (w ≡ v)
 KeepsRoster text v other w = ⊥
 
@@ -66,7 +50,7 @@ signer_of_seed height seed = record { key = key_of_seed seed height; sign = wint
 -- Makes the key and keeps its signer. Input is returned exactly when there is none, and then, as where no memory is
 -- found, the handle is unchanged.
 abbrev pub KeepsKey : ℕ → List ℕ → HandleView → CallAnswer → HandleView → Type 0
-KeepsKey height seed v (Ok answer.Nothing) w = IsSeed height seed × (w ≡ record v { kept = Some (signer_of_seed height seed) })
+KeepsKey height seed v (Ok told) w = (told ≡ []) × (IsSeed height seed × (w ≡ record v { kept = Some (signer_of_seed height seed) }))
 KeepsKey height seed v (Err refused.Input) w = (IsSeed height seed → ⊥) × (w ≡ v)
 KeepsKey height seed v (Err refused.Memory) w = IsSeed height seed × (w ≡ v)
 KeepsKey height seed v other w = ⊥
@@ -107,112 +91,40 @@ is_ready v = is_none v.node_view && (is_some v.listed && is_some v.kept)
 -- `Order` exactly when there is no roster, no key, or a node already; then the handle is unchanged, and so it is where
 -- no memory is found.
 abbrev pub Starts : ℕ → List ℕ → HandleView → CallAnswer → HandleView → Type 0
-Starts n file v (Ok answer.Nothing) w = HasStarted n file v w
+Starts n file v (Ok told) w = (told ≡ []) × HasStarted n file v w
 Starts n file v (Err (refused.Start e)) w = HasNotStarted n file v (refused.Start e) × (w ≡ v)
 Starts n file v (Err refused.Input) w = (IsNodeNumber n → ⊥) × (w ≡ v)
 Starts n file v (Err refused.Order) w = IsNodeNumber n × ((is_ready v ≡ false) × (w ≡ v))
 Starts n file v (Err refused.Memory) w = IsNodeNumber n × ((is_ready v ≡ true) × (w ≡ v))
 Starts n file v other w = ⊥
 
--- The node ends, and with it the stream that is fed to it. The roster and the signer stay.
+-- The node ends. The roster and the signer stay.
 abbrev pub NodeEnds : HandleView → CallAnswer → HandleView → Type 0
-NodeEnds v (Ok answer.Nothing) w = (is_none v.node_view ≡ false) × (w ≡ record v { node_view = None; feed = None; closing = None })
+NodeEnds v (Ok told) w = (told ≡ []) × ((is_none v.node_view ≡ false) × (w ≡ record v { node_view = None }))
 NodeEnds v (Err refused.Order) w = (v.node_view ≡ None) × (w ≡ v)
 NodeEnds v other w = ⊥
 
--- ---- streams
+-- ---- the node
 
--- the stream that is open, or one of which nothing came yet
-abbrev pub stream_in : Option Stream → Stream
-stream_in None = no_stream
-stream_in (Some f) = f
-
--- why a piece closed its feed, where the program's lines say why
-abbrev pub closing_by : FeedError → Option Closing
-closing_by (feed_error.IllFormed at) = Some (closing.IllFormed at)
-closing_by (feed_error.Full what) = Some (closing.Full what)
-closing_by feed_error.Memory = None
-closing_by feed_error.Disk = None
-closing_by feed_error.Stopped = None
-
--- what a call answers for a piece
-abbrev pub fed_as : Result (Unit {0}) FeedError → CallAnswer
-fed_as (Ok done) = Ok answer.Nothing
-fed_as (Err e) = Err (refused.Feed e)
-
--- what holds of the node before and after
-abbrev pub AtNodeViews : Option NodeView → Option NodeView → (NodeView → NodeView → Type 0) → Type 0
-AtNodeViews (Some s) (Some t) P = P s t
-AtNodeViews None t P = ⊥
-AtNodeViews (Some s) None P = ⊥
-
--- all is unchanged but the node
+-- all but the node is as before
 abbrev pub IsSameButNode : HandleView → HandleView → Type 0
 IsSameButNode v w = w ≡ record v { node_view = w.node_view }
 
--- a feed is taken out that is open, or a new one
-abbrev pub TakesFeed : HandleView → Result Stream Refused → HandleView → Type 0
-TakesFeed v (Ok f) w = (f ≡ stream_in v.feed) × ((f.closed ≡ false) × (w ≡ record v { feed = None }))
-TakesFeed v (Err refused.Memory) w = w ≡ v
-TakesFeed v (Err refused.Order) w = ((stream_in v.feed).closed ≡ true) × (w ≡ v)
-TakesFeed v (Err other) w = ⊥
+-- the node does or tells what the body of a message asks; Order comes exactly where there is none
+abbrev pub MessagesNode : List ℕ → Option NodeView → CallAnswer → Option NodeView → Type 0
+MessagesNode body None told t = (told ≡ Err refused.Order) × (t ≡ None)
+MessagesNode body (Some s) told (Some t) = Stays s t × (RunsOn s told t × Messaging s body told t)
+MessagesNode body (Some s) told None = ⊥
 
--- a piece goes to a feed and to the node
-abbrev pub FeedsNode : HandleView → Stream → List ℕ → Result (Unit {0}) FeedError → Stream → HandleView → Type 0
-FeedsNode v f piece fed g w = IsSameButNode v w × AtNodeViews v.node_view w.node_view (λ s t. Stays s t × (RunsOn s (fed_as fed) t × Feeds s.here (at_work f s.records) piece fed g t.records))
+abbrev pub MessagesHandle : List ℕ → HandleView → CallAnswer → HandleView → Type 0
+MessagesHandle body v told w = IsSameButNode v w × MessagesNode body v.node_view told w.node_view
 
--- The feed was open, and this is it and the node after a piece.
-pub record HasFed (piece : List ℕ) (v : HandleView) (fed : Result (Unit {0}) FeedError) (closing : Option Closing) (w : HandleView) : Type 0 where
-  pub is_open : (stream_in v.feed).closed ≡ false
-  pub stream : Stream
-  pub nodes : AtNodeViews v.node_view w.node_view (λ s t. Stays s t × (RunsOn s (fed_as fed) t × Feeds s.here (at_work (stream_in v.feed) s.records) piece fed stream t.records))
-  pub is : w ≡ record v { node_view = w.node_view; feed = Some stream; closing = closing }
-
--- A piece of a stream is fed. `Order` is returned exactly when there is no node, or the stream was closed: it has to be
--- ended first.
-abbrev pub FeedsHandle : List ℕ → HandleView → CallAnswer → HandleView → Type 0
-FeedsHandle piece v (Ok answer.Nothing) w = HasFed piece v (Ok tt) v.closing w
-FeedsHandle piece v (Err (refused.Feed e)) w = HasFed piece v (Err e) (closing_by e) w
-FeedsHandle piece v (Err refused.Memory) w = w ≡ v
-FeedsHandle piece v (Err refused.Order) w = ((v.node_view ≡ None) ⊎ ((stream_in v.feed).closed ≡ true)) × (w ≡ v)
-FeedsHandle piece v other w = ⊥
-
--- what became of a stream that was closed for this, or for what has no words, in the words of the program's lines
-abbrev pub IsReport : Report → Option Closing → CallAnswer → Type 0
-IsReport report closing told = IsAnswerText (report_text report (closing_of closing)) told
-
--- The stream ends, and is reported.
-abbrev pub EndsStream : Option Stream → HandleView → CallAnswer → HandleView → Type 0
-EndsStream None v told w = (told ≡ Err refused.Order) × (w ≡ v)
-EndsStream (Some f) v told w = IsReport (report_of_stream f) v.closing told × (w ≡ record v { feed = None; closing = None; report = Some (report_of_stream f) })
-
-abbrev pub EndsFeed : HandleView → CallAnswer → HandleView → Type 0
-EndsFeed v told w = EndsStream v.feed v told w
-
--- a refused frame, by its place among them, from 0
-abbrev pub IsRefusedFrame : Report → ℕ → CallAnswer → Type 0
-IsRefusedFrame report place (Ok (answer.Text text)) = (r : Refusal) × ((slice_get report.refused place ≡ Some r) × (text ≡ text_of_refused r))
-IsRefusedFrame report place (Err refused.Absent) = length report.refused ≤ place
-IsRefusedFrame report place (Err refused.Memory) = Unit {0}
-IsRefusedFrame report place other = ⊥
-
-abbrev pub ShowsFrame : Option Report → ℕ → CallAnswer → Type 0
-ShowsFrame None place told = told ≡ Err refused.Order
-ShowsFrame (Some report) place told = IsRefusedFrame report place told
-
-abbrev pub ShowsRefusal : ℕ → HandleView → CallAnswer → Type 0
-ShowsRefusal place v told = ShowsFrame v.report place told
-
--- ---- the node
-
--- the node does what it is asked; `Order` is returned exactly when there is none
-abbrev pub AsksNodeView : NodeAsk → ℕ → List ℕ → Option NodeView → CallAnswer → Option NodeView → Type 0
-AsksNodeView a n input None told t = (told ≡ Err refused.Order) × (t ≡ None)
-AsksNodeView a n input (Some s) told (Some t) = Stays s t × (RunsOn s told t × AsksNode a n input s told t)
-AsksNodeView a n input (Some s) told None = ⊥
-
-abbrev pub AsksHandle : NodeAsk → ℕ → List ℕ → HandleView → CallAnswer → HandleView → Type 0
-AsksHandle a n input v told w = IsSameButNode v w × AsksNodeView a n input v.node_view told w.node_view
+-- The records of the node from a place on, unless no memory was found for them; Order comes exactly where there is no node.
+abbrev pub LendsRecords : ℕ → Option NodeView → CallAnswer → Type 0
+LendsRecords place None told = told ≡ Err refused.Order
+LendsRecords place (Some s) (Ok run) = run ≡ records_onward place s
+LendsRecords place (Some s) (Err refused.Memory) = Unit {0}
+LendsRecords place (Some s) other = ⊥
 
 -- ---- all of it
 
@@ -222,8 +134,5 @@ Does ask.Roster n input v told w = KeepsRoster input v told w
 Does ask.Key n input v told w = KeepsKey n input v told w
 Does ask.Start n input v told w = Starts n input v told w
 Does ask.End n input v told w = NodeEnds v told w
-Does ask.Feed n input v told w = FeedsHandle input v told w
-Does ask.FeedEnd n input v told w = EndsFeed v told w
-Does ask.Refusal n input v told w = ShowsRefusal n v told × (w ≡ v)
-Does (ask.Node a) n input v told w = AsksHandle a n input v told w
+Does ask.Message n input v told w = MessagesHandle input v told w
 Does other n input v told w = (told ≡ Err refused.Order) × (w ≡ v)

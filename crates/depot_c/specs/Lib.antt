@@ -1,13 +1,9 @@
-pub mod Answering
 pub mod Asked
-pub mod ByteForms
 pub mod Calls
 pub mod Handles
 pub mod Judgements
 pub mod MessageAnswers
 pub mod Refusals
 pub mod NodeViews
-pub mod Requested
 pub mod Served
-pub mod Serving
 pub mod Starts

@@ -8,16 +8,14 @@ use Rattle.depot_bounds.specs.SendCalls.{Sends}
 use Rattle.depot_request_texts.specs.ReplyTexts.{text_of_reply}
 use Rattle.depot_requests.specs.declared.reply.Halt.{Halt}
 use Rattle.depot_requests.specs.declared.reply.Halt.TheVariants as halt
-use Rattle.depot_requests.specs.declared.reply.Reason.TheVariants as reason
 use Rattle.depot_requests.specs.declared.reply.Reply.{Reply}
 use Rattle.depot_service.specs.RequestCalls.{Serves}
 use Rattle.depot_c.specs.NodeViews.{CallAnswer, NodeView}
-use Rattle.depot_c.specs.declared.answer.Answer.TheVariants as answer
 use Rattle.depot_c.specs.declared.refused.Refused.TheVariants as refused
 
 -- the message of a reply is answered, unless no memory was found for it; or the node was kept from replying
 abbrev pub IsReplyMessage : Result Reply Halt → CallAnswer → Type 0
-IsReplyMessage (Ok reply) (Ok (answer.Text text)) = text ≡ text_of_reply reply
+IsReplyMessage (Ok reply) (Ok text) = text ≡ text_of_reply reply
 IsReplyMessage (Ok reply) (Err refused.Memory) = Unit {0}
 IsReplyMessage (Ok reply) other = ⊥
 IsReplyMessage (Err e) told = told ≡ Err (refused.Halted e)
@@ -32,7 +30,7 @@ IsLeftBy s asked.Export e t = t ≡ s
 -- What is answered to what is asked, and what the node is then: the message that answers; or what is asked was done, and no memory was found for the
 -- message; or the node was kept from it.
 abbrev pub AnswersBody : NodeView → Asked → CallAnswer → NodeView → Type 0
-AnswersBody s a (Ok (answer.Text text)) t = came_by s.here s.sign s.records a ≡ record { journal = t.records; text = text }
+AnswersBody s a (Ok text) t = came_by s.here s.sign s.records a ≡ record { journal = t.records; text = text }
 AnswersBody s a (Err refused.Memory) t = t.records ≡ (came_by s.here s.sign s.records a).journal
 AnswersBody s a (Err (refused.Halted e)) t = IsLeftBy s a e t
 AnswersBody s a other t = ⊥
@@ -50,5 +48,5 @@ IsMessageServed s body told t = ((a : Asked) × ((asked_of_body body ≡ Some a)
 -- What a node answers to the body of a message, and what it is then. `IllFormed` is returned exactly when nothing is
 -- asked by it, with its first fault, and then the node is unchanged.
 abbrev pub Messaging : NodeView → List ℕ → CallAnswer → NodeView → Type 0
-Messaging s body (Err (refused.Unmet (reason.IllFormed at))) t = (asked_of_body body ≡ None) × (IsAskedFault body at × (t ≡ s))
+Messaging s body (Err (refused.IllFormed at)) t = (asked_of_body body ≡ None) × (IsAskedFault body at × (t ≡ s))
 Messaging s body told t = IsMessageServed s body told t

@@ -1,18 +1,13 @@
 -- Why a call is refused, as its caller is told.
 use Rattle.std.specs.Prelude.{◌≡◌, ◌⊎◌, ℕ, List, [], ◌++◌, codes}
-use Rattle.depot_answers.specs.AnswerTexts.{text_of_number, spaced, text_of_full, text_of_record_fault}
-use Rattle.depot_feeds.specs.declared.feed_error.FeedError.{FeedError}
-use Rattle.depot_feeds.specs.declared.feed_error.FeedError.TheVariants as feed_error
+use Rattle.depot_answers.specs.AnswerTexts.{text_of_number, spaced, text_of_record_fault}
 use Rattle.depot_model.specs.Lines.{text_of_roster_error}
 use Rattle.depot_model.specs.declared.roster_format.RosterError.{RosterError}
 use Rattle.depot_model.specs.declared.roster_format.RosterError.TheVariants as roster_error
 use Rattle.depot_node.specs.declared.start_error.StartError.{StartError}
 use Rattle.depot_node.specs.declared.start_error.StartError.TheVariants as start_error
-use Rattle.depot_requests.specs.Replies.{text_of_reason}
 use Rattle.depot_requests.specs.declared.reply.Halt.{Halt}
 use Rattle.depot_requests.specs.declared.reply.Halt.TheVariants as halt
-use Rattle.depot_requests.specs.declared.reply.Reason.{Reason}
-use Rattle.depot_requests.specs.declared.reply.Reason.TheVariants as reason
 use Rattle.depot_c.specs.declared.outcome.CallOutcome.{CallOutcome}
 use Rattle.depot_c.specs.declared.outcome.CallOutcome.TheVariants as outcome
 use Rattle.depot_c.specs.declared.refused.Refused.{Refused}
@@ -26,12 +21,10 @@ number_of outcome.Done = 0
 number_of outcome.Input = 2
 number_of outcome.Disk = 4
 number_of outcome.Memory = 6
-number_of outcome.Limit = 8
 number_of outcome.NotLawful = 9
 number_of outcome.Identity = 10
 number_of outcome.Order = 11
 number_of outcome.Stopped = 12
-number_of outcome.Absent = 13
 
 abbrev pub outcome_of_roster : RosterError → CallOutcome
 outcome_of_roster roster_error.Memory = outcome.Memory
@@ -47,47 +40,22 @@ outcome_of_start (start_error.OtherKey roster signer) = outcome.Identity
 outcome_of_start (start_error.OtherNode node) = outcome.Identity
 outcome_of_start (start_error.OtherRoster kept given) = outcome.Identity
 
-abbrev pub outcome_of_reason : Reason → CallOutcome
-outcome_of_reason (reason.Limit met) = outcome.Limit
-outcome_of_reason (reason.IllFormed at) = outcome.Input
-outcome_of_reason (reason.OtherRoster given) = outcome.Identity
-outcome_of_reason (reason.Unknown id) = outcome.Absent
-outcome_of_reason (reason.NoValue id) = outcome.Absent
-outcome_of_reason reason.Empty = outcome.Absent
-outcome_of_reason (reason.Many n) = outcome.Limit
-
 abbrev pub outcome_of_halt : Halt → CallOutcome
 outcome_of_halt halt.Memory = outcome.Memory
 outcome_of_halt halt.Disk = outcome.Disk
 outcome_of_halt halt.Stopped = outcome.Stopped
-
-abbrev pub outcome_of_feed : FeedError → CallOutcome
-outcome_of_feed feed_error.Memory = outcome.Memory
-outcome_of_feed feed_error.Disk = outcome.Disk
-outcome_of_feed feed_error.Stopped = outcome.Stopped
-outcome_of_feed (feed_error.IllFormed at) = outcome.Input
-outcome_of_feed (feed_error.Full what) = outcome.Limit
 
 -- how a call ends that is refused for this
 abbrev pub refusal_outcome : Refused → CallOutcome
 refusal_outcome refused.Input = outcome.Input
 refusal_outcome refused.Memory = outcome.Memory
 refusal_outcome refused.Order = outcome.Order
-refusal_outcome refused.Absent = outcome.Absent
 refusal_outcome (refused.Roster e) = outcome_of_roster e
 refusal_outcome (refused.Start e) = outcome_of_start e
-refusal_outcome (refused.Unmet why) = outcome_of_reason why
+refusal_outcome (refused.IllFormed at) = outcome.Input
 refusal_outcome (refused.Halted e) = outcome_of_halt e
-refusal_outcome (refused.Feed e) = outcome_of_feed e
 
 -- ---- words
-
-abbrev pub words_of_feed : FeedError → List ℕ
-words_of_feed feed_error.Memory = []
-words_of_feed feed_error.Disk = []
-words_of_feed feed_error.Stopped = []
-words_of_feed (feed_error.IllFormed at) = text_of_number (codes "ill-formed") at
-words_of_feed (feed_error.Full what) = text_of_full what
 
 abbrev pub words_of_start : StartError → List ℕ
 words_of_start start_error.Memory = []
@@ -103,8 +71,7 @@ words_of_start (start_error.NotLawful place fault) = text_of_number (codes "not 
 abbrev pub words_of : Refused → List ℕ
 words_of (refused.Roster e) = text_of_roster_error e
 words_of (refused.Start e) = words_of_start e
-words_of (refused.Unmet why) = text_of_reason why
-words_of (refused.Feed e) = words_of_feed e
+words_of (refused.IllFormed at) = text_of_number (codes "IllFormed") at
 words_of other = []
 
 -- words are given, or no memory was found for them, and then none are

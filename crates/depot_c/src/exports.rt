@@ -6,7 +6,7 @@ ghost use Rattle.std.specs.Align.{type_align};
 ghost use Rattle.std.specs.Mem.{type_size};
 ghost use Rattle.std.specs.Ptr.{lies_at, room_at};
 ghost use Rattle.depot_c.specs.contracts.handle.Handle.{the_row as handle_row};
-ghost use Rattle.depot_c.specs.Calls.{IsNewHandle, kept_answer};
+ghost use Rattle.depot_c.specs.Calls.{IsNewHandle, kept_bytes};
 ghost use Rattle.depot_c.specs.Served.{IsServed};
 
 use crate::handle::{Handle, Viewed, fresh};
@@ -42,7 +42,7 @@ pub extern "C" fn depot_c_align() -> usize
 #[unsafe(no_mangle)]
 pub unsafe extern "C" fn depot_c_init(alloc: Global, at: *mut u8)
     requires* { sem 𝓛 (room_at handle_row at) }
-    ensures* { sem 𝓛 (fex Handle (λ h. fsep (lies_at handle_row full_share at h) (fex (IsNewHandle (⟦<Handle as Viewed>⟧.view_of h) (kept_answer h)) (λ _. ftrue)))) }
+    ensures* { sem 𝓛 (fex Handle (λ h. fsep (lies_at handle_row full_share at h) (fex (IsNewHandle (⟦<Handle as Viewed>⟧.view_of h) (kept_bytes h)) (λ _. ftrue)))) }
 {
     std::ptr::write(at as *mut Handle, fresh(alloc));
 }

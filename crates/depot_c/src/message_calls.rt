@@ -4,22 +4,21 @@ ghost use Rattle.depot_requests.specs.Requests.{IsRequest};
 ghost use Rattle.depot_c.specs.MessageAnswers.{AnswersBody, IsReplyMessage, Messaging};
 ghost use Rattle.depot_c.specs.NodeViews.{RunsOn, Stays};
 
-use crate::answer::Answer;
 use crate::node_view::{HasNodeView, Over};
 use crate::refused::Refused;
 use depot_asking::{Asked, decode_asked};
-use depot_base::DecodeError;
+use depot_base::{Bytes, DecodeError};
 use depot_bounds::{SendRequest, send};
 use depot_model::Replica;
 use depot_question_texts::encode_answer;
 use depot_questions::{Question, ask};
 use depot_request_texts::{encode_exported, encode_reply};
-use depot_requests::{Halt, Reason, Reply, Request};
+use depot_requests::{Halt, Reply, Request};
 use depot_service::{export, serve};
 use std::alloc::Global;
 
 /// The message of a reply, or why there is none.
-fn message_of(alloc: Global, replied: Result<Reply, Halt>) -> Result<Answer, Refused>
+fn message_of(alloc: Global, replied: Result<Reply, Halt>) -> Result<Bytes, Refused>
     ensures { IsReplyMessage replied result }
 {
     let reply = match replied {
@@ -27,13 +26,13 @@ fn message_of(alloc: Global, replied: Result<Reply, Halt>) -> Result<Answer, Ref
         Err(halt) => return Err(Refused::Halted(halt)),
     };
     match encode_reply(alloc, &reply) {
-        Ok(text) => Ok(Answer::Text(text)),
+        Ok(text) => Ok(text),
         Err(_) => Err(Refused::Memory),
     }
 }
 
 /// Carries a request out.
-fn carry_out(alloc: Global, node: &mut Over, request: Request) -> Result<Answer, Refused>
+fn carry_out(alloc: Global, node: &mut Over, request: Request) -> Result<Bytes, Refused>
     requires { IsRequest request }
     ensures stays { Stays (⟦<Over as HasNodeView>⟧.node_view node.old) (⟦<Over as HasNodeView>⟧.node_view node.new) }
     ensures runs { RunsOn (⟦<Over as HasNodeView>⟧.node_view node.old) result (⟦<Over as HasNodeView>⟧.node_view node.new) }
@@ -43,7 +42,7 @@ fn carry_out(alloc: Global, node: &mut Over, request: Request) -> Result<Answer,
 }
 
 /// Sends what is asked for.
-fn send_out(alloc: Global, node: &mut Over, sending: &SendRequest) -> Result<Answer, Refused>
+fn send_out(alloc: Global, node: &mut Over, sending: &SendRequest) -> Result<Bytes, Refused>
     ensures stays { Stays (⟦<Over as HasNodeView>⟧.node_view node.old) (⟦<Over as HasNodeView>⟧.node_view node.new) }
     ensures runs { RunsOn (⟦<Over as HasNodeView>⟧.node_view node.old) result (⟦<Over as HasNodeView>⟧.node_view node.new) }
     ensures answers { AnswersBody (⟦<Over as HasNodeView>⟧.node_view node.old) (Asked.Sending sending.now) result (⟦<Over as HasNodeView>⟧.node_view node.new) }
@@ -52,7 +51,7 @@ fn send_out(alloc: Global, node: &mut Over, sending: &SendRequest) -> Result<Ans
 }
 
 /// Answers a question.
-fn tell(alloc: Global, node: &Over, question: &Question) -> Result<Answer, Refused>
+fn tell(alloc: Global, node: &Over, question: &Question) -> Result<Bytes, Refused>
     requires { (⟦<Over as HasNodeView>⟧.node_view node.now).stopped ≡ false }
     ensures runs { RunsOn (⟦<Over as HasNodeView>⟧.node_view node.now) result (⟦<Over as HasNodeView>⟧.node_view node.now) }
     ensures answers { AnswersBody (⟦<Over as HasNodeView>⟧.node_view node.now) (Asked.Question question.now) result (⟦<Over as HasNodeView>⟧.node_view node.now) }
@@ -61,13 +60,13 @@ fn tell(alloc: Global, node: &Over, question: &Question) -> Result<Answer, Refus
         return Err(Refused::Memory);
     };
     match encode_answer(alloc, &answer) {
-        Ok(text) => Ok(Answer::Text(text)),
+        Ok(text) => Ok(text),
         Err(_) => Err(Refused::Memory),
     }
 }
 
 /// Hands the trace in.
-fn hand_in(alloc: Global, node: &Over) -> Result<Answer, Refused>
+fn hand_in(alloc: Global, node: &Over) -> Result<Bytes, Refused>
     requires { (⟦<Over as HasNodeView>⟧.node_view node.now).stopped ≡ false }
     ensures runs { RunsOn (⟦<Over as HasNodeView>⟧.node_view node.now) result (⟦<Over as HasNodeView>⟧.node_view node.now) }
     ensures answers { AnswersBody (⟦<Over as HasNodeView>⟧.node_view node.now) Asked.Export result (⟦<Over as HasNodeView>⟧.node_view node.now) }
@@ -76,13 +75,13 @@ fn hand_in(alloc: Global, node: &Over) -> Result<Answer, Refused>
         return Err(Refused::Memory);
     };
     match encode_exported(alloc, trace.as_slice()) {
-        Ok(text) => Ok(Answer::Text(text)),
+        Ok(text) => Ok(text),
         Err(_) => Err(Refused::Memory),
     }
 }
 
 /// Does or tells what is asked by the body of a message, and answers by a message.
-pub fn message(alloc: Global, node: &mut Over, body: &[u8]) -> Result<Answer, Refused>
+pub fn message(alloc: Global, node: &mut Over, body: &[u8]) -> Result<Bytes, Refused>
     ensures stays { Stays (⟦<Over as HasNodeView>⟧.node_view node.old) (⟦<Over as HasNodeView>⟧.node_view node.new) }
     ensures runs { RunsOn (⟦<Over as HasNodeView>⟧.node_view node.old) result (⟦<Over as HasNodeView>⟧.node_view node.new) }
     ensures messages { Messaging (⟦<Over as HasNodeView>⟧.node_view node.old) body.now result (⟦<Over as HasNodeView>⟧.node_view node.new) }
@@ -96,6 +95,6 @@ pub fn message(alloc: Global, node: &mut Over, body: &[u8]) -> Result<Answer, Re
         Ok(Asked::Sending(sending)) => send_out(alloc, node, &sending),
         Ok(Asked::Export) => hand_in(alloc, node),
         Err(DecodeError::Memory) => Err(Refused::Memory),
-        Err(DecodeError::IllFormed(at)) => Err(Refused::Unmet(Reason::IllFormed(at))),
+        Err(DecodeError::IllFormed(at)) => Err(Refused::IllFormed(at)),
     }
 }

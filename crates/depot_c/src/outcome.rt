@@ -13,8 +13,6 @@ pub enum CallOutcome {
     Disk,
     /// No memory was found.
     Memory,
-    /// A limit is met.
-    Limit,
     /// The journal isn't lawful, or damaged.
     NotLawful,
     /// Another roster, another key or another node.
@@ -23,8 +21,6 @@ pub enum CallOutcome {
     Order,
     /// The disk failed in an earlier call.
     Stopped,
-    /// Nothing is at that place.
-    Absent,
 }
 
 impl CallOutcome {
@@ -38,12 +34,10 @@ impl CallOutcome {
             CallOutcome::Input => 2,
             CallOutcome::Disk => 4,
             CallOutcome::Memory => 6,
-            CallOutcome::Limit => 8,
             CallOutcome::NotLawful => 9,
             CallOutcome::Identity => 10,
             CallOutcome::Order => 11,
             CallOutcome::Stopped => 12,
-            CallOutcome::Absent => 13,
         }
     }
 }

@@ -1,16 +1,14 @@
 //! Why a call is refused.
 ghost use Rattle.std.specs.Prelude.{◌≡◌, ◌++◌, OnOk, codes};
 ghost use Rattle.depot_answers.specs.AnswerTexts.{text_of_number, spaced, text_of_record_fault};
-ghost use Rattle.depot_requests.specs.Replies.{text_of_reason};
-ghost use Rattle.depot_c.specs.Refusals.{IsTold, outcome_of_feed, outcome_of_halt, outcome_of_reason, outcome_of_roster, outcome_of_start, refusal_outcome, words_of, words_of_feed, words_of_start};
+ghost use Rattle.depot_c.specs.Refusals.{IsTold, outcome_of_halt, outcome_of_roster, outcome_of_start, refusal_outcome, words_of, words_of_start};
 
 use crate::outcome::CallOutcome;
-use depot_answers::{full, numbered, record_fault, roster_error};
+use depot_answers::{numbered, record_fault, roster_error};
 use depot_base::{Bytes, Memory};
-use depot_feeds::FeedError;
 use depot_model::{RecordFault, RosterError};
 use depot_node::StartError;
-use depot_requests::{Halt, Reason, Reply, print};
+use depot_requests::Halt;
 use std::alloc::Global;
 
 /// Why a call is refused.
@@ -22,18 +20,14 @@ pub enum Refused {
     Memory,
     /// The handle isn't where this can be asked.
     Order,
-    /// Nothing is at that place.
-    Absent,
     /// The text is no roster's.
     Roster(RosterError),
     /// No node is started.
     Start(StartError),
-    /// The node doesn't do the request, for this.
-    Unmet(Reason),
-    /// The node was kept from replying.
+    /// The body of a message first goes wrong at this offset.
+    IllFormed(u32),
+    /// The node was kept from answering.
     Halted(Halt),
-    /// The feed takes no more.
-    Feed(FeedError),
 }
 
 /// How a call ends that a roster's text refuses.
@@ -61,19 +55,7 @@ fn of_start(error: StartError) -> CallOutcome
     }
 }
 
-/// How a call ends whose request isn't done.
-fn of_reason(reason: Reason) -> CallOutcome
-    ensures { result ≡ outcome_of_reason reason }
-{
-    match reason {
-        Reason::Limit(_) | Reason::Many(_) => CallOutcome::Limit,
-        Reason::IllFormed(_) => CallOutcome::Input,
-        Reason::OtherRoster(_) => CallOutcome::Identity,
-        Reason::Unknown(_) | Reason::NoValue(_) | Reason::Empty => CallOutcome::Absent,
-    }
-}
-
-/// How a call ends to which the node doesn't reply.
+/// How a call ends to which the node doesn't answer.
 fn of_halt(halt: Halt) -> CallOutcome
     ensures { result ≡ outcome_of_halt halt }
 {
@@ -81,39 +63,6 @@ fn of_halt(halt: Halt) -> CallOutcome
         Halt::Memory => CallOutcome::Memory,
         Halt::Disk => CallOutcome::Disk,
         Halt::Stopped => CallOutcome::Stopped,
-    }
-}
-
-/// How a call ends that closes a feed.
-fn of_feed(error: FeedError) -> CallOutcome
-    ensures { result ≡ outcome_of_feed error }
-{
-    match error {
-        FeedError::Memory => CallOutcome::Memory,
-        FeedError::Disk => CallOutcome::Disk,
-        FeedError::Stopped => CallOutcome::Stopped,
-        FeedError::IllFormed(_) => CallOutcome::Input,
-        FeedError::Full(_) => CallOutcome::Limit,
-    }
-}
-
-/// Adds why a request isn't done: what is printed of it, without the preceding space and the LF.
-fn say_reason(alloc: Global, out: &mut Bytes, reason: Reason) -> Result<(), Memory>
-    ensures { OnOk result (out.new ≡ out.old ++ text_of_reason reason) }
-{
-    let printed = print(alloc, Reply::Refused(reason))?;
-    let line = printed.lines.as_slice();
-    out.push_all(&line[1..line.len() - 1])
-}
-
-/// Adds why a feed was closed.
-fn say_feed(alloc: Global, out: &mut Bytes, error: FeedError) -> Result<(), Memory>
-    ensures { OnOk result (out.new ≡ out.old ++ words_of_feed error) }
-{
-    match error {
-        FeedError::IllFormed(at) => numbered(alloc, out, "ill-formed", at),
-        FeedError::Full(what) => full(alloc, out, &what),
-        FeedError::Memory | FeedError::Disk | FeedError::Stopped => Ok(()),
     }
 }
 
@@ -156,12 +105,10 @@ impl Refused {
             Refused::Input => CallOutcome::Input,
             Refused::Memory => CallOutcome::Memory,
             Refused::Order => CallOutcome::Order,
-            Refused::Absent => CallOutcome::Absent,
             Refused::Roster(error) => of_roster(error),
             Refused::Start(error) => of_start(error),
-            Refused::Unmet(reason) => of_reason(reason),
+            Refused::IllFormed(_) => CallOutcome::Input,
             Refused::Halted(halt) => of_halt(halt),
-            Refused::Feed(error) => of_feed(error),
         }
     }
 
@@ -172,13 +119,8 @@ impl Refused {
         match *self {
             Refused::Roster(error) => roster_error(alloc, out, &error),
             Refused::Start(error) => say_start(alloc, out, &error),
-            Refused::Unmet(reason) => say_reason(alloc, out, reason),
-            Refused::Feed(error) => say_feed(alloc, out, error),
-            Refused::Input
-            | Refused::Memory
-            | Refused::Order
-            | Refused::Absent
-            | Refused::Halted(_) => Ok(()),
+            Refused::IllFormed(at) => numbered(alloc, out, "IllFormed", u64::from(at)),
+            Refused::Input | Refused::Memory | Refused::Order | Refused::Halted(_) => Ok(()),
         }
     }
 

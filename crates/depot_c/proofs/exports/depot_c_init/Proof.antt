@@ -27,7 +27,7 @@ use Rattle.std.specs.contracts.alloc.Global.{the_row as Heap}
 use Rattle.std.proofs.alloc.Global.TheLaws as heap_laws
 use Rattle.depot_c.specs.contracts.handle.Handle.{the_row as R}
 use Rattle.depot_c.proofs.handle.Handle.TheLaws as laws
-use Rattle.depot_c.specs.Calls.{IsNewHandle, kept_answer}
+use Rattle.depot_c.specs.Calls.{IsNewHandle, kept_bytes}
 use Rattle.depot_c.specs.contracts.handle.HandleViewed.TheImpl.{ghosts}
 use Rattle.depot_c.specs.contracts.exports.depot_c_init as f
 use Rattle.depot_c.proofs.exports.depot_c_init.Statement.{statement}
@@ -63,7 +63,7 @@ depot_c_init_spec 𝓤 𝓛 𝓜 𝓡 wired =
     let z : G.Ghost = ((tt, tt, tt, (heap, tt), (heap_vals heap, tt)), tt) in
     nothing ! $ move ! (2 ∷ 0 ∷ []) $ join ! $ nothing ! $ join ! $ nothing ! $ move ! (1 ∷ 0 ∷ []) $ use2 𝓛 (raw (G.pre z)) (id⊢ 𝓤 _) $
     calls_at ! (framed 𝓤 𝓛.H 𝓜 𝓣) G (met 𝓤 𝓛 𝓜 𝓡 (code.calls-depot_c::handle::fresh 𝓡.env wired)) z (and_then ! (get ! refl) (no_more !)) (λ v.
-    use1 𝓛 (later (some (λ (r : R.Denot). (‵ ftrue ⊛ ‵ (R.own_val r (v ∷ []))) ⊛ some (λ (ws : Unit {0} × Unit {0}). ‵ (lasts g.ended tt (heap, tt) ws) ⊛ raw (fact 𝓤 (IsNewHandle (ghosts.view_of r) (kept_answer r))))))) (id⊢ 𝓤 _) $
+    use1 𝓛 (later (some (λ (r : R.Denot). (‵ ftrue ⊛ ‵ (R.own_val r (v ∷ []))) ⊛ some (λ (ws : Unit {0} × Unit {0}). ‵ (lasts g.ended tt (heap, tt) ws) ⊛ raw (fact 𝓤 (IsNewHandle (ghosts.view_of r) (kept_bytes r))))))) (id⊢ 𝓤 _) $
     await ! tt $ pick ! (λ r. split ! $ split ! $ drop ! $ move ! (1 ∷ []) $ pick ! (λ ws. split ! $ drop ! $ heard ! _ (λ is_fresh.
     -- [the handle; the room; the locals]
     peeks ! R (Is R) (shows 𝓛 R) r (v ∷ []) (λ is.
@@ -74,5 +74,5 @@ depot_c_init_spec 𝓤 𝓛 𝓜 𝓡 wired =
     returns ! (look_at ! 0 refl) $ free_all ! refl $ keep ! (1 ∷ 0 ∷ []) $
     use2 𝓛 (‵ (part_at R full_share r b o)) (part_in 𝓛 R refl full_share r b o v) $
     suffices ! _ (ends_at 𝓛 f.ended stayed c (y (block_ptr b o)) vunit tt (tt, (tt, tt)) (tt, (tt, tt))) $
-    nothing ! $ fpack ! (IsNewHandle (ghosts.view_of r) (kept_answer r)) (λ _. ftrue) is_fresh $ move ! (1 ∷ 0 ∷ []) $ fjoin ! $ fpack ! R.Denot (λ x. fsep (lies_at R full_share (block_ptr b o) x) (fex (IsNewHandle (ghosts.view_of x) (kept_answer x)) (λ _. ftrue))) r $
+    nothing ! $ fpack ! (IsNewHandle (ghosts.view_of r) (kept_bytes r)) (λ _. ftrue) is_fresh $ move ! (1 ∷ 0 ∷ []) $ fjoin ! $ fpack ! R.Denot (λ x. fsep (lies_at R full_share (block_ptr b o) x) (fex (IsNewHandle (ghosts.view_of x) (kept_bytes x)) (λ _. ftrue))) r $
     feq_i ! _ (vunit ∷ []) _ refl $ nothing ! $ nothing ! $ join ! $ nothing ! $ join ! $ nothing ! $ group ! 3 $ done !))))))))

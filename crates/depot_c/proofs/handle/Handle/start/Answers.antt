@@ -24,14 +24,16 @@ none_is (Some s) e = absurd cc
 pub returns : goal.returns
 returns c =
     let kept = kept_by c.in-Some-Some.signer in
-    let node_view = node_views.ghosts.node_view c.in_ok-node.node in
-    record {
-      listed = c.in-Some-Some.roster;
-      roster = c.in-Some-Some.is-0;
-      kept = kept;
-      signer = ap (option_map kept_by) c.in-Some-Some.is-1;
-      free = none_is _ (sym c.if-not-is_free.ensures);
-      node_view = node_view;
-      started = subst (λ (n : ℕ). IsViewStarted (standing n c.in-Some-Some.roster) kept.key kept.sign c.args.file.now node_view) c.in_ok-me.ensures.1 c.in_ok-node.ensures.started;
-      is = c.keep_node.ensures;
-    }
+    let node_view = node_views.ghosts.node_view c.in_ok-node.node in (
+      c.new.ensures,
+      record {
+        listed = c.in-Some-Some.roster;
+        roster = c.in-Some-Some.is-0;
+        kept = kept;
+        signer = ap (option_map kept_by) c.in-Some-Some.is-1;
+        free = none_is _ (sym c.if-not-is_free.ensures);
+        node_view = node_view;
+        started = subst (λ (n : ℕ). IsViewStarted (standing n c.in-Some-Some.roster) kept.key kept.sign c.args.file.now node_view) c.in_ok-me.ensures.1 c.in_ok-node.ensures.started;
+        is = c.keep_node.ensures;
+      },
+    )
