@@ -197,9 +197,10 @@ impl Draft {
     pub fn with_event(self, alloc: Global, event: Event) -> Result<Draft, Memory>
         ensures { IfOk result (λ d. d ≡ with_event self event) }
     {
-        let labels = with_label_of(self.labels, alloc, &event)?;
+        let read = with_label_of(self.labels, alloc, &event);
         let mut schedule = self.schedule;
         schedule.events.push(event)?;
+        let labels = read?;
         Ok(Draft { schedule, labels })
     }
 
