@@ -466,6 +466,10 @@ class Node:
             start = page.entries[-1].place + 1 if page.entries else start
             yield from page.entries
 
+    def trace(self):
+        """The node's trace for an audit (`depot audit`), without reads."""
+        return m.read_trace(self.message(m.EXPORT))
+
     def records(self):
         """All records of the node."""
         return records_of(self.run(0))

@@ -168,6 +168,7 @@ def page_body(kind: bytes, start: int) -> bytes:
 
 
 HELLO, FAR_HELLO, TAKE, CHECKPOINT, SIGN, STATUS, CONVICTIONS, UPDATES = b"\x03", b"\x20", b"\x05", b"\x08", b"\x09", b"\x10", b"\x11", b"\x16"
+EXPORT = b"\x30"
 
 
 # ---- what is answered
@@ -369,6 +370,10 @@ def read_put(body: bytes) -> Put:
 
 def read_hello(body: bytes) -> bytes:
     return answered(body, 3).rest()
+
+
+def read_trace(body: bytes) -> bytes:
+    return answered(body, 0x30).rest()
 
 
 def read_bundle(body: bytes) -> Bundle:

@@ -303,6 +303,7 @@ class Answers(unittest.TestCase):
         self.assertEqual(m.read_checkpoint(b"\7" + ids + f.number(4, 2) + f.number(8, 3) + b"text"), (b"text", ids, 2, 3))
         self.assertEqual(m.read_bundle(b"\4" + bytes([0, 0, 0, 1, 0, 0, 0, 2, 0, 0, 0, 3, 0, 0, 0, 4, 1]) + b"s"), (1, 2, 3, 4, True, b"s"))
         self.assertEqual([m.read_settled(b"\6\1"), m.read_settled(b"\6\0"), m.read_hello(b"\3text")], [True, False, b"text"])
+        self.assertEqual(m.read_trace(b"\x30trace"), b"trace")
         status = b"\x10" + f.number(2, 1) + ids + b"".join(f.number(4, it) for it in range(2, 8)) + b"\0\2\0\4\1\0"
         self.assertEqual(m.read_status(status), (1, ids, 2, 3, 4, 5, 6, 7, (4, 256)))
         self.assertEqual(m.read_convictions(b"\x11\0\0\0\1" + f.number(4, 8) + f.number(2, 3) + f.number(4, 2) + b"pr\1"), (((8, 3, b"pr"),), True))
