@@ -18,6 +18,9 @@ use std::sync::ledger::Ledger;
 /// this.
 const WHOLE: u32 = 32;
 
+/// Up to how many chains a row is kept whole at each place: it takes hardly more memory than a list of differences.
+const SHORT: usize = 16;
+
 /// Items in chains, numbered from 0 in the order in which they were added, and which of them precedes which. A chain is
 /// a virtual writer, the article's virtual node.
 #[derive(Debug, Drop)]
@@ -241,8 +244,8 @@ impl Clocks {
         None
     }
 
-    /// What is kept of the next item's row: the whole row at each place that `WHOLE` divides, else the entries in which
-    /// it differs from the row of the item before it in its chain.
+    /// What is kept of the next item's row: the whole row where it is short, and at each place that `WHOLE` divides; else
+    /// the entries in which it differs from the row of the item before it in its chain.
     fn kept_row(
         &self,
         chain: u32,
@@ -255,7 +258,9 @@ impl Clocks {
         ensures { IfOk result (KeepsRow (self.now ++ record { chain = chain; place = place; parents = parents.now } ∷ []) (length self.now)) }
     {
         match self.behind(chain, place, parents) {
-            Some(behind) if place % WHOLE != 0 => self.changed_row(behind, row.as_slice()),
+            Some(behind) if SHORT < row.len() && place % WHOLE != 0 => {
+                self.changed_row(behind, row.as_slice())
+            }
             _ => Ok(Row::Whole(row)),
         }
     }

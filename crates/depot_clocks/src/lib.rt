@@ -10,8 +10,9 @@
 //! calls are specified by paths of parents over that list (`specs/ChainItems.antt`), not by rows.
 //!
 //! - An item's spot and its row are kept; the row is the join of its parents' rows with its own entry.
-//! - At every 32nd place of a chain a row is kept whole, elsewhere only the entries in which it differs from the row of
-//!   the item before it in its chain. So a query walks over at most 32 items of one chain.
+//! - A row of up to 16 chains is kept whole, and at every 32nd place of a chain each row is. Elsewhere only the entries
+//!   are kept in which a row differs from that of the item before it in its chain. So a query walks over at most 32 items
+//!   of one chain.
 //! - Only `add` and `joined` take memory. A caller that has joined the rows of the next item's parents hands that row
 //!   back (`keep_joined`), and `add` uses it in place of joining them again.
 //!

@@ -1,4 +1,4 @@
-//! A chain of 70 items that joins a chain of 24 at each third item.
+//! A chain of 70 items that joins a chain of 24 at each third item; and one of 40 that joins twenty short ones so.
 ghost use Rattle.std.specs.Prelude.{◌≡◌, ◌+◌, ◌<◌, ◌≤◌, ℕ, length, OnOk, IfOk};
 ghost use Rattle.depot_clocks.specs.ChainItems.{chain_length, number_of_chains};
 
@@ -177,4 +177,85 @@ fn joins<L: Ledger>(rt: &impl Abort, alloc: Global, blank: Blank) -> Result<(), 
 #[test]
 fn a_chain_joins_another(rt: HostRuntime) -> Result<(), Fail> {
     joins::<Brand>(&rt, rt.alloc(), Blank::new(1))
+}
+
+/// Twenty chains of one item, and a chain of 40 items behind them. The third of every three joins the next of the twenty. Rows
+/// of so many chains aren't kept whole at each place.
+fn wide(alloc: Global) -> Result<Clocks, Fail>
+    ensures items { IfOk result (λ clocks. length clocks ≡ 60) }
+    ensures chains { IfOk result (λ clocks. number_of_chains clocks ≡ 21) }
+{
+    let mut clocks = Clocks::new(alloc);
+    for chain in 0..20 {
+        grow(&mut clocks, chain, chain, 1, false)?;
+    }
+    grow(&mut clocks, 20, 20, 40, true)?;
+    Ok(clocks)
+}
+
+/// Places of the chain of 40, and how many of the twenty its item there comes behind.
+static WIDE: [(u32, u32); 9] = [
+    (0, 0),
+    (1, 0),
+    (2, 1),
+    (4, 1),
+    (5, 2),
+    (31, 10),
+    (32, 11),
+    (33, 11),
+    (39, 13),
+];
+
+/// Whether the row of a place of the chain of 40 counts so many of the twenty, and its own items.
+fn has_wide_row(clocks: &Clocks, place: u32, joined: u32) -> bool
+    requires items { length clocks.now ≡ 60 }
+    requires chains { number_of_chains clocks.now ≡ 21 }
+{
+    if place >= 40 || joined > 20 {
+        return false;
+    }
+    let mut right = [0u32; 21];
+    for chain in 0..joined {
+        right[chain as usize] = 1;
+    }
+    right[20] = place + 1;
+    let mut row = [7u32; 21];
+    clocks.row_into(20 + place, row.as_mut_slice());
+    row == right && clocks.within(20 + place, right.as_slice())
+}
+
+/// Whether the item of a place comes behind the last of so many of the twenty, and not behind the next.
+fn is_behind<L: Ledger>(clocks: &Clocks, place: u32, joined: u32, steps: &mut Steps<L>) -> bool
+    requires { length clocks.now ≡ 60 }
+{
+    if place >= 40 || joined >= 20 {
+        return false;
+    }
+    (joined == 0 || clocks.before(joined - 1, 20 + place, steps))
+        && !clocks.before(joined, 20 + place, steps)
+}
+
+fn wide_rows<L: Ledger>(rt: &impl Abort, alloc: Global, blank: Blank) -> Result<(), Fail>
+    requires name { blank.name ≡ L.name }
+    requires parts { blank.parts ≡ L.parts }
+    requires some { 0 < blank.parts }
+{
+    let clocks = wide(alloc)?;
+    let mut steps = Steps::<L>::new(blank);
+    for (place, joined) in WIDE.iter() {
+        assert!(rt;
+            has_wide_row(&clocks, *place, *joined),
+            "the row of place {place}"
+        );
+        assert!(rt;
+            is_behind(&clocks, *place, *joined, &mut steps),
+            "what precedes place {place}"
+        );
+    }
+    Ok(())
+}
+
+#[test]
+fn a_chain_joins_many(rt: HostRuntime) -> Result<(), Fail> {
+    wide_rows::<Brand>(&rt, rt.alloc(), Blank::new(1))
 }
