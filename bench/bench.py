@@ -1,7 +1,7 @@
 #!/usr/bin/env python3
 """Measures the program: processor time in seconds and in units of `depot key` of height 12, and the greatest resident memory.
 
-Usage: bench.py [--program FILE] [--times N] [--shares] [NAME ..]
+Usage: bench.py [--program FILE] [--times N] [--shares] [--instructions] [NAME ..]
 
     NAME            what is measured; all of them where none is named
     load-1 load-2   `depot load 1`, `depot load 2`
@@ -15,12 +15,14 @@ Usage: bench.py [--program FILE] [--times N] [--shares] [NAME ..]
 
 Each figure is the least of N runs (5). The unit is measured first, in the same way. Files stand in the folder for temporary files:
 TMPDIR=/dev/shm leaves out what a disk's syncs cost. With --shares each is run once more under `perf`, which
-tells how much of it was SHA-256. In a run of a node one unit is its key, of height 12. Run it by hand, on a machine that does nothing else: it
+tells how much of it was SHA-256; with --instructions once more under `valgrind`, which counts them (in millions: they don't hang on what
+else the machine does). In a run of a node one unit is its key, of height 12. Run it by hand, on a machine that does nothing else: it
 is no test. The program is that of ./depot, built.
 """
 import argparse
 import os
 import re
+import shutil
 import subprocess
 import sys
 import tempfile
@@ -42,8 +44,8 @@ def seed(number):
 class Bench:
     """Runs the program in a folder, and prints a row for each workload."""
 
-    def __init__(self, program, room, times, shares):
-        self.program, self.room, self.times, self.shares = program, room, times, shares
+    def __init__(self, program, room, times, shares, counts=False):
+        self.program, self.room, self.times, self.shares, self.counts = program, room, times, shares, counts
         self.unit = None
 
     def once(self, words, folder):
@@ -82,22 +84,36 @@ class Bench:
         lines = subprocess.run(report, stdout=subprocess.PIPE, stderr=subprocess.DEVNULL, text=True, check=True).stdout
         return sum(float(found[1]) for found in re.finditer(r"^ *([0-9.]+)% .*\bsha2::", lines, re.M))
 
+    def instructions(self, words, folder=None, before=None):
+        """How many instructions a run takes, as callgrind counts them; none where they aren't asked for."""
+        if not self.counts:
+            return None
+        if before:
+            before()
+        command = ["valgrind", "--tool=callgrind", "--callgrind-out-file=/dev/null", self.program, *map(str, words)]
+        with open(os.devnull, "w") as nowhere:
+            run = subprocess.run(command, cwd=folder or self.room, stdout=nowhere, stderr=subprocess.PIPE, text=True, check=True)
+        return int(re.search(r"Collected : (\d+)", run.stderr)[1])
+
     def measure(self, name, words, folder=None, before=None):
         """Prints a row, and gives the seconds."""
         folder = folder or self.room
         seconds, memory = self.least(words, folder, before)
         share = f"{self.share(words, folder, before):.0f}%" if self.shares else ""
-        self.row(name, seconds, f"{memory:.0f}", share)
+        self.row(name, seconds, f"{memory:.0f}", share, self.instructions(words, folder, before))
         return seconds
 
-    def row(self, name, seconds, memory="", share=""):
-        print(f"| {name} | {seconds:.3f} | {seconds / self.unit:.3f} | {memory} | {share} |", flush=True)
+    def row(self, name, seconds, memory="", share="", instructions=None):
+        """Prints a row; instructions are told in millions."""
+        counted = "" if instructions is None else f"{instructions / 1e6:,.0f}"
+        print(f"| {name} | {seconds:.3f} | {seconds / self.unit:.3f} | {memory} | {share} | {counted} |", flush=True)
 
     def begin(self):
         """Measures the unit, and prints the table's head."""
-        self.unit, memory = self.least(["key", seed(1), HEIGHT])
-        print("| what | seconds | units | MB | SHA-256 |\n|---|---|---|---|---|")
-        self.row("key of height 12, the unit", self.unit, f"{memory:.0f}")
+        words = ["key", seed(1), HEIGHT]
+        self.unit, memory = self.least(words)
+        print("| what | seconds | units | MB | SHA-256 | instructions |\n|---|---|---|---|---|---|")
+        self.row("key of height 12, the unit", self.unit, f"{memory:.0f}", instructions=self.instructions(words))
 
     # ---- schedules, logs and loads
 
@@ -116,9 +132,11 @@ class Bench:
     def idle(self):
         """Exchanges that bring nothing: what a replay costs with them, less what it costs without."""
         for puts in (500, 4000):
-            without, _ = self.least(["replay", self.schedule("--chains", puts)])
-            whole, _ = self.least(["replay", self.schedule("--chains", puts, "--idle", 2000)])
-            self.row(f"2,000 exchanges that bring nothing, behind {puts:,} such puts", whole - without)
+            words = ["replay", self.schedule("--chains", puts)]
+            more = ["replay", self.schedule("--chains", puts, "--idle", 2000)]
+            seconds = self.least(more)[0] - self.least(words)[0]
+            counted = self.instructions(more) - self.instructions(words) if self.counts else None
+            self.row(f"2,000 exchanges that bring nothing, behind {puts:,} such puts", seconds, instructions=counted)
 
     def branches(self):
         self.measure("a node takes an update after 1,025 branches", ["replay", self.schedule("--branches", 1025)])
@@ -213,14 +231,17 @@ def main():
     parser.add_argument("--program", type=Path)
     parser.add_argument("--times", type=int, default=5)
     parser.add_argument("--shares", action="store_true")
+    parser.add_argument("--instructions", action="store_true")
     parser.add_argument("names", nargs="*", metavar="NAME", help=", ".join(WORKLOADS))
     args = parser.parse_args()
     unknown = set(args.names) - set(WORKLOADS)
     if unknown:
         parser.error(f"no workload {', '.join(sorted(unknown))}")
+    if args.instructions and not shutil.which("valgrind"):
+        parser.error("--instructions: valgrind isn't installed")
     program = (args.program or built()).resolve()
     with tempfile.TemporaryDirectory() as room:
-        bench = Bench(program, Path(room), args.times, args.shares)
+        bench = Bench(program, Path(room), args.times, args.shares, args.instructions)
         bench.begin()
         for name in args.names or WORKLOADS:
             WORKLOADS[name](bench)
