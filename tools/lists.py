@@ -1,10 +1,10 @@
 #!/usr/bin/env python3
-"""lists.py --write, lists.py --print: what pages have that is made of the tree: the drawing of the crates in docs/ARCHITECTURE.md,
-the families of proofs in docs/PROOFS.md, and the numbers in docs/TESTING.md.
+"""lists.py --write, lists.py --print, lists.py --families [CRATE..]: what is made of the tree: the drawing of the crates in
+docs/ARCHITECTURE.md, the numbers in docs/TESTING.md, and the families of proofs, which are on no page.
 
-A crate has in its row of the drawing those that it stands on, but for those that others in the row stand on already. A family of
-proofs is a file of proofs/, and is named with the first sentence of its head. With --write all are put into their pages, between
-the lines that begin and end them; with --print they are printed.
+A crate has in its row of the drawing those that it stands on, but for those that others in the row stand on already. With --write
+drawing and numbers are put into their pages, between the lines that begin and end them; with --print they are printed. A family of
+proofs is a file of proofs/: --families prints its name and the first sentence of its head, of these crates or of all, lowest first.
 """
 
 import glob
@@ -66,10 +66,10 @@ def titled(path):
     return "\n".join(textwrap.wrap(row, 118, subsequent_indent="  ", break_long_words=False, break_on_hyphens=False))
 
 
-def families(uses):
-    """The families of each crate that has some, lowest crate first."""
+def families(uses, wanted=()):
+    """The families of each crate that has some, of those that are wanted or of all, lowest crate first."""
     parts = []
-    for name in sorted(uses, key=lambda it: (height(it, uses), it)):
+    for name in sorted(wanted or uses, key=lambda it: (height(it, uses), it)):
         paths = sorted(glob.glob(os.path.join(TOP, "crates", name, "proofs", "**", "[A-Z]*.antt"), recursive=True))
         lists = ("Lib", "Answers", "Invariants", "Proof")
         found = [titled(it) for it in paths if os.path.basename(it)[: -len(".antt")] not in lists]
@@ -127,7 +127,7 @@ def with_list(page, what, text):
 def made():
     """Each page that has something made, and how it is to read."""
     uses = crates(read("crates.txt"))
-    lists = {"ARCHITECTURE.md": ("the drawing", drawing(uses)), "PROOFS.md": ("families", families(uses)), "TESTING.md": ("numbers", numbers())}
+    lists = {"ARCHITECTURE.md": ("the drawing", drawing(uses)), "TESTING.md": ("numbers", numbers())}
     for name, (what, text) in lists.items():
         yield os.path.join("docs", name), with_list(read("docs", name), what, text)
 
@@ -138,13 +138,16 @@ def main(words):
             with open(os.path.join(TOP, name), "w", encoding="utf-8") as file:
                 file.write(page)
         return 0
-    if words != ["--print"]:
-        asked = words in (["-h"], ["--help"])
-        print(__doc__.strip(), file=sys.stdout if asked else sys.stderr)
-        return 0 if asked else 1
     uses = crates(read("crates.txt"))
-    print("\n".join((drawing(uses), families(uses), numbers())), end="")
-    return 0
+    if words == ["--print"]:
+        print("\n".join((drawing(uses), numbers())), end="")
+        return 0
+    if words[:1] == ["--families"] and set(words[1:]) <= set(uses):
+        print(families(uses, words[1:]), end="")
+        return 0
+    asked = words in (["-h"], ["--help"])
+    print(__doc__.strip(), file=sys.stdout if asked else sys.stderr)
+    return 0 if asked else 1
 
 
 if __name__ == "__main__":

@@ -5,7 +5,7 @@ import os
 import re
 import unittest
 
-from cases import ROOT, path_of
+from cases import ROOT, path_of, run_tool
 from test_pages import pages
 import lists  # noqa: E402
 
@@ -137,6 +137,16 @@ class Lists(unittest.TestCase):
         rows = re.split(r"\n(?=- )", lists.families(lists.crates(text_of("crates.txt"))).split("### ", 1)[1])
         heads = [" ".join(it.split("\n\n")[0].split()) for it in rows[1:]]
         self.assertEqual([it for it in heads if not re.fullmatch(r"- `\w+`: \S.{8,}\.", it)], [])
+
+    def test_families_are_printed(self):
+        """Those of the crates that are named, lowest first; of all where none is; of none that isn't there."""
+        status, out, why = run_tool("lists.py", "--families", "depot_journal", "depot_lanes")
+        self.assertEqual((status, re.findall(r"### (\w+)", out), why), (0, ["depot_lanes", "depot_journal"], ""))
+        self.assertIn("- `LaneLaws`: ", out)
+        uses = lists.crates(text_of("crates.txt"))
+        self.assertEqual(run_tool("lists.py", "--families")[:2], (0, lists.families(uses)))
+        status, out, why = run_tool("lists.py", "--families", "depot_x")
+        self.assertEqual((status, out, bool(why)), (1, "", True))
 
 
 class Crates(unittest.TestCase):
