@@ -5,6 +5,7 @@ Names of files are as seen from the config's folder.
 
 import configparser
 import dataclasses
+import ipaddress
 import os
 import re
 from typing import Callable, Dict, Optional
@@ -25,8 +26,11 @@ class Address:
         return "%s:%d" % ("[%s]" % self.host if ":" in self.host else self.host, self.port)
 
     def is_loopback(self) -> bool:
-        """Whether only programs of this machine reach it."""
-        return self.host in ("localhost", "::1") or self.host.startswith("127.")
+        """Whether only programs of this machine reach it. A name but `localhost` may be that of any machine."""
+        try:
+            return self.host == "localhost" or ipaddress.ip_address(self.host).is_loopback
+        except ValueError:
+            return False
 
 
 @dataclasses.dataclass(frozen=True)

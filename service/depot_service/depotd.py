@@ -89,15 +89,13 @@ class Service:
         self.serving = Serving(self.node, Bucket(config.leaves.vouchers_a_day, config.leaves.most_vouchers), config.limits, self.counts)
         self.rounds = Rounds(config, self.node, self.serving, say) if config.links else None
         self.carrier = FolderCarrier(config.carrier, self.node, self.serving, say) if config.carrier else None
-        self.giver = Giver(self.node, config.member.node, self.receipts()) if config.carrier else None
+        leaves = config.leaves
+        # The leaves that may go for receipts, over links and through the folder together.
+        self.receipts = self.rounds.receipts if self.rounds else Bucket(leaves.receipts_a_day, leaves.most_receipts)
+        self.giver = Giver(self.node, config.member.node, self.receipts) if config.carrier else None
         self.web = web_for(self)
         # What is looked at with each sign of life: each is called with the node's status.
         self.looks: List[Callable] = [self.look_at_room, Watch(say).look]
-
-    def receipts(self) -> Bucket:
-        """The leaves that may go for receipts, over links and through the folder together."""
-        leaves = self.config.leaves
-        return self.rounds.receipts if self.rounds else Bucket(leaves.receipts_a_day, leaves.most_receipts)
 
     # ---- a run
 
@@ -255,8 +253,8 @@ def main(words: List[str]) -> int:
             return OK
         return asyncio.run(serve(config, options.first))
     except Ends as why:
-        log(why.why)
-        return why.status
+        found = why
     except Exception as why:  # a supervisor starts it again; whoever looks on reads one line
-        log("an inner fault: %r" % why)
-        return INNER
+        found = Ends(INNER, "an inner fault: %r" % why)
+    log("%s; ends with %d" % (found.why, found.status))
+    return found.status

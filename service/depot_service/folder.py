@@ -39,12 +39,11 @@ STUCK_LOOKS = 2
 
 @dataclass
 class MemberState:
-    """A member as its hellos tell: Unix times, 0.0 where there was none. `stage` counts the answers to a hello that stays.
+    """A member as its hellos tell: the Unix time when it had all, 0.0 where it never had. `stage` counts the answers to a hello that stays.
 
     `state` is that of the newest hello, as long as that lacks something: what stays is a lack.
     """
 
-    heard_at: float = 0.0
     in_step_at: float = 0.0
     state: bytes = b""
     stage: int = 0
@@ -54,7 +53,6 @@ class MemberState:
         """Takes note of the newest hello; a state that is new is answered only where it stays."""
         if state != self.state:
             self.state, self.stage, self.due = state, 0, now + wait
-            self.heard_at = time.time()
 
     def answered(self, now: float, relay: float, most: float) -> None:
         """The state was answered: again, with more, if it still stays."""

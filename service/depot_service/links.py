@@ -27,7 +27,7 @@ import guard
 
 AHEAD = 1 << 18
 BACKLOG = 128
-TELL_EACH, LINGER = 1.0, 2.0
+TELL_EACH, MORE_TOLD, LINGER = 1.0, 10, 2.0
 
 
 class Cut(OSError):
@@ -111,15 +111,25 @@ class Channel(asyncio.Protocol):
         self.transport.pause_reading()
 
     async def secure(self, context: ssl.SSLContext, is_server: bool, seconds: float) -> bytes:
-        """Begins TLS; the other side's certificate."""
+        """Begins TLS; the other side's certificate. What came before it, in the clear, would be read as the other's: it is foul."""
+        self.hold()
+        if self.buffer:
+            raise Foul("%d bytes in the clear before TLS" % len(self.buffer))
+        if self.fault:
+            raise self.fault
         try:
             loop = asyncio.get_running_loop()
             self.transport = await loop.start_tls(self.transport, self, context, server_side=is_server, ssl_handshake_timeout=seconds)
         except (ssl.SSLError, asyncio.TimeoutError) as why:
             raise Foul("no TLS: %s" % (why or "no answer in time"))
-        if self.transport is None:
-            raise Cut("the link broke in the handshake")
-        return self.transport.get_extra_info("ssl_object").getpeercert(binary_form=True) or b""
+        # Of a connection that is closed in the handshake asyncio may say nothing.
+        shown = self.transport.get_extra_info("ssl_object") if self.transport is not None else None
+        try:
+            if shown is not None:
+                return shown.getpeercert(binary_form=True) or b""
+        except ValueError:
+            pass
+        raise Cut("the link broke in the handshake")
 
     def close(self) -> None:
         """Closes, and soon cuts: TLS may wait long for a side that doesn't answer, or doesn't read what is still to go out."""
@@ -143,8 +153,8 @@ class Link:
         self.begin()
 
     def begin(self) -> None:
-        """An exchange begins, which has its own time."""
-        self.until = time.monotonic() + self.limits.exchange_seconds
+        """An exchange begins, which has its own time, and in which the other side says so often that it still works."""
+        self.until, self.works = time.monotonic() + self.limits.exchange_seconds, 0
 
     def within(self, seconds: float) -> float:
         """So many seconds, or fewer where the exchange's time ends before."""
@@ -177,6 +187,9 @@ class Link:
                 return kind, payload
             if kind != wire.WORKING:
                 raise Foul("a message of kind %d out of turn" % kind)
+            self.works += 1
+            if self.works > self.limits.exchange_seconds / TELL_EACH + MORE_TOLD:
+                raise Foul("it says more often than once a second that it still works")
 
     async def while_working(self, work: Awaitable):
         """What the work gives, telling the other side now and then that it goes on."""
@@ -266,6 +279,7 @@ class Links:
         try:
             await asyncio.wait_for(connecting, seconds)
         except asyncio.TimeoutError:
+            channel.close()
             raise Cut("%s doesn't answer in %.0f seconds" % (peer.address, seconds))
         try:
             await channel.write(wire.CALL + len(self.own).to_bytes(2, "big") + self.own, seconds)

@@ -1,12 +1,13 @@
 """Numbers of a service in the text form that Prometheus reads."""
 
 import time
-from typing import Iterable, List, NamedTuple, Sequence, Tuple
+from typing import Iterable, List, NamedTuple, Optional, Sequence, Tuple
 
 from . import life
 
 COUNTER, GAUGE = "counter", "gauge"
-STATES = ("starting", "ready", "read-only", "convicted", "closing")
+STATES = ("starting", "ready", "read-only", "convicted", "stopping")
+METHODS = ("GET", "PUT", "POST", "DELETE")
 
 
 class Metric(NamedTuple):
@@ -63,12 +64,7 @@ def state_metric(state: str) -> Metric:
 
 def http_metric(counts: dict) -> Metric:
     """Answers over HTTP, by method and status."""
-    methods = {"GET", "PUT", "POST", "DELETE"}
-    told = {}
-    for (method, code), count in counts.items():
-        name = method if method in methods else "other", code
-        told[name] = told.get(name, 0) + count
-    values = [({"method": method, "code": code}, count) for (method, code), count in sorted(told.items())]
+    values = [({"method": method, "code": code}, count) for (method, code), count in sorted(counts.items())]
     return Metric("depot_http_answers_total", COUNTER, "Answers to local programs.", values)
 
 
@@ -98,6 +94,33 @@ def peers_shown(rounds) -> dict:
         }
         for node, it in sorted(rounds.peers.items())
     }
+
+
+def carrier_shown(carrier) -> Optional[dict]:
+    """What is known of the folder and of each other member by its hellos there; None without a carrier."""
+    if carrier is None:
+        return None
+    now = time.time()
+    ago = {str(node): {"in_step_seconds_ago": round(since(it.in_step_at, now), 1)} for node, it in sorted(carrier.members.items())}
+    return {"why": carrier.why, "members": ago}
+
+
+def carrier_metrics(carrier) -> List[Metric]:
+    """How other members do by their hellos in the folder, and whether that can be used."""
+    shown = carrier_shown(carrier)
+    if shown is None:
+        return []
+    ago = [({"member": node}, it["in_step_seconds_ago"]) for node, it in shown["members"].items()]
+    return [
+        one("depot_carrier_usable", GAUGE, "1 where the folder could be used at the last look.", int(not shown["why"])),
+        Metric("depot_carrier_in_step_seconds", GAUGE, "Seconds since a member's hello there had all; -1 where it never had.", ago),
+    ]
+
+
+def bucket_metrics(service) -> List[Metric]:
+    """How many leaves may go to others now."""
+    buckets = {"vouchers": service.serving.vouchers, "receipts": service.receipts}
+    return [Metric("depot_leaves_for_others", GAUGE, "Leaves that may go to others now.", [({"for": it}, buckets[it].left()) for it in sorted(buckets)])]
 
 
 def node_metrics(node) -> List[Metric]:
@@ -145,4 +168,5 @@ def count_metrics(counts) -> List[Metric]:
 
 def samples_of(service) -> List[Metric]:
     """All that isn't the node's own status."""
-    return node_metrics(service.node) + peer_metrics(service.rounds) + count_metrics(service.counts)
+    shown = peer_metrics(service.rounds) + carrier_metrics(service.carrier)
+    return node_metrics(service.node) + bucket_metrics(service) + shown + count_metrics(service.counts)

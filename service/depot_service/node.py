@@ -41,7 +41,7 @@ LOCAL, PEER, IDLE = 0, 1, 2
 # How many seconds a request may stand behind others that came later: so the local program's come first, and starve nobody.
 MAY_WAIT = (0.0, 0.05, 0.5)
 MOST_WAITING = 256
-NOTED_EACH, LAST_REPLY = 1.0, 0.1
+NOTED_EACH, LAST_REPLY, FORGED_EACH = 1.0, 0.1, 60.0
 MOST_FIRST = 1 << 16
 PIPE = 1 << 20
 STATUS_OF_CHILD = {1: CONFIG, 2: CONFIG, 3: CONFIG, 4: DISK, 9: JOURNAL, 10: CONFIG}
@@ -84,16 +84,18 @@ class Served:
 
 
 class Queue:
-    """Jobs in the order in which they are due."""
+    """Jobs in the order in which they are due. Those of the local program are at most so many, however many others wait."""
 
     def __init__(self, most: int):
-        self.most, self.heap, self.order, self.some = most, [], itertools.count(), asyncio.Event()
+        self.most, self.local, self.heap, self.order, self.some = most, 0, [], itertools.count(), asyncio.Event()
 
     def put(self, urgency: int, job) -> None:
         """Adds a job; Busy where the local program has too many."""
-        if urgency == LOCAL and len(self.heap) >= self.most:
-            raise Busy("%d requests wait" % len(self.heap))
-        heapq.heappush(self.heap, (time.monotonic() + MAY_WAIT[urgency], next(self.order), job))
+        if urgency == LOCAL:
+            if self.local >= self.most:
+                raise Busy("%d requests wait" % self.local)
+            self.local += 1
+        heapq.heappush(self.heap, (time.monotonic() + MAY_WAIT[urgency], next(self.order), urgency, job))
         self.some.set()
 
     async def get(self):
@@ -101,7 +103,14 @@ class Queue:
         while not self.heap:
             self.some.clear()
             await self.some.wait()
-        return heapq.heappop(self.heap)[2]
+        _, _, urgency, job = heapq.heappop(self.heap)
+        self.local -= urgency == LOCAL
+        return job
+
+    def take_all(self) -> list:
+        """All jobs that wait; none is left."""
+        found, self.heap, self.local = [it[-1] for it in self.heap], [], 0
+        return found
 
     def __len__(self) -> int:
         return len(self.heap)
@@ -129,7 +138,7 @@ class Node:
         self.ended: Optional[Ends] = None  # why no request is taken any more
         self.watchers: List[Callable[[str], None]] = []
         self.counts, self.seconds = Counter(), Counter()
-        self.has_grown, self.tasks = False, []
+        self.has_grown, self.tasks, self.told_at = False, [], -1e9
         # The guard reads and syncs files, so it works on a thread, one call after the other.
         self.thread = concurrent.futures.ThreadPoolExecutor(1)
 
@@ -251,6 +260,8 @@ class Node:
             self.end(await self.why_ended())
         except m.Malformed as why:
             self.end(Ends(INNER, "a reply isn't in its form: %s" % why))
+        except Exception as why:  # whatever it is, nobody waits for a pipe that nobody reads
+            self.end(Ends(INNER, "an inner fault: %r" % why))
 
     async def do(self, job: Job) -> None:
         """Does a job, and tells who waits. What breaks the pipe is told to who waits by `end`."""
@@ -296,10 +307,7 @@ class Node:
     def end(self, why: Ends) -> None:
         """Takes no more, fails all that wait, and says to who looks on why the node is over."""
         self.ended = self.ended or why
-        waiting = [self.job] if self.job else []
-        waiting += [it[2] for it in self.queue.heap]
-        self.queue.heap.clear()
-        for job in waiting:
+        for job in ([self.job] if self.job else []) + self.queue.take_all():
             if not job.future.done():
                 job.future.set_exception(why)
         self.be_over(why)
@@ -455,7 +463,9 @@ class Node:
             alarm = listener.hear(b" refused %d %s" % (refusal.frame, refusal.check.words.encode()))
             if alarm is None:
                 continue
-            self.say(alarm.told)
+            if alarm.ring or time.monotonic() > self.told_at + FORGED_EACH:  # anybody can forge, and fills no log by that
+                self.say(alarm.told)
+                self.told_at = time.monotonic()
             if alarm.ring:
                 self.guard.ring(alarm.ring)
                 self.guard.note()

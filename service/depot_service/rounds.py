@@ -26,7 +26,7 @@ from .exchanges import Exchange, Given, Rest
 from .leaves import Bucket
 from .links import Link, Links
 from .messages import MOST_IDS
-from .node import Busy, Node, Refused
+from .node import PEER, Busy, Node, Refused
 from .serving import Serving
 from .wire import Foul
 
@@ -79,6 +79,9 @@ class PeerState:
     last_round: float = -1e9
     not_before: float = 0.0
     given_statements: int = -1
+    # How many pushes in a row lacked something that they rest on, and when the next is tried that no put calls for.
+    early: int = 0
+    early_until: float = 0.0
     moves: Moves = field(default_factory=Moves)
     rest: Rest = field(default_factory=Rest)
     wake: asyncio.Event = field(default_factory=asyncio.Event)
@@ -87,9 +90,17 @@ class PeerState:
     told: str = ""
     told_at: float = -1e9
 
-    def in_step(self) -> None:
-        """Both have the same."""
-        self.in_step_at, self.wants_push, self.wants_round = time.time(), False, False
+    def in_step(self, has_put: bool) -> None:
+        """Both have the same, but for what this member put while it was told so: that is still to be pushed."""
+        self.in_step_at, self.wants_push, self.wants_round, self.early = time.time(), self.wants_push and has_put, False, 0
+
+    def pushed(self, given: Given, pace: Pace) -> None:
+        """A push is over. Where something that it rests on wasn't there, a round follows, and then a push again, ever later."""
+        self.pushes += 1
+        if given.is_sent:
+            self.early = self.early + 1 if given.missing else 0
+        self.wants_round = self.wants_round or given.missing > 0
+        self.early_until = time.monotonic() + min(pace.most_unmoved, pace.again * 2.0 ** min(max(0, self.early - 1), 20))
 
 
 def told_of(why: BaseException) -> str:
@@ -196,6 +207,8 @@ class Rounds:
             found.append((wire.PUSH, least))
         elif state.receipts:
             found.append((wire.RECEIPTS, least))
+        if state.early:  # others may have brought meanwhile what own updates rest on, and a round may lack a leaf for it
+            found.append((wire.PUSH, max(least, state.early_until)))
         return found
 
     def failed(self, state: PeerState, why: BaseException) -> None:
@@ -260,7 +273,7 @@ class Rounds:
         """The other says that it has all of this, and no more."""
         self.counts["exchanges_same"] += 1
         state.given_statements, state.last_round = statements, time.monotonic()
-        state.in_step()
+        state.in_step(statements < self.node.statements)
 
     async def call_to_give(self, state: PeerState, exchange: Exchange, purpose: int, statements: int) -> None:
         """A push, or a round: gives, and in a round takes."""
@@ -268,13 +281,14 @@ class Rounds:
         state.wants_push = False
         given = await self.give(state, exchange, hello, purpose == wire.PUSH)
         if not given.has_more and not given.missing:
-            state.given_statements = statements
+            state.given_statements, state.early = statements, 0
         if purpose == wire.PUSH:
             self.counts["pushes"] += 1
-            state.pushes += 1
-            state.wants_round = state.wants_round or given.missing > 0
+            state.pushed(given, self.pace)
             return
         state.wants_round, state.last_round = False, time.monotonic()
+        # A round that lacks a leaf may end in front of own updates: these go by a push.
+        state.wants_push = state.wants_push or (given.has_more and not state.early and state.given_statements < self.node.statements)
         await exchange.send_hello()
         has_more = await exchange.take()
         self.counts["rounds"] += 1
@@ -377,17 +391,18 @@ class Rounds:
         """Signs that the node has updates, if it has them all and the bucket has a leaf."""
         ids = wire.read_ids((await exchange.link.read(wire.IDS))[1])
         new = [it for it in ids if it not in self.signed]
-        is_done = all((await self.node.accepted(ids)).are)
+        is_done = all((await self.node.accepted(ids, PEER)).are)
         if is_done and new:
             is_done = self.receipts.left() > 0 and await self.sign_receipt(new)
         await exchange.link.send(wire.SIGNED, bytes([is_done]))
 
     async def sign_receipt(self, ids: List[bytes]) -> bool:
-        """Signs one receipt for these updates; whether it was signed."""
+        """Signs one receipt for these updates; whether it was signed. What isn't signed costs no leaf."""
         self.receipts.spend(1)
         try:
-            await self.node.receipt(ids)
+            await self.node.receipt(ids, PEER)
         except Refused:
+            self.receipts.spend(-1)
             return False
         self.counts["leaves_for_receipts"] += 1
         self.signed.update(dict.fromkeys(ids))

@@ -7,6 +7,7 @@ request becomes one of the node's, and its answer is the node's reply.
 import asyncio
 import base64
 import contextlib
+import inspect
 import json
 import logging
 import re
@@ -17,14 +18,14 @@ from aiohttp import web
 
 from . import asked, life, messages
 from .ends import LOCKED, PROOF, Ends
-from .metrics import peers_shown, samples_of, text_of
+from .metrics import METHODS, carrier_shown, peers_shown, samples_of, text_of
 from .node import Busy, Refused
 from .receipts import Waiting
 
 import formats
 
 TEXT, JSON, BYTES, METRICS = "text/plain", "application/json", "application/octet-stream", "text/plain; version=0.0.4"
-LOCAL = re.compile(r"(127\.0\.0\.1|localhost|\[::1\])(:[0-9]{1,5})?")
+LOCAL = re.compile(r"(127(\.[0-9]{1,3}){3}|localhost|\[::1\])(:[0-9]{1,5})?")
 STOP_SECONDS = 3.0
 MOST_LISTED = 8_388_608  # bytes of values in one list of writes; those beyond are told by their length
 REFUSALS = {"spent": 507, "full": 507, "tips": 507, "unknown": 404, "not-held": 503}
@@ -124,6 +125,12 @@ def value_answer(writes):
 # ---- connections
 
 
+def known_to_library(**options) -> dict:
+    """Those of the options that the library's connections know: the versions of systems with Python 3.8 lack some."""
+    known = inspect.signature(web.RequestHandler.__init__).parameters
+    return {name: it for name, it in options.items() if name in known}
+
+
 class Server(web.Server):
     """A server that holds so many connections, and closes those that ask nothing for too long."""
 
@@ -131,7 +138,8 @@ class Server(web.Server):
         quiet = logging.getLogger("depot_service.http")
         quiet.addHandler(logging.NullHandler())  # a stranger's bad request is answered, and fills no log
         quiet.propagate = False
-        super().__init__(self.timed, logger=quiet, access_log=None, keepalive_timeout=bounds.idle_seconds, auto_decompress=False, lingering_time=1.0)
+        options = known_to_library(auto_decompress=False, lingering_time=1.0)
+        super().__init__(self.timed, logger=quiet, access_log=None, keepalive_timeout=bounds.idle_seconds, **options)
         self.handler, self.bounds, self.since = handler, bounds, {}
 
     def connection_made(self, handler, transport):
@@ -219,7 +227,7 @@ class Web:
     async def handle(self, request):
         """The answer to a request, whatever it is."""
         answer = await self.answered(request)
-        name = request.method, answer.status
+        name = request.method if request.method in METHODS else "other", answer.status
         self.counts[name] = self.counts.get(name, 0) + 1
         if not request.content.at_eof():
             answer.force_close()  # what is left of a body isn't read
@@ -244,8 +252,10 @@ class Web:
             return declined(503, "the node has ended")
 
     def demand_local(self, request):
-        """Refuses what a browser sends for a page from elsewhere: a foreign Host or any Origin."""
-        if not LOCAL.fullmatch(request.headers.get("Host", "localhost")) or "Origin" in request.headers:
+        """Refuses what a browser sends for a page from elsewhere: a foreign Host, any Origin, or another site's picture or link."""
+        fields = request.headers
+        is_sent_by_page = "Origin" in fields or fields.get("Sec-Fetch-Site", "none") != "none"
+        if is_sent_by_page or not LOCAL.fullmatch(fields.get("Host", "localhost")):
             raise Declined(403, "only programs of this machine ask here")
 
     async def route(self, request):
@@ -263,6 +273,8 @@ class Web:
 
     async def body_of(self, request, most: int) -> bytes:
         """The body, up to so many bytes."""
+        if "Content-Encoding" in request.headers:
+            raise Declined(400, "a body is taken as it is: it has no Content-Encoding here")
         if (request.content_length or 0) > most:
             raise Declined(413, "a body has at most %d bytes here" % most)
         data = bytearray()
@@ -319,7 +331,10 @@ class Web:
         told = put_shown(put, self.service.config.member.node)
         if not copies.count:
             return listed(told)
-        is_settled = await self.waiting.settled(put.id, copies.count, copies.wait)
+        try:
+            is_settled = await self.waiting.settled(put.id, copies.count, copies.wait)
+        except (Busy, Ends):  # the put stands: who were told to ask again would put twice
+            is_settled = False
         return listed(dict(told, copies=copies.count, settled=is_settled), 200 if is_settled else 202)
 
     async def settled(self, _, query, name):
@@ -364,6 +379,7 @@ class Web:
             "records_left": max(0, life.MOST_RECORDS - it.records), "journal_bytes": it.journal_bytes, "updates": it.updates,
             "foreign_leaves": it.foreign_leaves, "convicted": list(it.convicted), "state": self.state(), "why": self.service.why,
             "warnings": life.warnings(it), "peers": peers_shown(self.service.rounds),
+            "carrier": carrier_shown(self.service.carrier),
         }
         return listed(told)
 

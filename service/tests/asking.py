@@ -44,7 +44,7 @@ def changes_of(changes: dict) -> bytes:
 class Client:
     """One connection to a service on 127.0.0.1."""
 
-    def __init__(self, port: int, timeout: float = 10.0):
+    def __init__(self, port: int, timeout: float = 60.0):
         self.port, self.timeout, self.reader, self.writer = port, timeout, None, None
 
     async def ask(self, method: str, path: str, body: bytes = b"", wait: float = 0.0) -> Answer:

@@ -169,11 +169,11 @@ class Carried:
             it.cancel()
         await asyncio.gather(*work, return_exceptions=True)
         self.tally.update(villain.tally)
-        answer = await self.nodes[1].client.ask("PUT", path_of(b"settled") + "?copies=2&wait=20", b"v", wait=20)
+        answer = await self.nodes[1].client.ask("PUT", path_of(b"settled") + "?copies=2&wait=60", b"v", wait=60)
         if answer.code != 200:
             raise Failed("no receipts through the folder: %d" % answer.code)
         self.acked.append(bytes.fromhex(answer.json()["id"]))
-        self.tally["in step behind"] = round(await members.in_step([*self.nodes.values()], 30))
+        self.tally["in step behind"] = round(await members.in_step([*self.nodes.values()]))
         await self.look(villain)
 
     async def look(self, villain):

@@ -15,6 +15,7 @@ if SERVICE not in sys.path:
 
 from depot_service import messages as m  # noqa: E402
 from depot_service import node as n  # noqa: E402
+from depot_service.leaves import Bucket  # noqa: E402
 
 import formats  # noqa: E402
 
@@ -94,7 +95,8 @@ def service_of(roster: str):
         file.write(ROSTER)
     config = types.SimpleNamespace(
         http=types.SimpleNamespace(listen=types.SimpleNamespace(host="127.0.0.1", port=0)), member=types.SimpleNamespace(node=1, roster=roster))
-    return types.SimpleNamespace(config=config, node=MemoryNode(), rounds=MemoryRounds(), carrier=None, state="ready", why="", counts=Counter())
+    buckets = {"serving": types.SimpleNamespace(vouchers=Bucket(0.0, 200)), "receipts": Bucket(0.0, 64)}
+    return types.SimpleNamespace(config=config, node=MemoryNode(), rounds=MemoryRounds(), carrier=None, state="ready", why="", counts=Counter(), **buckets)
 
 
 def bytes_of_key(text: str) -> bytes:

@@ -30,6 +30,7 @@ from members import Failed
 CORRECT, FORKER = (1, 2, 3, 4, 5), 6
 SIDES = {1: "a", 2: "a", 3: "a", 4: "b", 5: "b"}  # with which run of the forker each member talks
 HEIGHT, KEYS, CLIENTS, RATE = 10, 40, 6, 25.0
+KILLS, BROKEN_KILLS = 2, 6  # at least so many
 CONVICTED = 77
 LOST, BLAMED = "lost", "blamed"  # what a broken service comes to
 OLD_JOURNAL, OTHER = 76, "other"
@@ -226,6 +227,7 @@ class Chaos:
             await asyncio.sleep(self.words.seconds * 0.15)
             await self.fork()
             await asyncio.sleep(self.words.seconds * 0.85)
+            await self.until_killed(work)
             self.is_on = False
             await asyncio.gather(*work)
             await self.heal()
@@ -235,6 +237,12 @@ class Chaos:
             await asyncio.gather(*foes, *work, watch, return_exceptions=True)
         await self.look()
 
+    async def until_killed(self, work):
+        """Goes on until enough kills were done, as a slow machine takes longer; for two minutes at most."""
+        until, least = time.monotonic() + 120, BROKEN_KILLS if self.words.broken else KILLS
+        while self.tally["kills"] < least and time.monotonic() < until and not any(it.done() for it in work):
+            await asyncio.sleep(0.1)
+
     async def heal(self):
         """All links are up, all members run, and come into step while the hostile peers go on."""
         for it in self.proxies.values():
@@ -242,7 +250,7 @@ class Chaos:
         for it in self.nodes.values():
             if not it.is_alive():
                 await it.start().ready()
-        took = await members.in_step([*self.nodes.values()], 30)
+        took = await members.in_step([*self.nodes.values()])
         self.say("in step %.1f s behind the last fault" % took)
 
     async def look(self):

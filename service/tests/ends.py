@@ -52,12 +52,12 @@ class Ends:
         found = await process.start(*words).ended()
         self.check(name, found == status and "Traceback" not in process.said(), (found, process.said()))
 
-    async def load(self, seconds, clients=6, pause=0.03):
+    async def load(self, seconds, clients=6, pause=0.03, acked=None):
         """Puts by several clients, until the service ends or the time is over; the ids that were acknowledged, and other answers."""
-        acked, others, until = [], [], time.monotonic() + seconds
+        acked, others, until = [] if acked is None else acked, [], time.monotonic() + seconds
 
         async def one(number):
-            client, count = Client(self.one.http, 5), 0
+            client, count = Client(self.one.http), 0
             while time.monotonic() < until:
                 try:
                     count += 1
@@ -74,14 +74,16 @@ class Ends:
         await asyncio.gather(*(one(it) for it in range(clients)))
         return acked, others
 
-    async def loaded(self, name, end, statuses, seconds=1.0, limit=None):
+    async def loaded(self, name, end, statuses, limit=None):
         """Something that ends a service under load: with this status, and none of what was acknowledged lost."""
         await self.one.start(limit=limit).ready()
-        asked = asyncio.ensure_future(self.load(seconds))
-        await asyncio.sleep(0.4)
+        acked = []
+        asked = asyncio.ensure_future(self.load(60, acked=acked))
+        while len(acked) < 10 and not asked.done() and self.one.is_alive():
+            await asyncio.sleep(0.05)
         end()
         status = await self.one.ended()
-        acked, _ = await asked
+        await asked
         kept = members.ids_of(self.cluster.journal(1))
         told = (status, len(acked), self.one.said())
         self.check("%s: %d puts acknowledged, none lost" % (name, len(acked)), status in statuses and acked and set(acked) <= kept, told)
@@ -117,7 +119,7 @@ class Ends:
 
     async def filled(self):
         size = os.path.getsize(self.cluster.journal(1))
-        await self.loaded("no room for records", lambda: None, (DISK,), seconds=4, limit=size + 6_000)
+        await self.loaded("no room for records", lambda: None, (DISK,), limit=size + 6_000)
         await self.working("and it goes on once there is room")
         busy = self.cluster.config(1, {}, name="busy", limits={"waiting": 1})
         self.one, was = busy, self.one
@@ -201,7 +203,7 @@ class Ends:
         codes = [(await pair[3].client.put(b"s%d" % it, b"v")).code for it in range(20)]
         self.check("a key of 16 statements is spent: 507", codes[:16] == [200] * 16 and set(codes[16:]) == {507}, codes)
         await pair[1].client.put(b"late", b"news")
-        took = await members.in_step([*pair.values()], 10)
+        took = await members.in_step([*pair.values()])
         health = await pair[3].client.ask("GET", "/healthz")
         told = (await pair[3].client.status())["warnings"]
         is_so = health.code == 200 and any("read-only" in it for it in told)

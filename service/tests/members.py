@@ -6,7 +6,6 @@ import random
 import resource
 import shutil
 import signal
-import socket
 import subprocess
 import sys
 import time
@@ -16,13 +15,14 @@ import cases
 import formats
 from asking import Client, Gone
 from depot_service import making
+from stand_in import free_ports
 
 DEPOTD = os.path.join(cases.SERVICE, "depotd")
 PROGRAM = os.environ.get("DEPOT_PROGRAM", os.path.normpath(os.path.join(cases.SERVICE, os.pardir, "depot")))
 WATCHED, BROKEN = os.path.join(cases.HERE, "watched_depot"), os.path.join(cases.HERE, "broken_depot")
 SOON = {"round": 1, "push": 0.05, "again": 0.2, "most again": 1, "unmoved": 1, "most unmoved": 5, "convicted": 3}
 LOCKED = 75
-PORTS, GIVEN = (12_000, 32_000), set()
+GIVEN = set()
 
 
 class Failed(Exception):
@@ -36,13 +36,7 @@ class Failed(Exception):
 def free_port() -> int:
     """A port of loopback that nobody listens at now, that isn't given twice, and that no call takes as its own end."""
     while True:
-        port = random.randrange(*PORTS)
-        with socket.socket() as it:
-            it.setsockopt(socket.SOL_SOCKET, socket.SO_REUSEADDR, 1)
-            try:
-                it.bind(("127.0.0.1", port))
-            except OSError:
-                continue
+        port = free_ports(1)[0]
         if port not in GIVEN:
             GIVEN.add(port)
             return port
@@ -177,14 +171,14 @@ class Process:
             self.process.wait()
         self.client.close()
 
-    async def end(self, seconds: float = 20.0) -> Optional[int]:
+    async def end(self, seconds: float = 60.0) -> Optional[int]:
         """Ends it by SIGTERM; its status, or None where it had to be killed."""
         if self.is_alive():
             self.look()
             os.kill(self.process.pid, signal.SIGTERM)
         return await self.ended(seconds)
 
-    async def ended(self, seconds: float = 20.0) -> Optional[int]:
+    async def ended(self, seconds: float = 60.0) -> Optional[int]:
         """Its status once it ends; None where it has to be killed."""
         until = time.monotonic() + seconds
         while self.process.poll() is None:
@@ -195,7 +189,7 @@ class Process:
         self.client.close()
         return self.process.returncode
 
-    async def ready(self, seconds: float = 30.0) -> "Process":
+    async def ready(self, seconds: float = 90.0) -> "Process":
         """Waits until it answers. One whose journal is still locked by a child of the run before is started again."""
         until = time.monotonic() + seconds
         while time.monotonic() < until:
@@ -261,7 +255,7 @@ class Cluster:
 # ---- what processes are asked together
 
 
-async def in_step(processes, seconds: float = 30.0) -> float:
+async def in_step(processes, seconds: float = 90.0) -> float:
     """How long it takes until all have the same updates and show the same; Failed where they don't in time."""
     begun, told = time.monotonic(), []
     while time.monotonic() - begun < seconds:

@@ -17,7 +17,7 @@ one() {
   out=$room/$(echo "$name" | tr -c 'a-z_\n' -)
   read -ra words <<<"$name"
   [ "${name#test_}" = "$name" ] || words=(-m unittest -q "${name%.py}")
-  if timeout -k 5 240 /usr/bin/python3 -B -W ignore::ResourceWarning "${words[@]}" >"$out" 2>&1 </dev/null; then
+  if timeout -k 5 600 /usr/bin/python3 -B -W ignore::ResourceWarning "${words[@]}" >"$out" 2>&1 </dev/null; then
     touch "$out.ok"
     echo "ok   $name ($((SECONDS - begun)) s)"
   else

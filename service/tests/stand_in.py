@@ -6,6 +6,8 @@ depot_service.node.Node where links, rounds and the carrier are tried.
 
 import asyncio
 import os
+import random
+import socket
 import sys
 import tempfile
 from collections import Counter
@@ -30,7 +32,7 @@ from formats import number  # noqa: E402
 
 SIGNATURE = b"signed"
 SOON = Pace(push=0.02, round=0.3, again=0.05, most_again=0.3, unmoved=0.3, most_unmoved=2.0, convicted=1.0)
-QUICK = Limits(greet_seconds=2.0, wait_seconds=2.0, idle_seconds=5.0, exchange_seconds=10.0, stop_seconds=2.0)
+QUICK = Limits(greet_seconds=10.0, wait_seconds=10.0, idle_seconds=20.0, exchange_seconds=60.0, stop_seconds=20.0)
 END, MORE = b"\4\0\0\0\1\0", b"\4\0\0\0\1\1"
 
 
@@ -203,33 +205,41 @@ class Members:
         return Config("test.conf", member, links, peers, None, None, leaves, pace, limits)
 
 
-def free_ports(count: int) -> List[int]:
-    """Ports of loopback at which nobody listens now."""
-    import socket
-
-    held = [socket.socket() for _ in range(count)]
-    for it in held:
-        it.bind(("127.0.0.1", 0))
-    found = [it.getsockname()[1] for it in held]
-    for it in held:
-        it.close()
+def free_ports(count: int, offsets=(0,)) -> List[int]:
+    """Ports of loopback at which nobody listens now, nor at these places behind each, and that no call takes as its own end."""
+    found: List[int] = []
+    while len(found) < count:
+        port = random.randrange(12_000, 32_000)
+        if port not in found and all(is_free(port + it) for it in offsets):
+            found.append(port)
     return found
+
+
+def is_free(port: int) -> bool:
+    """Whether nobody has a port of loopback."""
+    with socket.socket() as it:
+        it.setsockopt(socket.SOL_SOCKET, socket.SO_REUSEADDR, 1)
+        try:
+            it.bind(("127.0.0.1", port))
+        except OSError:
+            return False
+        return True
 
 
 # ---- loops
 
 
 def run(test):
-    """Runs a test that is a coroutine, for 15 seconds at most."""
+    """Runs a test that is a coroutine, for two minutes at most: on a quiet machine each takes seconds."""
 
     def ran(self):
-        asyncio.run(asyncio.wait_for(test(self), 15))
+        asyncio.run(asyncio.wait_for(test(self), 120))
 
     ran.__name__, ran.__doc__ = test.__name__, test.__doc__
     return ran
 
 
-async def until(is_so, seconds: float = 8.0) -> None:
+async def until(is_so, seconds: float = 60.0) -> None:
     """Waits until something is so; AssertionError where it isn't in time."""
     loop = asyncio.get_running_loop()
     end = loop.time() + seconds

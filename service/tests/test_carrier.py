@@ -35,6 +35,11 @@ class Case(unittest.TestCase):
         await found.start()
         return found
 
+    async def looked(self, side: FolderCarrier, count: int = 2) -> None:
+        """Waits until a member has looked into the folder so often; with two the last one began behind this call."""
+        until_now = side.counts["carrier_looks"]
+        await until(lambda: side.counts["carrier_looks"] >= until_now + count)
+
     def names(self, kind: str = ""):
         """The files of the carrier."""
         found = filter(None, map(read_name, os.listdir(self.folder)))
@@ -80,7 +85,7 @@ class Exchanges(Case):
         sides = [await self.side(it) for it in NODES]
         await sides[0].node.put([(b"k", b"v")])
         await until(lambda: are_same(1, *sides))
-        await asyncio.sleep(0.4)
+        await self.looked(sides[0], 3)
         self.assertEqual((len(self.names("stream")), sides[0].counts["leaves_for_vouchers"]), (1, 0))
         await end(*sides)
 
@@ -128,7 +133,7 @@ class Exchanges(Case):
         for body in (second, first):
             data = frame_of(body) + END
             self.write(self.stream_name(1, data), data)
-            await asyncio.sleep(0.3)
+            await self.looked(one)
         await until(lambda: len(one.node.updates) == 2)
         await end(one)
 
@@ -145,10 +150,11 @@ class Lies(Case):
         for name in ("README", "stream-1-2-3", ".part-00002-0123456789abcdef", right.upper(), right + ".tmp"):
             self.write(name, data)
         self.write(right, data[:-3])
-        await until(lambda: one.counts["carrier_looks"] > 1)
+        await self.looked(one)
         held = len(os.listdir("/proc/self/fd"))
-        await asyncio.sleep(0.6)
-        self.assertEqual((one.node.taken_streams, len(os.listdir("/proc/self/fd"))), ([], held))
+        await self.looked(one, 5)
+        await until(lambda: len(os.listdir("/proc/self/fd")) <= held)  # a look may be under way
+        self.assertEqual(one.node.taken_streams, [])
         self.write(right, data)
         await until(lambda: len(one.node.updates) == 1)
         self.assertEqual(self.said, [])
@@ -159,7 +165,7 @@ class Lies(Case):
         one = await self.side(1)
         data = frame_of(body_of(2, 0, bytes(32), b"k", b"v")) + END
         self.write(self.stream_name(2, data), data.replace(b"signed", b"forged"))
-        await asyncio.sleep(0.4)
+        await self.looked(one)
         self.assertEqual(one.node.taken_streams, [])
         await end(one)
 
@@ -169,7 +175,7 @@ class Lies(Case):
         data = frame_of(body_of(2, 0, bytes(32), b"k", b"v")) + END
         for number in range(1, 6):
             self.write(self.stream_name(2, data, number), data)
-            await asyncio.sleep(0.12)
+            await self.looked(one)
         self.assertEqual(len(one.node.taken_streams), 1)
         await end(one)
 
@@ -179,7 +185,7 @@ class Lies(Case):
         data = b"\2\0\0\0\5rubbish"
         self.write(self.stream_name(2, data), data)
         await until(lambda: one.counts["carrier_foul"] == 1)
-        await asyncio.sleep(0.3)
+        await self.looked(one)
         self.assertEqual(len(one.node.taken_streams), 1)
         await end(one)
 

@@ -51,6 +51,13 @@ class Configs(unittest.TestCase):
         colons = ":".join(["AB"] * 32)
         self.assertEqual(self.read(MEMBER + LINKS + "[peer 2]\ncertificate = %s\n" % colons).peers[2].certificate, bytes.fromhex(PRINT))
 
+    def test_addresses_of_loopback(self):
+        for host in ("127.0.0.1", "127.1.2.3", "localhost", "[::1]", "[0:0:0:0:0:0:0:1]"):
+            self.assertEqual(self.read(MEMBER + "[http]\nlisten = %s:80\n" % host).http.listen.port, 80)
+        for host in ("127.0.0.1.example.org", "127.example.org", "127", "10.0.0.1", "[::]", "[::ffff:10.0.0.1]", "example.org"):
+            with self.subTest(host), self.assertRaises(Ends):
+                self.read(MEMBER + "[http]\nlisten = %s:80\n" % host)
+
     def test_each_mistake_is_one_line(self):
         other = "[peer 3]\naddress = 127.0.0.1:7003\ncertificate = %s\n"
         cases = [

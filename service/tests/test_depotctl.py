@@ -34,7 +34,7 @@ def running(test):
                 finally:
                     await self.web.stop()
 
-        asyncio.run(asyncio.wait_for(work(), 60))
+        asyncio.run(asyncio.wait_for(work(), 120))
 
     return run
 

@@ -13,6 +13,7 @@ import unittest
 from stand_in import HERE, SERVICE, free_ports
 from depot_service.ends import CONFIG, INNER, JOURNAL, LOCKED, OK, PROOF
 
+PATIENCE = 90
 STAND_IN, DEPOTD = os.path.join(HERE, "stand_in_depot"), os.path.join(SERVICE, "depotd")
 
 
@@ -21,7 +22,7 @@ class Case(unittest.TestCase):
         room = tempfile.TemporaryDirectory()
         self.addCleanup(room.cleanup)
         self.room = os.path.join(room.name, "a")
-        self.port = free_ports(1)[0]
+        self.port = free_ports(1, (0, 100))[0]
         self.made = self.tool("make_local", self.room, "8", "1", "--port", str(self.port - 1), "--program", STAND_IN)
         self.config = os.path.join(self.room, "1.conf")
         self.change("[http]\nlisten = 127.0.0.1:%d\n\n" % (self.port + 100), "")
@@ -61,14 +62,14 @@ class Case(unittest.TestCase):
         running = self.start(*words, **more)
         lines = running.stderr.read().splitlines()
         self.assertFalse([it for it in lines if "Traceback" in it], lines)
-        return running.wait(20), lines
+        return running.wait(PATIENCE), lines
 
     def run_well(self, *words: str) -> None:
         """A run that is asked to end once it is ready."""
         running = self.start(*words)
         self.heard(running, "ready")
         running.send_signal(signal.SIGTERM)
-        self.assertEqual(running.wait(20), OK)
+        self.assertEqual(running.wait(PATIENCE), OK)
 
 
 class Ends(Case):
@@ -77,7 +78,7 @@ class Ends(Case):
             running = self.start(*words)
             self.heard(running, "node 1 is ready, with 0 statements")
             running.send_signal(number)
-            self.assertEqual(running.wait(20), OK)
+            self.assertEqual(running.wait(PATIENCE), OK)
             self.assertIn("ends with 0", running.stderr.read())
 
     def test_a_config_that_is_none(self):
@@ -103,7 +104,7 @@ class Ends(Case):
         running = self.start("--first", STAND_IN="hang")
         self.heard(running, "hangs")
         running.send_signal(signal.SIGTERM)
-        self.assertEqual(running.wait(20), OK)
+        self.assertEqual(running.wait(PATIENCE), OK)
         self.run_well("--first")
 
     def test_a_second_one_and_an_address_that_is_taken(self):
@@ -111,7 +112,7 @@ class Ends(Case):
         self.heard(running, "ready")
         self.assertEqual(self.ended()[0], LOCKED)
         running.send_signal(signal.SIGTERM)
-        running.wait(20)
+        running.wait(PATIENCE)
         with socket.socket() as held:
             held.bind(("127.0.0.1", self.port))
             held.listen(1)
@@ -125,14 +126,14 @@ class Ends(Case):
         with open("/proc/%d/task/%d/children" % (running.pid, running.pid), encoding="ascii") as file:
             child = int(file.read().split()[0])
         os.kill(child, signal.SIGKILL)
-        self.assertEqual(running.wait(20), INNER)
+        self.assertEqual(running.wait(PATIENCE), INNER)
         self.run_well()
 
     def test_a_service_that_is_killed_leaves_a_journal_to_go_on_from(self):
         running = self.start("--first")
         self.heard(running, "ready")
         running.kill()
-        running.wait(20)
+        running.wait(PATIENCE)
         for _ in range(50):  # the child ends at the end of its input
             status, lines = self.ended("--check")
             if status != LOCKED:
@@ -162,21 +163,21 @@ class Supervisors(Case):
         with socket.socket(socket.AF_UNIX, socket.SOCK_DGRAM) as heard:
             path = os.path.join(self.room, "notify")
             heard.bind(path)
-            heard.settimeout(10)
+            heard.settimeout(PATIENCE)
             running = self.start("--first", NOTIFY_SOCKET=path, WATCHDOG_USEC="200000")
             self.assertEqual([heard.recv(99) for _ in range(3)], [b"READY=1", b"WATCHDOG=1", b"WATCHDOG=1"])
             running.send_signal(signal.SIGTERM)
             found = heard.recv(99)
             while found == b"WATCHDOG=1":
                 found = heard.recv(99)
-            self.assertEqual((found, running.wait(20)), (b"STOPPING=1", OK))
+            self.assertEqual((found, running.wait(PATIENCE)), (b"STOPPING=1", OK))
 
     def test_one_that_doesnt_listen_is_no_fault(self):
         running = self.start("--first", NOTIFY_SOCKET=os.path.join(self.room, "none"), WATCHDOG_USEC="100000")
         self.heard(running, "ready")
         time.sleep(0.3)
         running.send_signal(signal.SIGTERM)
-        self.assertEqual(running.wait(20), OK)
+        self.assertEqual(running.wait(PATIENCE), OK)
 
 
 class Tools(Case):

@@ -4,11 +4,13 @@ import asyncio
 import dataclasses
 import ssl
 import time
+import types
 import unittest
+import unittest.mock
 from collections import Counter
 
 from stand_in import QUICK, Members, free_ports, quiet, run, until
-from depot_service import wire
+from depot_service import links, wire
 from depot_service.ends import CONFIG, LOCKED, Ends
 from depot_service.links import Channel, Cut, Links
 from depot_service.wire import Foul
@@ -92,8 +94,66 @@ class Callers(Case):
         await there.close()
 
     @run
+    async def test_a_link_that_is_closed_before_TLS_or_in_it_is_cut(self):
+        async def gone(reader, writer):
+            writer.close()
+
+        here, there, peer = await self.pair(echo)
+        server = await asyncio.start_server(gone, "127.0.0.1", 0)
+        channel = Channel()
+        await asyncio.get_running_loop().create_connection(lambda: channel, "127.0.0.1", server.sockets[0].getsockname()[1])
+        await until(lambda: channel.fault)
+        with self.assertRaises(Cut):
+            await channel.secure(here.client, False, 5)
+        server.close()
+        channel = Channel()
+        await asyncio.get_running_loop().create_connection(lambda: channel, peer.address.host, peer.address.port)
+        with unittest.mock.patch.object(asyncio.get_running_loop(), "start_tls", self.told_nothing):
+            with self.assertRaises(Cut):
+                await channel.secure(here.client, False, 5)
+        channel.close()
+        await there.close()
+
+    async def told_nothing(self, transport, _protocol, context, **_words):
+        """In place of `start_tls`, as where the connection is closed in the handshake: the transport of one that never was."""
+        ssl_object = context.wrap_bio(ssl.MemoryBIO(), ssl.MemoryBIO())
+        return types.SimpleNamespace(get_extra_info=lambda _: ssl_object, close=transport.close, abort=transport.abort, is_closing=transport.is_closing)
+
+    @run
+    async def test_what_somebody_adds_in_the_clear_to_a_members_call_is_not_read_as_the_members(self):
+        heard = []
+
+        async def hear(link):
+            heard.append(await link.read(wire.HELLO))
+
+        here, there, peer = await self.pair(hear)
+        channel = Channel()
+        await asyncio.get_running_loop().create_connection(lambda: channel, peer.address.host, peer.address.port)
+        await channel.write(wire.CALL + len(here.own).to_bytes(2, "big") + here.own + b"\3\0\0\0\1x", 1)
+        await channel.read(len(wire.GO), 5)
+        with self.assertRaises((Foul, OSError)):
+            await channel.secure(here.client, False, 5)
+        self.assertEqual((heard, there.open, there.counts["links_refused"]), ([], [], 1))
+        channel.close()
+        await there.close()
+
+    @run
+    async def test_nor_what_somebody_adds_to_the_answer(self):
+        async def add(reader, writer):
+            await reader.readexactly(len(wire.CALL))
+            writer.write(wire.GO + b"\2\0\0\0\5" + wire.Answer(wire.SAME).text())
+
+        here, there, peer = await self.pair(echo)
+        server = await asyncio.start_server(add, "127.0.0.1", 0)
+        address = dataclasses.replace(peer.address, port=server.sockets[0].getsockname()[1])
+        with self.assertRaisesRegex(Foul, "10 bytes in the clear"):
+            await here.dial(dataclasses.replace(peer, address=address))
+        server.close()
+        await there.close()
+
+    @run
     async def test_who_shows_nothing_is_let_go_in_time_and_keeps_nobody_out(self):
-        limits = dataclasses.replace(QUICK, greet_seconds=0.5, links=3)
+        limits = dataclasses.replace(QUICK, greet_seconds=2.0, links=3)
         here, there, peer = await self.pair(echo, limits)
         idle = [await asyncio.open_connection(peer.address.host, peer.address.port) for _ in range(5)]
         link = await here.dial(peer)
@@ -197,8 +257,22 @@ class Limits(Case):
 
         here, there, peer = await self.pair(work, dataclasses.replace(QUICK, wait_seconds=1.5))
         begun = time.monotonic()
-        self.assertEqual(await (await here.dial(peer)).read(wire.END), (wire.END, b"\0"))
+        with unittest.mock.patch.object(links, "TELL_EACH", 0.1):  # ever so often within the time that it waits
+            self.assertEqual(await (await here.dial(peer)).read(wire.END), (wire.END, b"\0"))
         self.assertGreater(time.monotonic() - begun, 2.4)
+        await there.close()
+
+    @run
+    async def test_who_says_all_the_time_that_it_works_is_foul(self):
+        async def flood(link):
+            while True:
+                await link.send(wire.WORKING)
+
+        here, there, peer = await self.pair(flood)
+        link = await here.dial(peer)
+        with self.assertRaisesRegex(Foul, "more often than once a second"):
+            await link.read(wire.END)
+        self.assertLess(link.works, 100)
         await there.close()
 
     @run
@@ -206,7 +280,7 @@ class Limits(Case):
         async def work(link):
             while True:
                 await link.send(wire.WORKING)
-                await asyncio.sleep(0.05)
+                await asyncio.sleep(0.2)
 
         here, there, peer = await self.pair(work, dataclasses.replace(QUICK, exchange_seconds=0.6))
         with self.assertRaisesRegex(Cut, "takes over|nothing came"):

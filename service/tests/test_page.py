@@ -11,6 +11,7 @@ from stand_in import SERVICE, free_ports
 from depot_service import config
 
 PROGRAM = os.environ.get("DEPOT", "")
+PATIENCE = 240
 
 
 def page() -> str:
@@ -19,13 +20,19 @@ def page() -> str:
         return file.read()
 
 
-def port_for(count: int) -> int:
-    """A port behind which this many are free, and as many a hundred above."""
-    for _ in range(100):
-        port = free_ports(1)[0]
-        if port < 60_000:
-            return port
-    raise AssertionError("no port is free")
+def typed(text: str) -> str:
+    """What bash prints where this is typed; AssertionError where it doesn't end well. What runs in the background ends with it."""
+    text = "set -m\ntrap 'kill $(jobs -p) 2>/dev/null; wait' EXIT\n%s\n" % text
+    with subprocess.Popen(["bash", "-c", text], cwd=os.path.join(SERVICE, os.pardir), stdout=subprocess.PIPE, stderr=subprocess.PIPE, universal_newlines=True) as bash:
+        try:
+            out, said = bash.communicate(timeout=PATIENCE)
+        except subprocess.TimeoutExpired:
+            bash.terminate()
+            out, said = bash.communicate()
+            raise AssertionError("it took over %d seconds: %s %s" % (PATIENCE, out, said))
+    if bash.returncode:
+        raise AssertionError("%d: %s %s" % (bash.returncode, out, said))
+    return out + said
 
 
 class Page(unittest.TestCase):
@@ -35,18 +42,16 @@ class Page(unittest.TestCase):
         commands = re.findall(r"(?m)^\$ (.*)$", section)
         self.assertGreater(len(commands), 8)
         with tempfile.TemporaryDirectory() as room:
-            port = port_for(4)
-            text = "set -m\n" + "\n".join(commands)
-            text = text.replace("/tmp/three 12 3", "/tmp/three 6 3 --port %d --program %s" % (port, PROGRAM)).replace("/tmp/three", room + "/three")
-            text = re.sub(r"(?m)^(service/depotctl .* get color)$", r"sleep 1; \1", text)  # who types is slower than a push
+            port = free_ports(1, (1, 2, 3, 101, 102, 103))[0]
+            text = "\n".join(commands).replace("/tmp/three 12 3", "/tmp/three 6 3 --port %d --program %s" % (port, PROGRAM)).replace("/tmp/three", room + "/three")
+            text = re.sub(r"(?m)^(service/depotctl .* get color)$", r"until \1; do sleep 0.2; done", text)  # who types is slower than a push
             text = re.sub(r"\b171(0[1-9])\b", lambda it: str(port + 100 + int(it.group(1))), text)
-            ran = subprocess.run(["bash", "-c", text], cwd=os.path.join(SERVICE, os.pardir), stdout=subprocess.PIPE, stderr=subprocess.PIPE, universal_newlines=True, timeout=60)
-        self.assertEqual(ran.returncode, 0, ran.stderr)
-        lines = ran.stdout.splitlines()
-        self.assertIn("blue", ran.stdout)
-        self.assertTrue(any(it.startswith("green") for it in lines), lines)
-        self.assertRegex(ran.stdout, r"(?m)[0-9a-f]{64} 3 0 2$")
-        self.assertIn("the journal is good", ran.stderr)
+            printed = typed(text)
+        self.assertIn("node 3 is ready", printed)
+        self.assertIn("blue", printed)
+        self.assertRegex(printed, r"(?m)^green")
+        self.assertRegex(printed, r"(?m)[0-9a-f]{64} 3 0 2$")
+        self.assertIn("the journal is good", printed)
 
     def test_each_option_is_told_with_what_it_is_if_it_isnt_there(self):
         told = page()

@@ -39,7 +39,7 @@ def given(test):
             self.giver = Giver(self.node, 1, Bucket(0.0, 3))
             await test(self)
 
-        asyncio.run(asyncio.wait_for(work(), 10))
+        asyncio.run(asyncio.wait_for(work(), 120))
 
     return run
 

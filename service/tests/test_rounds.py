@@ -6,8 +6,10 @@ import unittest
 from typing import Dict
 
 from stand_in import END, QUICK, SOON, MemoryNode, Members, body_of, frame_of, free_ports, quiet, run, serving_of, until
+from depot_service import messages as m
 from depot_service import wire
 from depot_service.exchanges import Given, Rest
+from depot_service.node import LOCAL, PEER, Refused
 from depot_service.rounds import Moves, Rounds
 from depot_service.wire import Foul
 
@@ -81,6 +83,19 @@ class Exchanges(Case):
         await self.end(one, two)
 
     @run
+    async def test_a_put_while_both_find_that_they_have_the_same_is_pushed(self):
+        one, two = await self.sides((1, 2), pace=NO_ROUNDS)
+        await until(lambda: one.peer(2).in_step_at and two.peer(1).in_step_at)
+        statements, state = one.node.statements, one.peer(2)
+        await one.node.put([(b"k", b"v")])
+        one.rounds.has_same(state, statements)
+        self.assertTrue(state.wants_push)
+        await until(lambda: are_same(one, two))
+        one.rounds.has_same(state, one.node.statements)
+        self.assertFalse(state.wants_push)
+        await self.end(one, two)
+
+    @run
     async def test_an_update_that_lacks_its_parent_is_followed_by_a_whole_round(self):
         one, two = await self.sides((1, 2), pace=NO_ROUNDS)
         await until(lambda: one.peer(2).in_step_at and two.peer(1).in_step_at)
@@ -89,6 +104,35 @@ class Exchanges(Case):
         await until(lambda: are_same(one, two) and len(two.node.updates) == 2)
         self.assertEqual(one.node.served[-2:], [(2, True, 0), (2, False, QUICK.vouchers)])
         self.assertEqual(one.counts["leaves_for_vouchers"], 1)
+        await self.end(one, two)
+
+    @run
+    async def test_without_a_leaf_it_is_pushed_again_once_others_may_have_brought_the_parent(self):
+        one, two = await self.sides((1, 2), pace=NO_ROUNDS, leaves=0)
+        await until(lambda: one.peer(2).in_step_at and two.peer(1).in_step_at)
+        parent = body_of(3, 0, bytes(32), b"k", b"of 3")
+        one.node.keep(parent)
+        await one.node.put([(b"k", b"v")])
+        await until(lambda: one.peer(2).early > 2)
+        self.assertEqual((len(two.node.updates), one.counts["leaves_for_vouchers"]), (0, 0))
+        two.node.keep(parent)
+        await until(lambda: are_same(one, two))
+        await until(lambda: not one.peer(2).early)
+        await self.end(one, two)
+
+    @run
+    async def test_a_round_without_a_leaf_leaves_own_updates_to_a_push(self):
+        ports = dict(zip((1, 2), free_ports(2)))
+        one, two = (Side(self.members, it, ports, leaves=0, pace=NO_ROUNDS) for it in (1, 2))
+        parent = body_of(3, 0, bytes(32), b"k", b"of 3")
+        one.node.keep(parent)
+        await one.node.put([(b"k", b"v")])
+        two.node.keep(parent)
+        one.rounds.push, two.node.far_hello = (lambda: None), MemoryNode(2, self.members.nodes).hello
+        for it in (one, two):
+            await it.rounds.start()
+        await until(lambda: one.peer(2).rounds)
+        await until(lambda: are_same(one, two))
         await self.end(one, two)
 
     @run
@@ -152,8 +196,8 @@ class Exchanges(Case):
     async def test_the_next_bundle_waits_as_long_as_the_last_took(self):
         rest = Rest()
         self.assertEqual(rest.left(), 0.0)
-        rest.note(time.monotonic() - 0.5)
-        self.assertTrue(0.3 < rest.left() <= 0.51)
+        rest.note(time.monotonic() - 3.0)
+        self.assertTrue(1.0 < rest.left() <= 4.0)
         rest.note(time.monotonic() - 100)
         self.assertLessEqual(rest.left(), 5.0)
 
@@ -163,7 +207,7 @@ class Exchanges(Case):
         await until(lambda: one.peer(2).in_step_at and two.peer(1).in_step_at)
         one.node.watchers.clear()
         await one.node.put([(b"k", b"v")])
-        await one.rounds.stop(2.0)
+        await one.rounds.stop(60.0)
         self.assertTrue(are_same(one, two))
         await self.end(two)
 
@@ -202,6 +246,23 @@ class Receipts(Case):
         await one.rounds.ask_receipts([put.id])
         await until(lambda: one.counts["receipts_denied"] == 3)
         self.assertEqual(two.node.receipts, [])
+        await self.end(one, two)
+
+
+    @run
+    async def test_what_isnt_signed_costs_no_leaf_and_asks_as_others_do(self):
+        one, two = await self.sides((1, 2))
+        asked = []
+
+        async def receipt(ids, urgency=LOCAL):
+            asked.append(urgency)
+            raise Refused(m.NotDone("not-held", "a value isn't held"))
+
+        two.node.receipt = receipt
+        put, left = await one.node.put([(b"k", b"v")]), two.rounds.receipts.left()
+        await one.rounds.ask_receipts([put.id])
+        await until(lambda: asked and one.counts["receipts_denied"])
+        self.assertEqual((set(asked), two.rounds.receipts.left()), ({PEER}, left))
         await self.end(one, two)
 
 

@@ -2,15 +2,18 @@
 
 import asyncio
 import base64
+import gzip
 import json
 import os
 import tempfile
+import types
 import unittest
 
 import cases
 from asking import Client, changes_of, path_of
 from depot_service import messages as m
-from depot_service import web
+from depot_service import metrics, web
+from depot_service.depotd import READ_ONLY, READY, STARTING, STOPPING
 from depot_service.ends import PROOF, Ends
 from depot_service.node import Busy, Refused
 
@@ -20,15 +23,15 @@ def value(number, data, writer=1):
     return m.LatestWrite(cases.id_of(number), writer, number, number + 1, m.Write(False, data, b"", len(data)))
 
 
-def running(test):
-    """A test with a service that listens, and a client of it."""
+def running(test, seconds=30.0):
+    """A test with a service that listens, and a client of it. What does nothing is let go behind so many seconds."""
 
     def run(self):
         async def work():
             with tempfile.TemporaryDirectory() as room:
                 self.service = cases.service_of(os.path.join(room, "roster"))
                 self.node = self.service.node
-                self.web = web.Web(self.service, web.Bounds(connections=4, idle_seconds=0.4, body_seconds=0.4))
+                self.web = web.Web(self.service, web.Bounds(connections=4, idle_seconds=seconds, body_seconds=seconds))
                 self.client = Client(await self.web.start())
                 try:
                     await test(self)
@@ -36,9 +39,14 @@ def running(test):
                     self.client.close()
                     await self.web.stop()
 
-        asyncio.run(asyncio.wait_for(work(), 20))
+        asyncio.run(asyncio.wait_for(work(), 120))
 
     return run
+
+
+def hurried(test):
+    """The same where who does nothing is let go soon."""
+    return running(test, 0.4)
 
 
 class Paths(unittest.TestCase):
@@ -128,10 +136,40 @@ class Paths(unittest.TestCase):
         for line in ('depot_refused_frames_total{check="Missing"} 2', 'depot_wire_bytes_total{way="in"} 9', 'depot_events_total{what="rounds"} 1'):
             self.assertIn(line + "\n", text)
         self.assertIn('depot_http_answers_total{code="200",method="GET"} 1\n', text)
+        for line in ('depot_leaves_for_others{for="receipts"} 64', 'depot_leaves_for_others{for="vouchers"} 200', 'depot_state{state="stopping"} 0'):
+            self.assertIn(line + "\n", text)
+        self.assertEqual([it for it in (STARTING, READY, READ_ONLY, STOPPING) if it not in metrics.STATES], [])
+
+    @running
+    async def test_a_folder_is_told_of_as_links_are(self):
+        self.assertIsNone((await self.client.status())["carrier"])
+        told = types.SimpleNamespace(why="/all: No such file", members={2: types.SimpleNamespace(in_step_at=1.0), 3: types.SimpleNamespace(in_step_at=0.0)})
+        self.service.carrier = told
+        found = (await self.client.status())["carrier"]
+        self.assertEqual((found["why"], found["members"]["3"]), (told.why, {"in_step_seconds_ago": -1.0}))
+        text = (await self.client.ask("GET", "/metrics")).body.decode()
+        self.assertIn("depot_carrier_usable 0\n", text)
+        self.assertIn('depot_carrier_in_step_seconds{member="3"} -1\n', text)
+
+    @running
+    async def test_methods_of_any_name_are_counted_together(self):
+        for name in ("PATCH", "PURGE"):
+            await self.client.ask(name, "/healthz")
+        self.assertTrue({method for method, _ in self.web.counts} <= {"other", *metrics.METHODS}, self.web.counts)
 
 
 class Copies(unittest.TestCase):
     """Puts that wait for receipts."""
+
+    @running
+    async def test_a_put_that_stands_is_never_told_to_come_again(self):
+        for fault in (Busy("256 requests wait"), Ends(PROOF, "a proof")):
+            async def fail(_it, _copies, urgency=None, fault=fault):
+                raise fault
+
+            self.node.settled = fail
+            found = await self.client.ask("PUT", path_of(b"k") + "?copies=2&wait=5", b"v")
+            self.assertEqual((found.code, found.json()["settled"]), (202, False))
 
     @running
     async def test_a_put_waits_for_receipts(self):
@@ -199,6 +237,18 @@ class Refusals(unittest.TestCase):
         await self.refused(413, "POST", "/v1/put", bytes(2_000_001))
 
     @running
+    async def test_a_body_that_is_packed_is_refused(self):
+        reader, writer = await asyncio.open_connection("127.0.0.1", self.client.port)
+        head = "PUT %s HTTP/1.1\r\nHost: 127.0.0.1\r\nContent-Encoding: gzip\r\nContent-Length: 20\r\n\r\n" % path_of(b"k")
+        writer.write(head.encode() + gzip.compress(b"")[:20])
+        self.assertRegex(await reader.readline(), b"^HTTP/1.1 400 ")
+        writer.close()
+        self.assertEqual(self.node.puts, [])
+
+    def test_options_that_the_library_lacks_are_left_out(self):
+        self.assertEqual(web.known_to_library(lingering_time=1.0, no_such_option=1), {"lingering_time": 1.0})
+
+    @running
     async def test_other_paths_and_methods(self):
         await self.refused(404, "GET", "/")
         await self.refused(405, "POST", path_of(b"k"))
@@ -206,12 +256,18 @@ class Refusals(unittest.TestCase):
 
     @running
     async def test_pages_from_elsewhere(self):
-        for field in ("Host: evil.example", "Host: 127.0.0.1\r\nOrigin: http://evil.example", "Host: [::1"):
+        local = "Host: 127.0.0.1\r\n"
+        for field in ("Host: evil.example", local + "Origin: http://evil.example", "Host: [::1", local + "Sec-Fetch-Site: cross-site", "Host: 127.0.0.1.evil.example"):
             reader, writer = await asyncio.open_connection("127.0.0.1", self.client.port)
             writer.write(("PUT %s HTTP/1.1\r\n%s\r\nContent-Length: 1\r\n\r\nv" % (path_of(b"k"), field)).encode())
             self.assertRegex(await reader.readline(), b"^HTTP/1.1 40[03] ")
             writer.close()
         self.assertEqual(self.node.puts, [])
+        for field in ("Host: 127.0.0.2:7100", "Host: localhost", "Host: [::1]:7100", local + "Sec-Fetch-Site: none"):
+            reader, writer = await asyncio.open_connection("127.0.0.1", self.client.port)
+            writer.write(("GET /healthz HTTP/1.1\r\n%s\r\n\r\n" % field.strip()).encode())
+            self.assertRegex(await reader.readline(), b"^HTTP/1.1 200 ")
+            writer.close()
 
     @running
     async def test_the_nodes_refusals(self):
@@ -235,13 +291,13 @@ class Refusals(unittest.TestCase):
 class Strangers(unittest.TestCase):
     """Connections that do nothing good."""
 
-    @running
+    @hurried
     async def test_idle_and_slow_connections_are_closed(self):
         idle = await asyncio.open_connection("127.0.0.1", self.client.port)
         slow = await asyncio.open_connection("127.0.0.1", self.client.port)
         slow[1].write(b"PUT /v1/values/k HTTP/1.1\r\nHost: 127.0.0.1\r\nContent-Length: 9\r\n\r\nv")
-        self.assertEqual(await asyncio.wait_for(idle[0].read(), 3), b"")
-        self.assertIn(b" 408 ", await asyncio.wait_for(slow[0].readline(), 3))
+        self.assertEqual(await asyncio.wait_for(idle[0].read(), 60), b"")
+        self.assertIn(b" 408 ", await asyncio.wait_for(slow[0].readline(), 60))
         for it in (idle, slow):
             it[1].close()
 
@@ -251,11 +307,11 @@ class Strangers(unittest.TestCase):
         reader, writer = await asyncio.open_connection("127.0.0.1", self.client.port)
         with self.assertRaises((ConnectionError, asyncio.IncompleteReadError)):
             writer.write(b"GET /healthz HTTP/1.1\r\nHost: 127.0.0.1\r\n\r\n")
-            await asyncio.wait_for(reader.readexactly(1), 3)
+            await asyncio.wait_for(reader.readexactly(1), 60)
         for it in held + [(reader, writer)]:
             it[1].close()
 
-    @running
+    @hurried
     async def test_a_body_that_is_cut_or_turns_bad_is_put_nowhere(self):
         head = b"PUT /v1/values/k HTTP/1.1\r\nHost: 127.0.0.1\r\n"
         reader, writer = await asyncio.open_connection("127.0.0.1", self.client.port)
@@ -263,7 +319,7 @@ class Strangers(unittest.TestCase):
         await writer.drain()
         await asyncio.sleep(0.1)
         writer.write(b"zz\r\n")
-        self.assertRegex(await asyncio.wait_for(reader.readline(), 3), b" 40[08] ")
+        self.assertRegex(await asyncio.wait_for(reader.readline(), 60), b" 40[08] ")
         writer.close()
         _, writer = await asyncio.open_connection("127.0.0.1", self.client.port)
         writer.write(head + b"Content-Length: 9\r\n\r\nv")
@@ -282,15 +338,15 @@ class Strangers(unittest.TestCase):
         begun = asyncio.get_running_loop().time()
         await self.web.stop()
         self.assertEqual((await asked).code, 202)
-        self.assertLess(asyncio.get_running_loop().time() - begun, 3.5)
+        self.assertLess(asyncio.get_running_loop().time() - begun, 12)
 
-    @running
+    @hurried
     async def test_rubbish_gets_one_answer_and_harms_nobody(self):
         for rubbish in (b"\0" * 100, b"GET / HTTP/9.9\r\n\r\n", b"PUT /v1/values/k HTTP/1.1\r\nContent-Length: -5\r\n\r\n", b"A" * 20_000,
                         b"PUT /v1/values/k HTTP/1.1\r\nTransfer-Encoding: chunked\r\n\r\nzz\r\n", b"GET / HTTP/1.1\r\n" + b"a: b\r\n" * 5_000):
             reader, writer = await asyncio.open_connection("127.0.0.1", self.client.port)
             writer.write(rubbish)
-            answer = await asyncio.wait_for(reader.read(), 3)
+            answer = await asyncio.wait_for(reader.read(), 60)
             self.assertNotIn(b"Traceback", answer)
             writer.close()
         self.assertEqual((await self.client.ask("GET", "/healthz")).code, 200)
