@@ -1,7 +1,8 @@
 -- Records that are lent one by one.
-use Rattle.std.proofs.Common.{◌≡◌, ◌∙◌, ℕ, zero, suc, ◌<◌, ◌≤◌, ◌+◌, ◌^◌, List, [], ◌∷◌, ◌++◌, drop, length, map, Some, arith, ap, sym, refl}
+use Rattle.std.proofs.Common.{◌≡◌, ◌∙◌, ℕ, zero, suc, ◌<◌, ◌≤◌, ◌+◌, ◌^◌, List, [], ◌∷◌, ◌++◌, drop, length, map, Some, append_assoc, arith, ap, sym, refl}
 use Rattle.std.specs.Prelude.{slice_get, sum_by}
 use Rattle.std.proofs.lemmas.List.{append-nil, drop_all}
+use Rattle.std.proofs.lemmas.List.Sums.{sum_by-cons}
 use Rattle.depot_base.specs.File.{blocks, framed}
 use Rattle.depot_base.specs.declared.record.Record.{Record}
 use Rattle.depot_laws.proofs.OwnTexts.{lawful_is_light}
@@ -24,8 +25,13 @@ all_added run texts place count all added = sym (append-nil run) ∙ ap (λ (l :
 -- a record's text is no longer than the bytes of all
 within_all : (J : List Record) (at : ℕ) (text : List ℕ) → slice_get (map text_of_record J) at ≡ Some text → length text ≤ sum_by (λ r. 5 + length (text_of_record r)) J
 within_all [] at text is = absurd cc
-within_all (r ∷ J) zero text is = let same : length (text_of_record r) ≡ length text = cc in omega (arith, same)
-within_all (r ∷ J) (suc at) text is = let rest = within_all J at text is in omega (arith, rest)
+within_all (r ∷ J) zero text is =
+    let same : text_of_record r ≡ text = cc in
+    let long = ap (λ (t : List ℕ). length t) same in
+    omega (arith, long, sum_by-cons (λ (x : Record). 5 + length (text_of_record x)) r J)
+within_all (r ∷ J) (suc at) text is =
+    let rest = within_all J at text is in
+    omega (arith, rest, sum_by-cons (λ (x : Record). 5 + length (text_of_record x)) r J)
 
 -- so the length of the text of a record of a lawful journal has a place in four bytes
 pub has_length : (here : Setting) (J : List Record) (at : ℕ) (text : List ℕ) → IsLawful here J → slice_get (map text_of_record J) at ≡ Some text → length text < 2 ^ 32

@@ -78,7 +78,8 @@ fn signer_of(alloc: Global, seed: &[u8], height: u64) -> Result<SharedSigner, Re
 impl Handle {
     /// Keeps the roster of a text.
     fn keep_roster(&mut self, text: &[u8]) -> Result<Bytes, Refused>
-        ensures { KeepsRoster text.now (⟦<Handle as Viewed>⟧.view_of self.old) result (⟦<Handle as Viewed>⟧.view_of self.new) }
+        ensures keeps { KeepsRoster text.now (⟦<Handle as Viewed>⟧.view_of self.old) result (⟦<Handle as Viewed>⟧.view_of self.new) }
+        ensures lent { (kept_bytes self.new).records ≡ (kept_bytes self.old).records }
     {
         match Roster::parse(self.alloc, text) {
             Ok(roster) => {
@@ -91,7 +92,8 @@ impl Handle {
 
     /// Makes the key of a seed and a height, and keeps its signer.
     fn keep_key(&mut self, seed: &[u8], height: u64) -> Result<Bytes, Refused>
-        ensures { KeepsKey height seed.now (⟦<Handle as Viewed>⟧.view_of self.old) result (⟦<Handle as Viewed>⟧.view_of self.new) }
+        ensures keeps { KeepsKey height seed.now (⟦<Handle as Viewed>⟧.view_of self.old) result (⟦<Handle as Viewed>⟧.view_of self.new) }
+        ensures lent { (kept_bytes self.new).records ≡ (kept_bytes self.old).records }
     {
         self.signer = Some(signer_of(self.alloc, seed, height)?);
         Ok(Bytes::new(self.alloc))
@@ -106,7 +108,8 @@ impl Handle {
 
     /// Starts the node of a number from the bytes of a journal's file, which are none at the first start.
     fn start(&mut self, number: u64, file: &[u8]) -> Result<Bytes, Refused>
-        ensures { Starts number file.now (⟦<Handle as Viewed>⟧.view_of self.old) result (⟦<Handle as Viewed>⟧.view_of self.new) }
+        ensures starts { Starts number file.now (⟦<Handle as Viewed>⟧.view_of self.old) result (⟦<Handle as Viewed>⟧.view_of self.new) }
+        ensures lent { (kept_bytes self.new).records ≡ (kept_bytes self.old).records }
     {
         let me = node_of(number)?;
         if !self.is_free() {
@@ -122,14 +125,16 @@ impl Handle {
 
     /// Keeps a node.
     fn keep_node(&mut self, node: Over)
-        ensures { ⟦<Handle as Viewed>⟧.view_of self.new ≡ record (⟦<Handle as Viewed>⟧.view_of self.old) { node_view = Some (⟦<Over as HasNodeView>⟧.node_view node) } }
+        ensures keeps { ⟦<Handle as Viewed>⟧.view_of self.new ≡ record (⟦<Handle as Viewed>⟧.view_of self.old) { node_view = Some (⟦<Over as HasNodeView>⟧.node_view node) } }
+        ensures lent { (kept_bytes self.new).records ≡ (kept_bytes self.old).records }
     {
         self.node = Some(node);
     }
 
     /// Ends the node.
     fn end(&mut self) -> Result<Bytes, Refused>
-        ensures { NodeEnds (⟦<Handle as Viewed>⟧.view_of self.old) result (⟦<Handle as Viewed>⟧.view_of self.new) }
+        ensures ends { NodeEnds (⟦<Handle as Viewed>⟧.view_of self.old) result (⟦<Handle as Viewed>⟧.view_of self.new) }
+        ensures lent { (kept_bytes self.new).records ≡ (kept_bytes self.old).records }
     {
         if self.is_free() {
             return Err(Refused::Order);
@@ -140,7 +145,8 @@ impl Handle {
 
     /// Has the node do or tell what the body of a message asks.
     fn message(&mut self, body: &[u8]) -> Result<Bytes, Refused>
-        ensures { MessagesHandle body.now (⟦<Handle as Viewed>⟧.view_of self.old) result (⟦<Handle as Viewed>⟧.view_of self.new) }
+        ensures messages { MessagesHandle body.now (⟦<Handle as Viewed>⟧.view_of self.old) result (⟦<Handle as Viewed>⟧.view_of self.new) }
+        ensures lent { (kept_bytes self.new).records ≡ (kept_bytes self.old).records }
     {
         match &mut self.node {
             Some(node) => message(self.alloc, node, body),
@@ -163,7 +169,8 @@ impl Handle {
 
     /// Does what is asked.
     pub fn does(&mut self, ask: Ask, number: u64, input: &[u8]) -> Result<Bytes, Refused>
-        ensures { Does ask number input.now (⟦<Handle as Viewed>⟧.view_of self.old) result (⟦<Handle as Viewed>⟧.view_of self.new) }
+        ensures does { Does ask number input.now (⟦<Handle as Viewed>⟧.view_of self.old) result (⟦<Handle as Viewed>⟧.view_of self.new) }
+        ensures lent { (kept_bytes self.new).records ≡ (kept_bytes self.old).records }
     {
         match ask {
             Ask::Roster => self.keep_roster(input),

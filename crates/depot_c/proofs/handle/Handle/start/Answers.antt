@@ -21,8 +21,8 @@ none_is : (o : Option NodeView) → is_none o ≡ true → o ≡ None
 none_is None e = refl
 none_is (Some s) e = absurd cc
 
-pub returns : goal.returns
-returns c =
+pub returns-clause-starts : goal.returns-clause-starts
+returns-clause-starts c =
     let kept = kept_by c.in-Some-Some.signer in
     let node_view = node_views.ghosts.node_view c.in_ok-node.node in (
       c.new.ensures,
@@ -34,6 +34,6 @@ returns c =
         free = none_is _ (sym c.if-not-is_free.ensures);
         node_view = node_view;
         started = subst (λ (n : ℕ). IsViewStarted (standing n c.in-Some-Some.roster) kept.key kept.sign c.args.file.now node_view) c.in_ok-me.ensures.1 c.in_ok-node.ensures.started;
-        is = c.keep_node.ensures;
+        is = c.keep_node.ensures.keeps;
       },
     )
