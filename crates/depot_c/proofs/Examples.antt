@@ -1,7 +1,5 @@
 -- The definitions of this crate, by example.
-use Rattle.std.proofs.Common.{◌≡◌, [], ◌∷◌, true, false, Some, None, refl}
-use Rattle.depot_base.specs.Cursor.{numeral}
-use Rattle.depot_base.specs.File.{blocks, framed}
+use Rattle.std.proofs.Common.{◌≡◌, true, false, Some, None, refl}
 use Rattle.depot_node.specs.declared.start_error.StartError.TheVariants as start_error
 use Rattle.depot_requests.specs.declared.reply.Halt.TheVariants as halt
 use Rattle.depot_c.specs.Asked.{asked_by}

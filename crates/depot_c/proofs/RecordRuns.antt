@@ -1,7 +1,6 @@
 -- Records that are lent one by one.
-use Rattle.std.proofs.Common.{◌≡◌, ◌∙◌, ℕ, zero, suc, ◌<◌, ◌≤◌, ◌+◌, ◌^◌, List, [], ◌∷◌, ◌++◌, drop, length, map, Some, append_assoc, arith, ap, sym, refl}
+use Rattle.std.proofs.Common.{◌≡◌, ◌∙◌, ℕ, zero, suc, ◌<◌, ◌≤◌, ◌+◌, ◌^◌, List, [], ◌∷◌, ◌++◌, drop, length, map, Some, append_assoc, arith, ap, sym}
 use Rattle.std.specs.Prelude.{slice_get, sum_by}
-use Rattle.std.proofs.lemmas.List.{append-nil, drop_all}
 use Rattle.std.proofs.lemmas.List.Sums.{sum_by-cons}
 use Rattle.depot_base.specs.File.{blocks, framed}
 use Rattle.depot_base.specs.declared.record.Record.{Record}
@@ -14,13 +13,6 @@ use Rattle.depot_model.specs.Records.{text_of_record}
 -- one more record stands behind those that were added
 pub one_more : (run : List ℕ) (texts : List (List ℕ)) (at : ℕ) (text : List ℕ) → slice_get texts at ≡ Some text → (run ++ 1 ∷ framed text) ++ blocks (drop (at + 1) texts) ≡ run ++ blocks (drop at texts)
 one_more run texts at text is = append_assoc run (1 ∷ framed text) (blocks (drop (at + 1) texts)) ∙ ap (λ (l : List (List ℕ)). run ++ blocks l) (sym (from_place texts at text is))
-
--- behind the last one there is none, and so all were added
-pub none_left : (texts : List (List ℕ)) (place : ℕ) → length texts ≤ place → [] ≡ blocks (drop place texts)
-none_left texts place past = ap (λ (l : List (List ℕ)). blocks l) (sym (drop_all place texts past))
-
-pub all_added : (run : List ℕ) (texts : List (List ℕ)) (place count : ℕ) → length texts ≤ count → run ++ blocks (drop count texts) ≡ blocks (drop place texts) → run ≡ blocks (drop place texts)
-all_added run texts place count all added = sym (append-nil run) ∙ ap (λ (l : List ℕ). run ++ l) (none_left texts count all) ∙ added
 
 -- a record's text is no longer than the bytes of all
 within_all : (J : List Record) (at : ℕ) (text : List ℕ) → slice_get (map text_of_record J) at ≡ Some text → length text ≤ sum_by (λ r. 5 + length (text_of_record r)) J

@@ -1,8 +1,7 @@
-use Rattle.std.proofs.Common.{◌≡◌, ◌++◌, ◌+◌, ◌∙◌, ℕ, List, ap, arith, drop, map}
-use Rattle.std.proofs.lemmas.List.{length-map}
+use Rattle.std.proofs.Common.{◌++◌, ◌+◌, ◌∙◌, ℕ, List, ap, drop, map}
 use Rattle.depot_base.specs.File.{blocks}
 use Rattle.depot_model.specs.Records.{text_of_record}
-use Rattle.depot_c.proofs.RecordRuns.{all_added, has_length, none_left, one_more}
+use Rattle.depot_c.proofs.RecordRuns.{has_length, one_more}
 use Rattle.depot_c.proofs.lent_records.records_from.Goals as goal
 
 pub add_record-requires : goal.add_record-requires
