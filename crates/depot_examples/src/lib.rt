@@ -2,7 +2,6 @@
 //!
 //! Changing the meaning of a definition makes one of them false. If a law asked for too much, no world here would meet
 //! its conditions any more. Laws that no code needs are here too. Nothing depends on this crate.
-//! of, no world here meets them any more. Laws that no code needs are here too. Nothing depends on this crate.
 #![tactic(auto)]
 
 mod alike;

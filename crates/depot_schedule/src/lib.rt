@@ -13,7 +13,6 @@
 //!
 //! `event`, `member` and `schedule` have the types, `verb` the kinds of events and what their labels name;
 //! `event_writers`, `reference_writers` and `print` write a schedule.
-//! `reference_writers` and `print` write a schedule.
 //!
 //! Nothing here reads a text, and nothing says what an event does.
 #![tactic(auto)]

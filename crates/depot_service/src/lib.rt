@@ -8,7 +8,6 @@
 //!
 //! Here is also what scripts and schedules print alike that is no reply: `readers` and `checkpoints` for readers made
 //! by a checkpoint, and `traces` for what a node hands in for an audit.
-//! and `traces` of what a node hands in for an audit.
 //!
 //! What it doesn't do: it decides nothing, and it keeps nothing.
 #![tactic(auto)]

@@ -4,8 +4,6 @@
 //! The contracts of these calls are proved in their crates; this crate promises nothing. The tests are in a crate of
 //! their own so that those are proved once. What several nodes and their readers do is tested on the program
 //! (`acceptance/`).
-//! their own so that those are proved once. What several nodes and their readers do is tried on the program
-//! (`acceptance/`).
 #![tactic(auto)]
 
 #[cfg(test)]

@@ -3,8 +3,6 @@
 //! The headline is about the reads and the judged proofs of a world, and no code keeps these. So laws here say which
 //! there are, and worked examples show them over takes, restarts and stops. Worked examples of scripts and of files at
 //! their limits are here too. Nothing depends on this crate.
-//! which there are, and worked examples show them over takes, restarts and stops. Worked examples of scripts and of
-//! files at their limits are here too. Nothing depends on this crate.
 #![tactic(auto)]
 
 mod told;

@@ -2,7 +2,6 @@
 //!
 //! `gather` returns the traces of all files, each of another node of the roster, or names the first file that can't be
 //! had or is no such trace (`specs/Handing.antt`). No file is loaded after that one.
-//! had or is no such trace (`specs/Handing.antt`). No file is loaded after that one.
 #![tactic(auto)]
 
 mod loading;

@@ -3,8 +3,6 @@
 //! `judging` asks a judge whom a proof convicts, `copying` reads and writes a text, and `noting` puts and reads at a
 //! node over a disk in memory. Each states what it does by the definitions of the calls that it makes, and is tested.
 //! Nothing depends on this crate.
-//! node over a disk in memory. Each says what it does by the definitions of the calls that it makes, and is tried by a
-//! test. Nothing depends on this crate.
 #![tactic(auto)]
 
 mod copying;
