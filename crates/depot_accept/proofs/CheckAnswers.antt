@@ -15,7 +15,7 @@ use Rattle.depot_model.specs.Pruning.{checks_to_signature}
 use Rattle.depot_model.specs.Texts.{id_of_statement}
 use Rattle.depot_model.specs.Roster.{Verifies, key_of, has_node, is_signed}
 use Rattle.depot_model.specs.Checks.{Setting, given_statement, is_kept, statement_checks, first_failed_check, is_known, answer_by, answer_to, exposed, growth_by, growth}
-use Rattle.depot_fork.specs.declared.Found.{Found}
+use Rattle.depot_kept.specs.declared.seen_statements.Found.{Found}
 use Rattle.depot_accept.specs.StateView.{View, setting}
 use Rattle.depot_accept.specs.CheckResults.{AreDue, IsNew, IsChecked}
 use Rattle.depot_accept.specs.AfterSignature.{failed_after_signature, Passes, IsCheckedAfterSignature}

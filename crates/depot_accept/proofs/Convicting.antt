@@ -8,7 +8,7 @@ use Rattle.depot_model.specs.Lists.{IsIn, is_one_of}
 use Rattle.depot_model.specs.Items.{AreDistinct}
 use Rattle.depot_model.specs.Roster.{key_of, has_node}
 use Rattle.depot_model.proofs.Members.{all_at, all_from, any_from, in_pushed}
-use Rattle.depot_vouch.specs.VouchedView.{with_node}
+use Rattle.depot_kept.specs.VouchedView.{with_node}
 use Rattle.depot_accept.specs.Convicts.{AreConvicts}
 
 -- ---- lists without a number

@@ -20,8 +20,8 @@ use Rattle.depot_model.specs.Texts.{id_of_statement, id_of_update}
 use Rattle.depot_model.specs.Journal.{foreign, vouched, is_convicted, is_vouched}
 use Rattle.depot_model.specs.Conviction.{proof_of}
 use Rattle.depot_model.specs.Checks.{given_statement, sight, content_checks, content_of, opponent, named_opponent, due, added, exposed}
-use Rattle.depot_fork.specs.declared.Found.{Found}
-use Rattle.depot_fork.specs.Opponents.{IsContradiction}
+use Rattle.depot_kept.specs.declared.seen_statements.Found.{Found}
+use Rattle.depot_kept.specs.Opponents.{IsContradiction}
 use Rattle.std.proofs.Math.Bool.{or-false}
 use Rattle.depot_model.proofs.DueLaws.{none_due, no_fork_vouched, no_fork_alone}
 use Rattle.depot_model.proofs.BodyLaws.{update_id}

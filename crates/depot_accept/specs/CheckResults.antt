@@ -12,7 +12,7 @@ use Rattle.depot_model.specs.Conviction.{proof_of}
 use Rattle.depot_model.specs.Items.{AreItemsOf}
 use Rattle.depot_model.specs.Journal.{accepted, foreign}
 use Rattle.depot_model.specs.Order.{parents}
-use Rattle.depot_fork.specs.declared.Found.{Found}
+use Rattle.depot_kept.specs.declared.seen_statements.Found.{Found}
 use Rattle.depot_graph.specs.UpdateRows.{IsJoinedRow}
 use Rattle.depot_accept.specs.declared.answer.Parents.{Parents}
 use Rattle.depot_accept.specs.declared.answer.Pass.{Pass}

@@ -1,7 +1,7 @@
 //! What a check returns.
 
 use depot_base::Check;
-use depot_fork::Found;
+use depot_kept::Found;
 
 /// The places of an update's parents among the accepted updates.
 #[derive(Debug, Drop)]

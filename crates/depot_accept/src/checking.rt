@@ -23,7 +23,7 @@ use crate::answer::{CheckError, Front, Parents, Pass};
 use crate::content::{Content, check_content};
 use crate::state::State;
 use depot_base::{Check, Hash32, PublicKey, Signed, Statement, Update, Voucher};
-use depot_fork::Found;
+use depot_kept::Found;
 use depot_model::{Past, Scheme};
 
 impl<S: Scheme> State<S> {

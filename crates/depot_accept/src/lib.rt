@@ -33,5 +33,5 @@ mod state;
 
 pub use accept_laws::convictions_may_come_late;
 pub use answer::{CheckError, Front, Parents, Pass};
-pub use depot_fork::Found;
+pub use depot_kept::Found;
 pub use state::State;

@@ -1,3 +1,9 @@
+pub mod ListLaws
+pub mod TableLaws
+pub mod NodesOfTraces
+pub mod WrongReads
+pub mod MetRecords
+pub mod NamedNodes
 pub mod ReadSteps
 pub mod ShownReads
 pub mod TurnLaws

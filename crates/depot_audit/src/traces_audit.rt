@@ -13,7 +13,7 @@ ghost use Rattle.depot_traces.specs.declared.trace.TheConstants.{MOST_READS, MOS
 
 use crate::by_node::sorted;
 use crate::in_turn::look_at_all;
-use depot_apart::{Met, first_named, first_wrong};
+use crate::{Met, first_named, first_wrong};
 use depot_base::Memory;
 use depot_model::Scheme;
 use depot_search::search;

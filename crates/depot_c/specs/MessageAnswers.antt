@@ -1,11 +1,11 @@
 -- What a node answers to the body of a message.
 use Rattle.std.specs.Prelude.{◌≡◌, ◌⊎◌, List, ℕ, true, None, Some, Result, Ok, Err}
-use Rattle.depot_asking.specs.Answering.{came_by}
-use Rattle.depot_asking.specs.Bodies.{IsAskedFault, asked_of_body}
-use Rattle.depot_asking.specs.declared.asked.Asked.{Asked}
-use Rattle.depot_asking.specs.declared.asked.Asked.TheVariants as asked
-use Rattle.depot_bounds.specs.SendCalls.{Sends}
-use Rattle.depot_request_texts.specs.ReplyTexts.{text_of_reply}
+use Rattle.depot_service.specs.Answering.{came_by}
+use Rattle.depot_service.specs.Bodies.{IsAskedFault, asked_of_body}
+use Rattle.depot_service.specs.declared.asked.Asked.{Asked}
+use Rattle.depot_service.specs.declared.asked.Asked.TheVariants as asked
+use Rattle.depot_gossip.specs.SendCalls.{Sends}
+use Rattle.depot_requests.specs.ReplyTexts.{text_of_reply}
 use Rattle.depot_requests.specs.declared.reply.Halt.{Halt}
 use Rattle.depot_requests.specs.declared.reply.Halt.TheVariants as halt
 use Rattle.depot_requests.specs.declared.reply.Reply.{Reply}

@@ -14,7 +14,7 @@
 //! A node of a handle is in memory, and its caller keeps its records: after each message the new ones, before it uses the answer. The
 //! kit's gate lets no crate call the system but by a runtime, and no runtime crosses to C.
 //!
-//! What a message asks and what answers it is defined in `depot_asking`, for `depot serve` and callers alike. What the caller has to
+//! What a message asks and what answers it is defined in `depot_service`, for `depot serve` and callers alike. What the caller has to
 //! uphold stands in bindings/depot.h: no proof reaches it.
 #![tactic(auto)]
 

@@ -6,15 +6,12 @@ ghost use Rattle.depot_c.specs.NodeViews.{RunsOn, Stays};
 
 use crate::node_view::{HasNodeView, Over};
 use crate::refused::Refused;
-use depot_asking::{Asked, decode_asked};
 use depot_base::{Bytes, DecodeError};
-use depot_bounds::{SendRequest, send};
+use depot_gossip::{SendRequest, send};
 use depot_model::Replica;
-use depot_question_texts::encode_answer;
-use depot_questions::{Question, ask};
-use depot_request_texts::{encode_exported, encode_reply};
-use depot_requests::{Halt, Reply, Request};
-use depot_service::{export, serve};
+use depot_questions::{Question, ask, encode_answer};
+use depot_requests::{Halt, Reply, Request, encode_exported, encode_reply};
+use depot_service::{Asked, decode_asked, export, serve};
 use std::alloc::Global;
 
 /// The message of a reply, or why there is none.

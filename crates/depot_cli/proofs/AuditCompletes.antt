@@ -17,9 +17,9 @@ use Rattle.depot_outside.specs.Told.{Shelves, Loads, Sinks, HasFile}
 use Rattle.depot_traces.proofs.TraceLaws.{trace_text_lawful}
 use Rattle.depot_traces.specs.TraceTexts.{IsTrace, text_of_trace, trace_text}
 use Rattle.depot_traces.specs.declared.trace.Trace.{Trace}
-use Rattle.depot_trace_files.specs.Handing.{AreHanded, IsRefusedFile, has_trace_of, nodes_of}
-use Rattle.depot_trace_files.specs.declared.loading.TraceRefusal.{TraceRefusal}
-use Rattle.depot_trace_files.specs.declared.loading.TraceRefusal.TheVariants.{Missing, IllFormed, Twice, Stranger}
+use Rattle.depot_cli.specs.Handing.{AreHanded, IsRefusedFile, has_trace_of, nodes_of}
+use Rattle.depot_cli.specs.declared.trace_files.TraceRefusal.{TraceRefusal}
+use Rattle.depot_cli.specs.declared.trace_files.TraceRefusal.TheVariants.{Missing, IllFormed, Twice, Stranger}
 use Rattle.depot_cli.specs.declared.status.Status.{Status}
 use Rattle.depot_cli.specs.declared.status.Status.TheVariants.{Done, Memory, Broken}
 use Rattle.depot_cli.specs.Runs.{AreOfRoster, AreTraceFiles, Audits, AuditsTraces, HasShelfFailed, IsRosterText, IsWell, RefusesTrace, status_of_finding}

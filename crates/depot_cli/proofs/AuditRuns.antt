@@ -22,8 +22,8 @@ use Rattle.depot_traces.specs.SeenTraces.{finding_of, trace_of}
 use Rattle.depot_traces.specs.TraceTexts.{IsTrace, trace_text}
 use Rattle.depot_traces.specs.declared.finding.Finding as told
 use Rattle.depot_traces.specs.declared.trace.Trace.{Trace}
-use Rattle.depot_trace_files.specs.Handing.{AreForAudit, HasLoadedTraces, nodes_of}
-use Rattle.depot_trace_files.specs.declared.loading.GatheredTraces.TheVariants as gathered
+use Rattle.depot_cli.specs.Handing.{AreForAudit, HasLoadedTraces, nodes_of}
+use Rattle.depot_cli.specs.declared.trace_files.GatheredTraces.TheVariants as gathered
 use Rattle.depot_cli.specs.declared.outcome.CommandOutcome.{CommandOutcome}
 use Rattle.depot_cli.specs.declared.status.Status.{Status}
 use Rattle.depot_cli.specs.Runs.{AnswersFiles, Audits, IsAudited, IsRosterText, status_of_finding}

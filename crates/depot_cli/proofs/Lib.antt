@@ -1,3 +1,4 @@
+pub mod HandedTraces
 pub mod ThereFiles
 pub mod AuditCompletes
 pub mod FileWords

@@ -19,16 +19,16 @@ use Rattle.depot_node.specs.Starting.{LeavesFile}
 use Rattle.depot_node.specs.declared.start_error.StartError.{StartError}
 use Rattle.depot_node.specs.declared.start_error.StartError.TheVariants as refused
 use Rattle.depot_outside.specs.Told.{Disks, HasFile, HasLoaded, Loads, Shelves, Sinks, WhereTold, Wrote}
-use Rattle.depot_asking.proofs.AskedFaults.{no_fault}
-use Rattle.depot_asking.specs.Bodies.{IsAskedFault}
-use Rattle.depot_server.specs.Answering.{ServesBody}
-use Rattle.depot_server.specs.Hearing.{NoRequestCame}
-use Rattle.depot_server.specs.ServerRuns as runs
-use Rattle.depot_server.specs.Serving.{AreAsking, BreaksOff, faults_risen}
-use Rattle.depot_server.specs.declared.ending.ServeEnding.{ServeEnding}
-use Rattle.depot_server.specs.declared.ending.ServeEnding.TheVariants as cut
-use Rattle.depot_server.specs.declared.ending.ServerEnding.{ServerEnding}
-use Rattle.depot_server.specs.declared.ending.ServerEnding.TheVariants as ending
+use Rattle.depot_service.proofs.AskedFaults.{no_fault}
+use Rattle.depot_service.specs.Bodies.{IsAskedFault}
+use Rattle.depot_session.specs.Answering.{ServesBody}
+use Rattle.depot_session.specs.Hearing.{NoRequestCame}
+use Rattle.depot_session.specs.ServerRuns as runs
+use Rattle.depot_session.specs.Serving.{AreAsking, BreaksOff, faults_risen}
+use Rattle.depot_session.specs.declared.server_ending.ServeEnding.{ServeEnding}
+use Rattle.depot_session.specs.declared.server_ending.ServeEnding.TheVariants as cut
+use Rattle.depot_session.specs.declared.server_ending.ServerEnding.{ServerEnding}
+use Rattle.depot_session.specs.declared.server_ending.ServerEnding.TheVariants as ending
 use Rattle.depot_source.specs.Inputs.{Inputs}
 use Rattle.depot_source.specs.Messages.{IsMessage, IsPartOfMessage, Message, text_of_message}
 use Rattle.depot_session.specs.ScriptTelling.{Asked}

@@ -1,3 +1,4 @@
+pub mod Handing
 pub mod Words
 pub mod Runs
 pub mod Statuses

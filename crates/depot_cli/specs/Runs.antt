@@ -29,19 +29,19 @@ use Rattle.depot_lines.specs.declared.line_fault.LineFault.{LineFault}
 use Rattle.depot_schedule.specs.declared.schedule.Schedule.{Schedule}
 use Rattle.depot_world.specs.Transcript.{transcript_of, world_of}
 use Rattle.depot_laws.specs.WorldFacts.{PairsConvictNoCorrectNode}
-use Rattle.depot_load.specs.Loads.{load_of}
-use Rattle.depot_load.specs.Summaries.{summary_of}
+use Rattle.depot_world.specs.Loads.{load_of}
+use Rattle.depot_world.specs.Summaries.{summary_of}
 use Rattle.depot_session.specs.Sessions.{shelf_line}
 use Rattle.depot_scan.specs.LogScans.{IsScanned, HasOrphan}
 use Rattle.depot_outside.specs.Told.{Shelves, Loads, HasLoaded, HasFile, WhereTold, LacksFile, Sinks, Wrote, WroteFront}
 use Rattle.depot_traces.specs.SeenTraces.{trace_of}
 use Rattle.depot_traces.specs.TraceTexts.{IsTrace}
 use Rattle.depot_traces.specs.declared.trace.Trace.{Trace}
-use Rattle.depot_trace_files.specs.Handing.{AreForAudit, AreHanded, HasLoadedTraces, IsGathered, IsRefusedAt, nodes_of}
-use Rattle.depot_trace_files.specs.declared.loading.GatheredTraces.{GatheredTraces}
-use Rattle.depot_trace_files.specs.declared.loading.GatheredTraces.TheVariants as gathered
-use Rattle.depot_trace_files.specs.declared.loading.TraceRefusal.{TraceRefusal}
-use Rattle.depot_trace_files.specs.declared.loading.TraceRefusal.TheVariants as refusal
+use Rattle.depot_cli.specs.Handing.{AreForAudit, AreHanded, HasLoadedTraces, IsGathered, IsRefusedAt, nodes_of}
+use Rattle.depot_cli.specs.declared.trace_files.GatheredTraces.{GatheredTraces}
+use Rattle.depot_cli.specs.declared.trace_files.GatheredTraces.TheVariants as gathered
+use Rattle.depot_cli.specs.declared.trace_files.TraceRefusal.{TraceRefusal}
+use Rattle.depot_cli.specs.declared.trace_files.TraceRefusal.TheVariants as refusal
 use Rattle.depot_cli.specs.declared.invocation.Invocation.{Invocation}
 use Rattle.depot_cli.specs.declared.invocation.Invocation.TheVariants as asked
 use Rattle.depot_cli.specs.declared.outcome.CommandOutcome.{CommandOutcome}

@@ -12,11 +12,11 @@ use Rattle.depot_outside.specs.declared.disk.Disk as disk_of
 use Rattle.depot_outside.specs.declared.shelf.Shelf as shelf_of
 use Rattle.depot_outside.specs.declared.sink.Sink as sink_of
 use Rattle.depot_outside.specs.Told.{Disks, HasFile, HasLoaded, LacksFile, Loads, Shelves, Sinks, WhereTold, Wrote, disks, loads, shelves, sinks}
-use Rattle.depot_server.specs.Answering.{ServesBody, serves_at}
-use Rattle.depot_server.specs.ServerRuns.{AnswersInput, EndsByInput, IsServerRefused, IsServerStarted}
-use Rattle.depot_server.specs.Serving.{AreAsking}
-use Rattle.depot_server.specs.declared.ending.ServerEnding.{ServerEnding}
-use Rattle.depot_server.specs.declared.ending.ServerEnding.TheVariants as ending
+use Rattle.depot_session.specs.Answering.{ServesBody, serves_at}
+use Rattle.depot_session.specs.ServerRuns.{AnswersInput, EndsByInput, IsServerRefused, IsServerStarted}
+use Rattle.depot_session.specs.Serving.{AreAsking}
+use Rattle.depot_session.specs.declared.server_ending.ServerEnding.{ServerEnding}
+use Rattle.depot_session.specs.declared.server_ending.ServerEnding.TheVariants as ending
 use Rattle.depot_session.specs.ScriptTelling.{Asked, asked as calls_on}
 use Rattle.depot_session.specs.SessionRuns.{KeepsFile, Settles}
 use Rattle.depot_session.specs.Sessions.{shelf_line}

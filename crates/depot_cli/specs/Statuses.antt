@@ -1,7 +1,7 @@
 -- The exit status of each way in which a run ends, and how the runs of a script and of a server end as a status.
 use Rattle.std.specs.Prelude.{ℕ}
-use Rattle.depot_server.specs.declared.ending.ServerEnding.{ServerEnding}
-use Rattle.depot_server.specs.declared.ending.ServerEnding.TheVariants as served
+use Rattle.depot_session.specs.declared.server_ending.ServerEnding.{ServerEnding}
+use Rattle.depot_session.specs.declared.server_ending.ServerEnding.TheVariants as served
 use Rattle.depot_session.specs.declared.ending.ScriptEnding.{ScriptEnding}
 use Rattle.depot_session.specs.declared.ending.ScriptEnding.TheVariants as ending
 use Rattle.depot_cli.specs.declared.status.Status.{Status}

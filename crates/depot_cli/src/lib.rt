@@ -1,3 +1,14 @@
+//! The commands, over any shelf, disk and sink (`depot`); the trace files of an audit, loaded one by one.
+//!
+//! # Trace files
+//!
+//! The trace files of an audit: loads them one by one, and checks each against the roster and the traces before it.
+//!
+//! `gather` returns the traces of all files, each of another node of the roster, or names the first file that can't be
+//! had or is no such trace (`specs/Handing.antt`). No file is loaded after that one.
+//!
+//! # Cli
+//!
 //! The commands of the program: [`depot`] reads words, does what they ask for over a shelf, a disk and a sink, and
 //! returns how the run ended.
 //!
@@ -27,9 +38,11 @@ mod scan_command;
 mod serve_command;
 mod status;
 mod top;
+mod trace_files;
 mod trace_names;
 mod word;
 
 pub use status::Status;
 pub use top::depot;
+pub use trace_files::{GatheredTraces, TraceRefusal, gather};
 pub use word::Word;

@@ -1,16 +1,16 @@
 //! `load NUMBER`: sums up the replay of a long schedule, its nodes over disks in memory.
 ghost use Rattle.std.specs.Prelude.{◌≡◌, IfOk};
 ghost use Rattle.depot_cli.specs.Runs.{PrintsLoad};
-ghost use Rattle.depot_load.specs.Loads.{load_of};
-ghost use Rattle.depot_load.specs.Summaries.{summary_of};
+ghost use Rattle.depot_world.specs.Loads.{load_of};
+ghost use Rattle.depot_world.specs.Summaries.{summary_of};
 ghost use Rattle.depot_world.specs.Transcript.{transcript_of};
 
 use crate::outcome::CommandOutcome;
 use crate::status::Status;
 use depot_base::{Bytes, Items, Memory};
-use depot_load::{loads_are_schedules, make_load, summary};
 use depot_outside::{MemSink, Sink};
 use depot_replay::{ReplayError, replay};
+use depot_world::{loads_are_schedules, make_load, summary};
 use std::alloc::Global;
 
 /// The line that sums up the replay of the schedule that a number makes.

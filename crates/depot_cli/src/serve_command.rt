@@ -12,7 +12,7 @@ use crate::outcome::{CommandOutcome, finish};
 use crate::status::Status;
 use depot_base::Memory;
 use depot_outside::{Disk, Shelf, Sink};
-use depot_server::run_server;
+use depot_session::run_server;
 use depot_sign::Roster;
 use depot_source::Source;
 use depot_winter::{WinterScheme, WinterSigner};

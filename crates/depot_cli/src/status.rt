@@ -2,8 +2,7 @@
 ghost use Rattle.std.specs.Prelude.{◌≡◌};
 ghost use Rattle.depot_cli.specs.Statuses.{number_of_status, status_of, status_of_server};
 
-use depot_server::ServerEnding;
-use depot_session::ScriptEnding;
+use depot_session::{ScriptEnding, ServerEnding};
 
 /// How a run ends.
 #[derive(Clone, Copy, Debug, PartialEq, Eq)]

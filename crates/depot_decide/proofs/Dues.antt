@@ -24,7 +24,7 @@ use Rattle.depot_model.specs.Judgement.{IsContrary}
 use Rattle.depot_model.proofs.BodyLaws.{body_is_text}
 use Rattle.depot_model.proofs.ContradictionLaws.{contradicts_comm}
 use Rattle.depot_laws.proofs.Contrary.{IsOpponent, opponent_is, named_opponent_is, of_proof_of}
-use Rattle.depot_fork.specs.declared.Found.{Found}
+use Rattle.depot_kept.specs.declared.seen_statements.Found.{Found}
 use Rattle.depot_accept.specs.CheckResults.{AreDue, IsNew, IsChecked}
 use Rattle.depot_accept.specs.StateView.{View, IsStateOf}
 use Rattle.depot_accept.specs.declared.answer.CheckError.{CheckError}

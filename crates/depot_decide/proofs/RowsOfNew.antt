@@ -14,7 +14,7 @@ use Rattle.depot_model.specs.Items.{AreItemsOf}
 use Rattle.depot_model.specs.Journal.{accepted}
 use Rattle.depot_model.specs.Lists.{IsIn}
 use Rattle.depot_model.specs.Order.{parents}
-use Rattle.depot_fork.specs.declared.Found.{Found}
+use Rattle.depot_kept.specs.declared.seen_statements.Found.{Found}
 use Rattle.depot_graph.specs.UpdateRows.{IsJoinedRow}
 use Rattle.depot_accept.specs.CheckResults.{IsNew, IsChecked}
 use Rattle.depot_accept.specs.StateView.{View, IsStateOf}

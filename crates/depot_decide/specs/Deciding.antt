@@ -26,7 +26,7 @@ use Rattle.depot_model.specs.Room.{full_by}
 use Rattle.depot_model.specs.Roster.{Verifies}
 use Rattle.depot_model.specs.Taking.{OfGiven}
 use Rattle.depot_model.specs.Texts.{signed, proof}
-use Rattle.depot_fork.specs.declared.Found.{Found}
+use Rattle.depot_kept.specs.declared.seen_statements.Found.{Found}
 use Rattle.depot_graph.specs.UpdateRows.{IsJoinedRow}
 use Rattle.depot_accept.specs.CheckResults.{IsChecked, IsNew}
 use Rattle.depot_accept.specs.StateView.{View, IsStateOf, setting}

@@ -15,3 +15,11 @@ mod SeveralKeysWorld
 pub mod SettledWorld
 pub mod TrimmedWorld
 pub mod ReadersShow
+mod HostReads
+mod ReadsTold
+mod SessionReads
+mod ReadsAndVerdicts
+mod SessionExamples
+mod ValueOrderExamples
+mod ShelfExamples
+mod DamageExamples

@@ -1,2 +1,4 @@
 pub mod Met
 pub mod LastPoint
+pub mod Asked
+pub mod Commanded

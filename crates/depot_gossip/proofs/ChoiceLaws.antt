@@ -34,7 +34,7 @@ use Rattle.depot_laws.proofs.HeldValues.{held_is_brought, value_with_is}
 use Rattle.depot_laws.proofs.WantedValues.{value_fits}
 use Rattle.depot_laws.proofs.Candidates.{signed_fits}
 use Rattle.depot_base.proofs.GeneralLaws.{get_last, flat_push, or_swap, take_next}
-use Rattle.depot_frames.specs.declared.sending.Sending.{Sending}
+use Rattle.depot_streams.specs.declared.sending.Sending.{Sending}
 use Rattle.depot_gossip.specs.Choosing.{IsCutAt, HasUpdateAt, records_at, foreign_ids, Finds, AreAlike, AddsHashes, value_parcels}
 use Rattle.depot_gossip.proofs.FitLaws.{cut_on}
 use Rattle.depot_gossip.proofs.ValueLaws.{behind_alike}

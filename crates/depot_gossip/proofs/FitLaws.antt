@@ -15,9 +15,9 @@ use Rattle.depot_model.specs.Journal.{update_in}
 use Rattle.depot_model.specs.Frames.{Frame, text_of_frame}
 use Rattle.depot_model.specs.Bundle.{Signs, Parcel, frames_of, bytes_of_frames, statement_frame, value_frame, fitting, parcels, sent_for, sent_foreign}
 use Rattle.depot_base.proofs.GeneralLaws.{flat_push}
-use Rattle.depot_frames.specs.declared.sending.Sending.{Sending}
-use Rattle.depot_frames.specs.Sendings.{Holds, frames_under, parcel_frames, IsShort, HasNoRoom, Adds}
-use Rattle.depot_frames.proofs.FrameLengths.{frames_long, bytes_both}
+use Rattle.depot_streams.specs.declared.sending.Sending.{Sending}
+use Rattle.depot_streams.specs.Sendings.{Holds, frames_under, parcel_frames, IsShort, HasNoRoom, Adds}
+use Rattle.depot_streams.proofs.FrameLengths.{frames_long, bytes_both}
 use Rattle.depot_gossip.specs.Choosing.{IsCutAt, Carries, AddsTo, HasAddedFound, AddsFound}
 
 -- ---- bytes and frames

@@ -28,7 +28,7 @@ use Rattle.depot_gossip.specs.declared.front.FrontFrames.{FrontFrames}
 use Rattle.depot_gossip.specs.Fronts.{AreFrames, IsFront}
 use Rattle.depot_gossip.specs.declared.bundle_stream.Bundled.{Bundled}
 use Rattle.depot_gossip.specs.BundleStreams.{IsStream, IsJoined}
-use Rattle.depot_frames.specs.declared.sending.Sending.{Sending}
+use Rattle.depot_streams.specs.declared.sending.Sending.{Sending}
 
 -- ---- the text of a conviction's record
 

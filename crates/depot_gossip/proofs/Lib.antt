@@ -10,3 +10,12 @@ pub mod ApartLaws
 pub mod StreamLaws
 pub mod ToldLaws
 pub mod VoucherGrowth
+pub mod BoundLaws
+pub mod BoundedChoices
+pub mod ChosenLaws
+pub mod FarPlaces
+pub mod FarTexts
+pub mod LeafPuts
+pub mod SendTextLaws
+pub mod SentCalls
+pub mod WithinLaws

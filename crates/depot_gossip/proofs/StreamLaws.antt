@@ -16,13 +16,13 @@ use Rattle.depot_model.proofs.JournalCallLaws.{never_stopped}
 use Rattle.depot_model.specs.Vouching.{Vouches, new_vouchers, limit_of_vouchers}
 use Rattle.depot_model.specs.Bundle.{Signs, Parcel, frames_of, proof_frame, end_frame, proofs_for, vouchers_for, sent_foreign, sent_for, unvouched, with_vouchers, Bundle, BundleAnswer, bundled_within, bundle_of, bundle_frames, bundle_answer, voucher_frame}
 use Rattle.depot_base.proofs.GeneralLaws.{flat_push}
-use Rattle.depot_frames.specs.declared.sending.Sending.{Sending}
+use Rattle.depot_streams.specs.declared.sending.Sending.{Sending}
 use Rattle.depot_gossip.specs.declared.bundle_stream.Bundled.{Bundled}
 use Rattle.depot_gossip.specs.declared.preparing.Prepared.{Prepared}
 use Rattle.depot_gossip.specs.declared.bundle_error.BundleError.{BundleError}
 use Rattle.depot_gossip.specs.declared.bundle_error.BundleError.TheVariants as error
 use Rattle.depot_gossip.specs.Errors.{from_vouching}
-use Rattle.depot_frames.specs.Sendings.{Holds}
+use Rattle.depot_streams.specs.Sendings.{Holds}
 use Rattle.depot_gossip.specs.BundleStreams.{IsStream}
 use Rattle.depot_gossip.specs.Preparing.{IsPrepared, IsReady, Prepares, answer_with, bundle_with}
 use Rattle.depot_gossip.specs.Bundling.{Bundles, BundlesBy}

@@ -31,7 +31,7 @@ use Rattle.depot_model.proofs.Members.{among-append}
 use Rattle.depot_laws.proofs.Candidates.{behind_is}
 use Rattle.depot_laws.proofs.HeldValues.{held_as_is}
 use Rattle.depot_laws.proofs.WantedValues.{value_fits}
-use Rattle.depot_frames.specs.Sendings.{ArePayloads, payloads_of}
+use Rattle.depot_streams.specs.Sendings.{ArePayloads, payloads_of}
 use Rattle.depot_gossip.specs.Choosing.{AreAlike, Finds}
 
 -- ---- the values after names

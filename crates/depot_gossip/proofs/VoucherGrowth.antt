@@ -22,8 +22,8 @@ use Rattle.depot_gossip.specs.declared.preparing.Prepared.{Prepared}
 use Rattle.depot_gossip.specs.Errors.{from_vouching}
 use Rattle.depot_gossip.specs.Bundling.{IsAnswerCall, journaled_for}
 use Rattle.depot_gossip.specs.Preparing.{IsReady, bundle_with}
-use Rattle.depot_feeds.specs.Lasting.{LastsIn}
-use Rattle.depot_feeds.proofs.LastingStreams.{all_of, cut_of, none_in, to_append, IsPart}
+use Rattle.depot_streams.specs.Lasting.{LastsIn}
+use Rattle.depot_streams.proofs.LastingStreams.{all_of, cut_of, none_in, to_append, IsPart}
 use Rattle.depot_laws.proofs.TrueReceipts.{silent_is_true, vouchers_put_none}
 use Rattle.depot_gossip.proofs.StreamLaws.{same_fault}
 use Rattle.depot_laws.proofs.NewVouchers.{new_are_lawful}

@@ -7,7 +7,7 @@ use Rattle.depot_model.specs.Limits.{spent, full, IsCutShort}
 use Rattle.depot_model.specs.Vouching.{records_of}
 use Rattle.depot_model.specs.Bundle.{Parcel, Signs, Bundle, BundleAnswer, bundled, bad_hello, other_roster, limited, bytes_of_bundle, with_vouchers, bundle_answer}
 use Rattle.depot_model.specs.declared.node_state.NodeState.{Ghosts}
-use Rattle.depot_feeds.specs.Lasting.{IsLawfulCall}
+use Rattle.depot_streams.specs.Lasting.{IsLawfulCall}
 use Rattle.depot_gossip.specs.Preparing.{IsReady}
 use Rattle.depot_gossip.specs.declared.preparing.Prepared.{Prepared}
 use Rattle.depot_gossip.specs.declared.bundle_stream.Bundled.{Bundled}

@@ -12,8 +12,8 @@ use Rattle.depot_model.specs.Texts.{id_of_update}
 use Rattle.depot_model.specs.Journal.{accepted_by}
 use Rattle.depot_model.specs.Frames.{text_of_frame}
 use Rattle.depot_model.specs.Bundle.{Parcel, Signs, candidate_parcel, candidate_parcels, hashes_of, parcels, sent_for, values_behind, wanted_parcel}
-use Rattle.depot_frames.specs.declared.sending.Sending.{Sending}
-use Rattle.depot_frames.specs.Sendings.{DoFit, Holds, parcel_frames, IsShort, HasNoRoom}
+use Rattle.depot_streams.specs.declared.sending.Sending.{Sending}
+use Rattle.depot_streams.specs.Sendings.{DoFit, Holds, parcel_frames, IsShort, HasNoRoom}
 
 -- ---- parcels that are chosen
 

@@ -5,3 +5,11 @@ pub mod Fronts
 pub mod Preparing
 pub mod Bundling
 pub mod OwnStatements
+pub mod BoundFacts
+pub mod Bounding
+pub mod Choices
+pub mod FarHellos
+pub mod LeafPlaces
+pub mod SendCalls
+pub mod SendTexts
+pub mod Within

@@ -12,7 +12,7 @@ use Rattle.depot_model.specs.Roster.{has_node}
 use Rattle.depot_model.specs.Texts.{hash_of_roster}
 use Rattle.depot_model.specs.Vouching.{limit_of_vouchers, new_vouchers}
 use Rattle.depot_model.specs.Bundle.{Bundle, BundleAnswer, Parcel, Signs, bad_hello, other_roster, bundle_answer, bundle_frames, bundled_within, bundle_of, counts_of, sent_for, unvouched, with_vouchers}
-use Rattle.depot_frames.specs.Sendings.{Holds}
+use Rattle.depot_streams.specs.Sendings.{Holds}
 use Rattle.depot_gossip.specs.Choosing.{leaves_out}
 use Rattle.depot_gossip.specs.declared.preparing.Prepared.{Prepared}
 use Rattle.depot_gossip.specs.declared.bundle_error.BundleError.{BundleError}

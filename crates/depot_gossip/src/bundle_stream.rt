@@ -5,8 +5,8 @@ ghost use Rattle.depot_gossip.specs.BundleStreams.{IsJoined, IsStream};
 
 use crate::front::BundleFront;
 use depot_base::{Bytes, FrameTag, Memory};
-use depot_frames::{Sending, put_frame};
 use depot_model::{Counts, Hello, Peer};
+use depot_streams::{Sending, put_frame};
 use std::alloc::Global;
 
 /// A bundle: the stream that a node sends for a hello.

@@ -3,7 +3,7 @@ ghost use Rattle.std.specs.Prelude.{◌≡◌, ◌∷◌, [], false, IfOk, optio
 ghost use Rattle.depot_base.specs.Writes.{values_in};
 ghost use Rattle.depot_model.specs.Journal.{held_as};
 ghost use Rattle.depot_model.specs.Texts.{id_of_update};
-ghost use Rattle.depot_frames.specs.Sendings.{payloads_of};
+ghost use Rattle.depot_streams.specs.Sendings.{payloads_of};
 ghost use Rattle.depot_gossip.specs.Choosing.{Finds, foreign_ids};
 
 use crate::hashes::{Hashes, add_hash, has_hash};

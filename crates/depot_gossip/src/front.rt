@@ -10,8 +10,8 @@ ghost use Rattle.depot_model.specs.Texts.{text_of_proof};
 ghost use Rattle.depot_gossip.specs.Fronts.{AddsFrame, AreFrames, IsFront};
 
 use depot_base::{Bytes, FrameTag, Ids, Memory};
-use depot_frames::put_frame;
 use depot_model::{Hello, Peer};
+use depot_streams::put_frame;
 use std::alloc::Global;
 
 /// The frames before the updates and values of a bundle.

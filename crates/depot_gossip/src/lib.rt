@@ -1,3 +1,8 @@
+//! Hellos, and bundles whose vouchers are journaled before a byte goes out; bundles within bounds and hellos that go
+//! further back; what a node is asked to send, as bytes, by `Peer`.
+//!
+//! # Gossip
+//!
 //! Hellos and bundles: all that nodes send one another.
 //!
 //! A node's hello says what it has; making one changes nothing (`own_hello`). A bundle is the stream that a node sends
@@ -12,33 +17,51 @@
 //! - `front` then makes the leading frames, proofs and own vouchers, from the journal, and `bundle_stream` the whole
 //!   stream. `hashes` has the sets of ids that they use.
 //!
-//! The texts of hellos and frames are those of `depot_frames`, and a `Feed` of `depot_feeds` takes a stream in pieces;
+//! The texts of hellos and frames are those of `depot_streams`, and a `Feed` of `depot_streams` takes a stream in pieces;
 //! what a sender and receiver needs of these crates is reexported here. All of it uses the trait `Peer` alone.
+//!
+//! # Bounds
+//!
+//! Bundles with bounds, and hellos that name more ids.
 #![tactic(auto)]
 
+mod bound_laws;
+mod bounded_bundle;
+mod bounds;
 mod bundle_error;
 mod bundle_stream;
 mod candidate;
+mod choice;
 mod choose;
+mod choosing;
+mod far;
 mod front;
 mod gossip_laws;
 mod hashes;
 mod own_bundle;
 mod own_hello;
 mod preparing;
+mod send_request;
 
+pub use bound_laws::{
+    bounded_bundles_are_fronts, bounds_are_kept, far_hellos_have_a_text, named_updates_are_spared,
+    no_bounds_law,
+};
+pub use bounded_bundle::bounded;
+pub use bounds::Bounds;
 pub use bundle_error::BundleError;
 pub use bundle_stream::{Bundled, bundle_for};
 pub use choose::{add_candidate, add_wanted_value, ids_of};
 pub use depot_base::DecodeError;
-pub use depot_feeds::{Feed, FeedError, pieces_are_one, streams_tell_all};
-pub use depot_frames::{
-    FrameAt, decode_hello, encode_hello, frame_at, hellos_are_prefix_free,
-    hellos_are_read_in_one_way, put_frame,
-};
 pub use depot_model::{Counts, Ending, Refusal, Refusals, Report};
+pub use depot_streams::{
+    Feed, FeedError, FrameAt, decode_hello, encode_hello, frame_at, hellos_are_prefix_free,
+    hellos_are_read_in_one_way, pieces_are_one, put_frame, streams_tell_all,
+};
+pub use far::far_hello;
 pub use gossip_laws::bundles_tell_own_statements;
 pub use hashes::Hashes;
 pub use own_bundle::{bundle, send_prepared};
 pub use own_hello::{hello, node_hello};
 pub use preparing::{Prepared, heard, prepare, unvouched_of};
+pub use send_request::{SendRequest, decode_sending, send, sendings_are_read_in_one_way};

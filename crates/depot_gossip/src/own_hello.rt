@@ -3,8 +3,8 @@ ghost use Rattle.std.specs.Prelude.{◌≡◌, false, IfOk};
 ghost use Rattle.depot_model.specs.Hello.{IsHello, text_of_hello, hello_of};
 
 use depot_base::{Bytes, Memory};
-use depot_frames::encode_hello;
 use depot_model::{Hello, Peer};
+use depot_streams::encode_hello;
 use std::alloc::Global;
 
 /// The node's hello: its number, whom it convicted, all leaves of what it accepted, and the first 1,024 values that it

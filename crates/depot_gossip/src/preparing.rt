@@ -11,8 +11,8 @@ ghost use Rattle.depot_gossip.specs.Preparing.{ReadsHello, Prepares};
 use crate::bundle_error::BundleError;
 use crate::choose::chosen;
 use depot_base::{Hash32, Ids, Memory};
-use depot_frames::{Sending, decode_hello};
 use depot_model::{Hello, Peer};
+use depot_streams::{Sending, decode_hello};
 use std::alloc::Global;
 
 /// What is chosen for a hello before any voucher is made.

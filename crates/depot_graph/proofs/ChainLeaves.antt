@@ -16,8 +16,8 @@ use Rattle.depot_model.proofs.Elements.{in_at, both_at, of_place, at_its_place}
 use Rattle.depot_model.proofs.Members.{in_left, in_pushed, in_last, any_from, any_to, among_from, among_to, chosen_cases, chosen_front, chosen_behind, from_filter, in_filter}
 use Rattle.depot_model.proofs.Orders.{first_names_none, causal_behind}
 use Rattle.depot_model.proofs.RisingLists.{HaveSame}
-use Rattle.depot_virtual.specs.Spots.{IsForest, IsTip, IsSpotAt, spots, chain_count}
-use Rattle.depot_virtual.proofs.Placing.{all_placed, back_by, tip_is_highest}
+use Rattle.depot_order.specs.Spots.{IsForest, IsTip, IsSpotAt, spots, chain_count}
+use Rattle.depot_order.proofs.Placing.{all_placed, back_by, tip_is_highest}
 use Rattle.depot_graph.specs.Kept.{prev_places}
 use Rattle.depot_graph.specs.UpdateRows.{IsJoinedRow}
 use Rattle.depot_graph.specs.OrderLaws.{one_place}

@@ -12,11 +12,11 @@ use Rattle.depot_model.specs.Items.{PrecedesAt}
 use Rattle.depot_model.proofs.Elements.{in_at}
 use Rattle.depot_model.proofs.Members.{in_pushed}
 use Rattle.depot_model.proofs.Orders.{causal_front, parent_is_there, parents_of_last, leads_trans}
-use Rattle.depot_virtual.specs.declared.Spot.{Spot}
-use Rattle.depot_virtual.proofs.Placing.{spot_at}
-use Rattle.depot_virtual.specs.Spots.{chains_of, spot_count}
-use Rattle.depot_clocks.specs.ChainItems.{ChainItem, LeadsTo, IsUpTo, IsChainItemAt, chain_length, number_of_chains, ItemPrecedes}
-use Rattle.depot_clocks.proofs.ItemPaths.{up_to_trans}
+use Rattle.depot_order.specs.declared.chains.Spot.{Spot}
+use Rattle.depot_order.proofs.Placing.{spot_at}
+use Rattle.depot_order.specs.Spots.{chains_of, spot_count}
+use Rattle.depot_order.specs.ChainItems.{ChainItem, LeadsTo, IsUpTo, IsChainItemAt, chain_length, number_of_chains, ItemPrecedes}
+use Rattle.depot_order.proofs.ItemPaths.{up_to_trans}
 use Rattle.depot_base.proofs.GeneralLaws.{from_pushed, at_place}
 use Rattle.depot_graph.proofs.Front.{apart}
 use Rattle.depot_graph.specs.OrderLaws.{at_both}

@@ -13,13 +13,13 @@ use Rattle.depot_model.specs.Texts.{id_of_update}
 use Rattle.depot_model.specs.Order.{parents, IsCausal}
 use Rattle.depot_model.specs.Items.{place_of_id, place_of_prev, PrecedesAt}
 use Rattle.depot_model.proofs.Orders.{causal_front}
-use Rattle.depot_virtual.specs.declared.Spot.{Spot}
-use Rattle.depot_virtual.specs.Spots.{next_spot, spots, spots_behind, chains_of}
-use Rattle.depot_virtual.proofs.Placing.{spots_next}
-use Rattle.depot_virtual.proofs.ChainLengths.{next_place as spot_place, next_chain_low, next_behind}
-use Rattle.depot_clocks.specs.ChainItems.{ChainItem, IsLinked, chain_length, number_of_chains, ItemPrecedes}
+use Rattle.depot_order.specs.declared.chains.Spot.{Spot}
+use Rattle.depot_order.specs.Spots.{next_spot, spots, spots_behind, chains_of}
+use Rattle.depot_order.proofs.Placing.{spots_next}
+use Rattle.depot_order.proofs.ChainLengths.{next_place as spot_place, next_chain_low, next_behind}
+use Rattle.depot_order.specs.ChainItems.{ChainItem, IsLinked, chain_length, number_of_chains, ItemPrecedes}
 use Rattle.depot_base.proofs.MembershipLaws.{from_contains, to_contains}
-use Rattle.depot_index.proofs.ItemLists.{all_of_in}
+use Rattle.depot_order.proofs.ItemLists.{all_of_in}
 use Rattle.depot_graph.specs.Kept.{prev_places}
 use Rattle.depot_graph.specs.Clocked.{parent_places, clock_item, clock_items_behind, clock_items}
 use Rattle.depot_graph.proofs.ItemPlaces.{has_place, own_place}

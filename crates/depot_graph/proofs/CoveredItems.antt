@@ -18,8 +18,8 @@ use Rattle.depot_model.specs.Texts.{id_of_update}
 use Rattle.depot_model.proofs.Elements.{in_at}
 use Rattle.depot_model.proofs.Members.{any_from, any_to, among_from, among_to}
 use Rattle.depot_model.proofs.Pasts.{past_of_listed}
-use Rattle.depot_virtual.specs.Spots.{spots, IsSpotAt, chain_count}
-use Rattle.depot_virtual.proofs.Placing.{all_placed}
+use Rattle.depot_order.specs.Spots.{spots, IsSpotAt, chain_count}
+use Rattle.depot_order.proofs.Placing.{all_placed}
 use Rattle.depot_graph.specs.Kept.{prev_places}
 use Rattle.depot_graph.specs.UpdateRows.{IsUpToAt, CountsAllAt, IsJoinedRow}
 use Rattle.depot_graph.specs.OrderLaws.{at_both, one_place, precedes_on}

@@ -10,7 +10,7 @@ use Rattle.depot_model.specs.Order.{RisesStrictly, listed, AreLatestIn, IsCausal
 use Rattle.depot_model.specs.Items.{PrecedesAt, updates_at}
 use Rattle.depot_model.proofs.Elements.{in_at, of_place, at_its_place}
 use Rattle.depot_base.specs.Pairs.{AllPairsByRecursion}
-use Rattle.depot_index.specs.LatestItems.{AreLatestOf}
+use Rattle.depot_order.specs.LatestItems.{AreLatestOf}
 use Rattle.depot_base.proofs.MembershipLaws.{from_contains, to_contains}
 use Rattle.depot_graph.specs.Listing.{ListedAt}
 use Rattle.depot_graph.specs.OrderLaws.{at_both, listed_both, one_place}

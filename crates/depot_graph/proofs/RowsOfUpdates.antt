@@ -5,11 +5,11 @@ use Rattle.depot_base.specs.declared.update.Update.{Update}
 use Rattle.depot_model.specs.Lists.{IsIn}
 use Rattle.depot_model.specs.Order.{IsCausal, Precedes}
 use Rattle.depot_model.proofs.Elements.{both_at}
-use Rattle.depot_virtual.specs.declared.Spot.{Spot}
-use Rattle.depot_virtual.specs.Spots.{spots, chains_of, IsSpotAt as SpotIsAt}
-use Rattle.depot_virtual.proofs.Placing.{all_placed}
-use Rattle.depot_clocks.specs.ChainItems.{ChainItem, IsUpTo, IsCount, IsOfPast, IsTrueOf, CountsAll, IsWithin, number_of_chains, JoinsUpTo, IsRowJoined}
-use Rattle.depot_clocks.proofs.ItemPaths.{Standing, standing}
+use Rattle.depot_order.specs.declared.chains.Spot.{Spot}
+use Rattle.depot_order.specs.Spots.{spots, chains_of, IsSpotAt as SpotIsAt}
+use Rattle.depot_order.proofs.Placing.{all_placed}
+use Rattle.depot_order.specs.ChainItems.{ChainItem, IsUpTo, IsCount, IsOfPast, IsTrueOf, CountsAll, IsWithin, number_of_chains, JoinsUpTo, IsRowJoined}
+use Rattle.depot_order.proofs.ItemPaths.{Standing, standing}
 use Rattle.depot_graph.specs.Clocked.{clock_items}
 use Rattle.depot_graph.specs.Kept.{prev_places}
 use Rattle.depot_graph.specs.UpdateRows.{IsUpToAt, IsOfPastAt, IsCountAt, CountsAllAt, IsWithinAt, IsJoinedRow}

@@ -2,7 +2,7 @@
 use Rattle.std.specs.Prelude.{◌≡◌, List, [], ◌∷◌, ◌++◌}
 use Rattle.depot_base.specs.declared.update.Update.{Update}
 use Rattle.depot_model.specs.Items.{place_of_prev}
-use Rattle.depot_virtual.specs.Spots.{next_spot, spots}
+use Rattle.depot_order.specs.Spots.{next_spot, spots}
 use Rattle.depot_graph.specs.declared.addition.Addition.{Addition}
 use Rattle.depot_graph.specs.Clocked.{parent_places}
 use Rattle.depot_graph.specs.Kept.{child_lists, leaf_places, prev_places}

@@ -4,8 +4,8 @@ use Rattle.std.specs.Coded.{Coded, Coded-set, code_by, coded×, coded_ℕ, coded
 use Rattle.depot_base.specs.declared.update.Update.{Update}
 use Rattle.depot_model.specs.Order.{parents}
 use Rattle.depot_model.specs.Items.{place_of_prev, places_of}
-use Rattle.depot_virtual.specs.Spots.{next_spot, spots}
-use Rattle.depot_clocks.specs.ChainItems.{ChainItem}
+use Rattle.depot_order.specs.Spots.{next_spot, spots}
+use Rattle.depot_order.specs.ChainItems.{ChainItem}
 use Rattle.depot_graph.specs.Kept.{prev_places}
 
 -- the places of the parents of u

@@ -3,7 +3,7 @@ use Rattle.std.specs.Prelude.{◌≡◌, ◌<◌, ◌≤◌, ◌⊎◌, ◌↔�
 use Rattle.depot_base.specs.declared.update.Update.{Update}
 use Rattle.depot_model.specs.Lists.{IsIn}
 use Rattle.depot_model.specs.Items.{PrecedesAt, children_of}
-use Rattle.depot_virtual.specs.Spots.{IsSpotAt}
+use Rattle.depot_order.specs.Spots.{IsSpotAt}
 use Rattle.depot_graph.specs.Kept.{prev_places}
 
 -- the item is one of these, or precedes one of them

@@ -3,7 +3,7 @@ use Rattle.std.specs.Prelude.{◌≡◌, ◌<◌, ◌≤◌, ◌⊎◌, ℕ, Lis
 use Rattle.depot_base.specs.declared.update.Update.{Update}
 use Rattle.depot_model.specs.Items.{PrecedesAt}
 use Rattle.depot_model.specs.Lists.{IsIn}
-use Rattle.depot_virtual.specs.Spots.{spots, IsSpotAt, spot_count, chain_count}
+use Rattle.depot_order.specs.Spots.{spots, IsSpotAt, spot_count, chain_count}
 use Rattle.depot_graph.specs.Kept.{prev_places}
 
 -- the item a is the other item or precedes it

@@ -1,6 +1,6 @@
 //! What an update adds to a graph.
 
-use depot_virtual::Spot;
+use depot_order::Spot;
 
 /// What an update adds, computed before the first write.
 #[derive(Drop)]

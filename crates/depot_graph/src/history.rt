@@ -5,7 +5,7 @@ ghost use Rattle.std.specs.List.{AllByRecursion};
 ghost use Rattle.depot_model.specs.History.{by_id, history_hash as hash_of_history};
 ghost use Rattle.depot_model.specs.Items.{at};
 ghost use Rattle.depot_model.specs.Lists.{IsIn};
-ghost use Rattle.depot_virtual.specs.Spots.{chain_count};
+ghost use Rattle.depot_order.specs.Spots.{chain_count};
 ghost use Rattle.depot_graph.specs.Closure.{closure_of};
 ghost use Rattle.depot_graph.specs.Kept.{prev_places};
 ghost use Rattle.depot_graph.specs.PastLeaves.{leaf_in, updates_at_places, AreNextEntries, IsUnseen};

@@ -11,7 +11,7 @@ ghost use Rattle.depot_graph.specs.Listing.{ListedAt};
 
 use crate::item::item_at;
 use depot_base::{Hash32, Precedes, Steps, Update};
-use depot_clocks::Clocks;
+use depot_order::Clocks;
 use indexmap::IndexMap;
 use std::cmp::Ordering;
 use std::sync::ledger::Ledger;

@@ -15,10 +15,9 @@ use crate::store::Store;
 use crate::take::{take_proof, take_statement, take_value};
 use depot_base::{Changes, Hash32, Key, NamedValue, NodeId, Update, Value};
 use depot_graph::Graph;
-use depot_local::LocalNode;
 use depot_model::{NodeState, Past, PutDone, PutError, Replica, Scheme, Signer, TakeError, Taken};
 use depot_outside::Disk;
-use depot_queries::held_as;
+use depot_queries::{LocalNode, held_as};
 use depot_readings::JournalCounts;
 use std::alloc::Global;
 

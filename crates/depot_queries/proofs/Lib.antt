@@ -1,3 +1,4 @@
+pub mod ReadLaws
 mod OwnBodies
 pub mod StatementTexts
 mod BesidePlaces
@@ -6,3 +7,11 @@ mod LeafInserts
 mod RecordItems
 mod FrontOrder
 mod HeldNames
+pub mod BookLaws
+pub mod DueReceipts
+pub mod GivenAnswers
+pub mod GivenLaws
+mod GivingExamples
+pub mod HolderLaws
+pub mod KeyLaws
+pub mod RisingPuts

@@ -13,9 +13,9 @@ use Rattle.depot_model.specs.Items.{place_of_prev, places_of}
 use Rattle.depot_model.specs.Lists.{IsIn}
 use Rattle.depot_model.specs.Order.{IsCausal}
 use Rattle.depot_model.proofs.Members.{all_push, in_last, in_left}
-use Rattle.depot_virtual.specs.declared.Spot.{Spot}
-use Rattle.depot_virtual.specs.Spots.{IsSpotAt, IsTip, spots}
-use Rattle.depot_virtual.proofs.Placing.{all_placed, tip_is_highest}
+use Rattle.depot_order.specs.declared.chains.Spot.{Spot}
+use Rattle.depot_order.specs.Spots.{IsSpotAt, IsTip, spots}
+use Rattle.depot_order.proofs.Placing.{all_placed, tip_is_highest}
 use Rattle.depot_graph.specs.Kept.{prev_places}
 use Rattle.depot_graph.specs.UpdateRows.{IsJoinedRow}
 use Rattle.depot_graph.proofs.ChainLeaves.{at_within, prevs_are_earlier}

@@ -1,4 +1,10 @@
+pub mod ShownValues
 pub mod ItemPlaces
 pub mod Tails
 pub mod InFront
 pub mod SignedRecords
+pub mod Books
+pub mod GivenReceipts
+pub mod Giving
+pub mod HolderLists
+pub mod RisingPlaces

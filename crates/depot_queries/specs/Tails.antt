@@ -5,7 +5,7 @@ use Rattle.depot_base.specs.declared.update.Update.{Update}
 use Rattle.depot_model.specs.Bundle.{is_candidate}
 use Rattle.depot_model.specs.Items.{places_of}
 use Rattle.depot_model.specs.Lists.{IsIn}
-use Rattle.depot_virtual.specs.Spots.{IsSpotAt}
+use Rattle.depot_order.specs.Spots.{IsSpotAt}
 use Rattle.depot_graph.specs.Kept.{prev_places}
 use Rattle.depot_graph.specs.UpdateRows.{IsJoinedRow}
 use Rattle.depot_queries.specs.ItemPlaces.{beside}

@@ -4,7 +4,7 @@ ghost use Rattle.std.specs.List.{AllByRecursion};
 ghost use Rattle.std.specs.List.Sorted.{IsNonDecreasing};
 ghost use Rattle.depot_model.specs.Items.{places_of};
 ghost use Rattle.depot_model.specs.Bundle.{candidate_places};
-ghost use Rattle.depot_virtual.specs.Spots.{chain_count};
+ghost use Rattle.depot_order.specs.Spots.{chain_count};
 ghost use Rattle.depot_graph.specs.Kept.{prev_places};
 ghost use Rattle.depot_queries.specs.Tails.{ArePlacesLacked, HoldsBehind, IsLackedAt};
 

@@ -1,7 +1,7 @@
 //! The items of each virtual writer that are past a row.
 ghost use Rattle.std.specs.Prelude.{◌≡◌, ◌<◌, length, IfOk, OnOk};
 ghost use Rattle.std.specs.List.{AllByRecursion};
-ghost use Rattle.depot_virtual.specs.Spots.{chain_count};
+ghost use Rattle.depot_order.specs.Spots.{chain_count};
 ghost use Rattle.depot_graph.specs.Kept.{prev_places};
 ghost use Rattle.depot_queries.specs.Tails.{HasTail, HoldsBehind};
 

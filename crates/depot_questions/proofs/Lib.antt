@@ -2,3 +2,5 @@ pub mod ToldUpdates
 pub mod ToldLatest
 pub mod LeastLaws
 pub mod ToldConvictions
+pub mod QuestionLaws
+pub mod AnswerLaws

@@ -1,3 +1,5 @@
 pub mod Answers
 pub mod LeastKeys
 pub mod AddedConvictions
+pub mod QuestionTexts
+pub mod QuestionAnswers

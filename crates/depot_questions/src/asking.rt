@@ -10,7 +10,7 @@ use crate::question_answer::QuestionAnswer;
 use crate::status::status_of;
 use crate::updates::{accepted_among, update_facts, updates_from};
 use depot_base::Memory;
-use depot_local::LocalNode;
+use depot_queries::LocalNode;
 use std::alloc::Global;
 
 /// Asks a running node. The answer is the defined one, by the node's setting and its journal; or no memory was found.

@@ -12,7 +12,7 @@ ghost use Rattle.depot_questions.specs.Answers.{conviction_page, conviction_told
 use crate::limits::MOST_PROOFS_TOLD;
 use crate::question_answer::{ConvictionAt, ConvictionPage};
 use depot_base::{Bytes, DecodeError, Memory, NodeId, Nodes, Sequence};
-use depot_local::LocalNode;
+use depot_queries::LocalNode;
 use depot_update::decode_proof;
 use std::alloc::Global;
 

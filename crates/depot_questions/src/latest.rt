@@ -6,8 +6,8 @@ ghost use Rattle.depot_questions.specs.Answers.{latest_told, said_of, value_said
 
 use crate::question_answer::{LatestWrite, WriteSays};
 use depot_base::{Bytes, Hash32, Key, Memory, NamedValue, Sequence, Update, Wrote};
-use depot_local::LocalNode;
 use depot_model::Past;
+use depot_queries::LocalNode;
 use std::alloc::Global;
 
 /// A value that a write names: it is held, or it isn't.

@@ -1,3 +1,8 @@
+//! What a node knows, for a program beside it: its status, convictions, keys, latest writes, updates; questions and
+//! answers as bytes.
+//!
+//! # Questions
+//!
 //! What a node knows, answered to the program beside it.
 //!
 //! A `Question` is a value, and so is the `QuestionAnswer`. The answer is defined once (`specs/Answers.antt`), by the
@@ -5,8 +10,17 @@
 //!
 //! Long answers come in pages (`limits.rt`): each says whether there is more, and the next question names where to
 //! continue.
+//!
+//! # Question texts
+//!
+//! The texts of questions and of answers (docs/FORMATS.md, "Requests").
+//!
+//! Each is a byte for its kind, and the kind's fields, like requests and replies. The kinds are 16 to 22, in
+//! hexadecimal 10 to 16, which no request has. A text is that of one question, or has its first fault at one offset.
 #![tactic(auto)]
 
+mod answer_parts;
+mod answer_writer;
 mod asking;
 mod convictions;
 mod keys;
@@ -14,9 +28,12 @@ mod latest;
 mod limits;
 mod question;
 mod question_answer;
+mod question_laws;
+mod question_reader;
 mod status;
 mod updates;
 
+pub use answer_writer::encode_answer;
 pub use asking::ask;
 pub use limits::{MOST_KEYS_TOLD, MOST_PROOFS_TOLD, MOST_UPDATES_TOLD};
 pub use question::Question;
@@ -24,3 +41,8 @@ pub use question_answer::{
     ConvictionAt, ConvictionPage, KeyPage, LatestWrite, NodeStatus, QuestionAnswer, UpdateFacts,
     UpdateKeys, UpdatePage, WriteSays,
 };
+pub use question_laws::{
+    answers_are_read_in_one_way, question_texts_begin_with_their_kind,
+    questions_are_read_in_one_way,
+};
+pub use question_reader::decode_question;

@@ -4,8 +4,8 @@ ghost use Rattle.depot_questions.specs.Answers.{status_told};
 
 use crate::question_answer::NodeStatus;
 use depot_base::Memory;
-use depot_local::LocalNode;
 use depot_model::Past;
+use depot_queries::LocalNode;
 
 /// Who a node is, and how much it has.
 #[tactic(auto, unfolding(crate::specs::Answers::status_told))]

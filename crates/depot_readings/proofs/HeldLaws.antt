@@ -10,8 +10,8 @@ use Rattle.depot_base.specs.declared.record.Record.{Record}
 use Rattle.depot_model.specs.declared.taken.Taken.{Taken}
 use Rattle.depot_model.specs.declared.taken.Taken.TheVariants.{Known, New}
 use Rattle.depot_model.specs.Journal.{first_values, held, value_by, value_with}
-use Rattle.depot_values.specs.Values as values
-use Rattle.depot_values.specs.declared.values.Values.{Values}
+use Rattle.depot_kept.specs.Values as values
+use Rattle.depot_kept.specs.declared.values.Values.{Values}
 use Rattle.depot_readings.specs.AddedValues.{or_else, AddsAll}
 use Rattle.depot_laws.proofs.Splits.{silent}
 use Rattle.depot_base.proofs.GeneralLaws.{flat_push}

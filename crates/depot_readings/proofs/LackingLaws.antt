@@ -19,8 +19,8 @@ use Rattle.depot_model.specs.Lawful.{IsLawful}
 use Rattle.depot_model.specs.Vouching.{rising}
 use Rattle.depot_laws.proofs.HeldByHash.{holds_by, held_by_hash}
 use Rattle.depot_laws.proofs.HeldValues.{held_is}
-use Rattle.depot_values.specs.Values as values
-use Rattle.depot_values.specs.declared.values.Values.{Values}
+use Rattle.depot_kept.specs.Values as values
+use Rattle.depot_kept.specs.declared.values.Values.{Values}
 use Rattle.depot_readings.specs.AddedValues.{or_else}
 use Rattle.depot_readings.specs.Lacking.{is_held, is_lacked, AreLacked, names_brought}
 use Rattle.depot_readings.specs.Named.{is_value_named, is_name, names_in, has_named_value}

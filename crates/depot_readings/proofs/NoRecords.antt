@@ -3,8 +3,8 @@ use Rattle.std.proofs.Common.{◌≡◌, ℕ, false, List, [], None, refl}
 use Rattle.depot_model.specs.Bundle.{records_where}
 use Rattle.depot_model.specs.Journal.{accepted, first_values, is_wanted}
 use Rattle.depot_accept.specs.StateView.{View, IsStateOf}
-use Rattle.depot_values.specs.Values.{held_in}
-use Rattle.depot_values.specs.declared.values.Values.{Values}
+use Rattle.depot_kept.specs.Values.{held_in}
+use Rattle.depot_kept.specs.declared.values.Values.{Values}
 use Rattle.depot_readings.specs.ReadingsParts.{AreReadings, IsKeptOf}
 use Rattle.depot_readings.specs.FrontPlaces.{AreFrontPlaces}
 use Rattle.depot_readings.specs.Lacking.{AreLacked}

@@ -13,8 +13,8 @@ use Rattle.depot_model.specs.Vouching.{records_of}
 use Rattle.depot_model.proofs.Members.{all_at, all_from, all_push, in_right}
 use Rattle.depot_accept.specs.StateView.{View, setting}
 use Rattle.depot_laws.proofs.Splits.{lawful_front}
-use Rattle.depot_values.specs.declared.values.Values.{Values}
-use Rattle.depot_vouch.specs.VouchedView.{AreWithin}
+use Rattle.depot_kept.specs.declared.values.Values.{Values}
+use Rattle.depot_kept.specs.VouchedView.{AreWithin}
 use Rattle.depot_readings.specs.NewRecords.{vouchers_of, HasOwnId}
 use Rattle.depot_readings.specs.OwnIds.{AddsMine, HaveRoom}
 use Rattle.depot_readings.specs.ReadingsParts.{IsKeptOf, KeepsRecords, MayKeep}

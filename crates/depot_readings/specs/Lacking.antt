@@ -8,8 +8,8 @@ use Rattle.depot_base.specs.declared.record.Record.{Record}
 use Rattle.depot_base.specs.declared.record.Record.TheVariants.{Held}
 use Rattle.depot_model.specs.Contents.{NamedValue}
 use Rattle.depot_model.specs.Journal.{accepted, holds, is_wanted}
-use Rattle.depot_values.specs.Values.{held_in}
-use Rattle.depot_values.specs.declared.values.Values.{Values}
+use Rattle.depot_kept.specs.Values.{held_in}
+use Rattle.depot_kept.specs.declared.values.Values.{Values}
 use Rattle.depot_readings.specs.Named.{has_named_value}
 use Rattle.depot_readings.specs.declared.named.NamedValues.{NamedValues}
 

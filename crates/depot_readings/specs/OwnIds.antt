@@ -4,7 +4,7 @@ use Rattle.std.specs.List.{AllByRecursion}
 use Rattle.depot_base.specs.declared.record.Record.{Record}
 use Rattle.depot_model.specs.Lists.{is_among}
 use Rattle.depot_model.specs.Vouching.{is_mine_vouched}
-use Rattle.depot_vouch.specs.VouchedView.{AreWithin}
+use Rattle.depot_kept.specs.VouchedView.{AreWithin}
 use Rattle.depot_readings.specs.declared.news.NewVoucher.{NewVoucher}
 
 -- these are just the ids that own vouchers of these records name

@@ -6,8 +6,8 @@ use Rattle.depot_model.specs.Lawful.{IsLawful}
 use Rattle.depot_model.specs.Records.{journal_bytes}
 use Rattle.depot_model.specs.Roster.{Verifies}
 use Rattle.depot_accept.specs.StateView.{View, IsStateOf, setting}
-use Rattle.depot_values.specs.Values as values
-use Rattle.depot_values.specs.declared.values.Values.{Values}
+use Rattle.depot_kept.specs.Values as values
+use Rattle.depot_kept.specs.declared.values.Values.{Values}
 use Rattle.depot_readings.specs.FrontPlaces.{AreFrontPlaces}
 use Rattle.depot_readings.specs.Lacking.{AreLacked}
 use Rattle.depot_readings.specs.Named.{AreNamed}

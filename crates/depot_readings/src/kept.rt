@@ -6,11 +6,11 @@ ghost use Rattle.depot_base.specs.declared.record.Record.{Record};
 ghost use Rattle.depot_base.specs.declared.record.Record.TheVariants.{OwnPut, OwnVoucher, Foreign, Conviction, Held};
 ghost use Rattle.depot_model.specs.Texts.{id_of_statement, id_of_update};
 ghost use Rattle.depot_model.specs.Vouching.{records_of};
-ghost use Rattle.depot_vouch.specs.VouchedView.{AreWithin};
+ghost use Rattle.depot_kept.specs.VouchedView.{AreWithin};
 ghost use Rattle.depot_accept.specs.StateView.{setting};
 ghost use Rattle.depot_readings.specs.NewRecords.{records_in, vouchers_of, HasOwnId, AreHashed};
 ghost use Rattle.depot_readings.specs.OwnIds.{AddsMine, HaveRoom};
-ghost use Rattle.depot_values.specs.Values.{held_in};
+ghost use Rattle.depot_kept.specs.Values.{held_in};
 ghost use Rattle.depot_readings.specs.AddedValues.{HasRoomForAll, AddsAll};
 ghost use Rattle.depot_readings.specs.ReadingsParts.{IsKeptOf, MayKeep, KeepsRecords, StillKeeps};
 ghost use Rattle.depot_readings.specs.LeavesWith.{leaves_then, leaves_with};
@@ -24,9 +24,8 @@ use depot_accept::State;
 use depot_base::{
     Hash32, Memory, NamedValue, Proof, Sequence, Signed, Statement, Update, Value, ValueList,
 };
+use depot_kept::{Values, VouchedIds};
 use depot_model::Scheme;
-use depot_values::Values;
-use depot_vouch::VouchedIds;
 
 /// What is read off the records of a journal: what the checks look at, the values by their hash, and counts. It isn't
 /// tied to one journal: each call says what it does to whatever is kept of any.

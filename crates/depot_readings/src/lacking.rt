@@ -12,7 +12,7 @@ use crate::named::NamedValues;
 use crate::news::News;
 use depot_base::limits::MOST_WANTED;
 use depot_base::{Hash32, Ids, Memory, NamedValue};
-use depot_values::Values;
+use depot_kept::Values;
 
 /// Whether a value of this name is held.
 fn is_held(values: &Values, name: &NamedValue) -> bool

@@ -14,9 +14,8 @@ use crate::places::{AcceptPlaces, accept_place};
 use crate::totals::Totals;
 use depot_accept::State;
 use depot_base::Memory;
+use depot_kept::{Values, VouchedIds};
 use depot_model::Scheme;
-use depot_values::Values;
-use depot_vouch::VouchedIds;
 use std::alloc::Global;
 
 /// All that is read off the records of a journal: what is kept, the values that accepted updates name, those of them

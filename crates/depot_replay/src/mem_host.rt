@@ -15,10 +15,10 @@ ghost use Rattle.depot_replay.specs.MemHosts.{FailsToStart, IsHostedAgain, IsKep
 
 use crate::mem_host_reader::{MemHostReader, trimming};
 use depot_base::{Bytes, Hash32, Items, Key, Memory, NodeId, Update};
-use depot_local::LocalNode;
 use depot_model::{NodeState, Past, Replica, Scheme, Signer};
 use depot_node::{Node, StartError};
 use depot_outside::{Back, MemDisk};
+use depot_queries::LocalNode;
 use depot_requests::{Halt, Printed, Reply, Request, print};
 use depot_scenario::{Numbered, is_by};
 use depot_service::{counted_line, node_trace, read_traced, serve};

@@ -4,3 +4,12 @@ pub mod CheckpointTexts
 pub mod VouchedUpdates
 pub mod LawfulRequests
 pub mod TrueRequests
+pub mod ChangeTextLaws
+pub mod ReadChanges
+pub mod AskedRequests
+pub mod RequestLaws
+pub mod TellingLaws
+pub mod ReplyLaws
+pub mod RequestExamples
+pub mod ReplyExamples
+pub mod ExportLaws

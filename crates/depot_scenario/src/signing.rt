@@ -10,8 +10,8 @@ ghost use Rattle.depot_model.specs.Texts.{IsProof, IsSigned, IsStatement};
 ghost use Rattle.depot_world.specs.FaultySigning.{proof_of_halves};
 
 use depot_base::{Bytes, FrameTag, Kind, Memory, Proof, Signed, Statement};
-use depot_frames::put_frame;
 use depot_model::Signer;
+use depot_streams::put_frame;
 use depot_update::{encode_proof, encode_signed, encode_statement};
 use std::alloc::Global;
 

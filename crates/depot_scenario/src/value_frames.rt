@@ -8,7 +8,7 @@ ghost use Rattle.depot_world.specs.FaultySigning.{text_of_values};
 ghost use Rattle.depot_scenario.specs.ScenarioTexts.{frames_behind};
 
 use depot_base::{Bytes, Change, FrameTag, Memory, Value};
-use depot_frames::put_frame;
+use depot_streams::put_frame;
 
 /// Writes the frames of the values of changes, in their order, each different value once. On `Memory` a prefix of them
 /// may have been written.

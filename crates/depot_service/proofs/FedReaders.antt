@@ -17,10 +17,10 @@ use Rattle.depot_base.specs.Writes.{wrote_under}
 use Rattle.depot_base.specs.declared.update.Update.{Update}
 use Rattle.depot_base.specs.declared.write.Wrote.{Wrote}
 use Rattle.depot_base.specs.declared.write.Wrote.TheVariants.{Put, Gone}
-use Rattle.depot_frames.proofs.WholeFrames.{whole_within}
-use Rattle.depot_frames.specs.FrameHeads.{StandsAt}
-use Rattle.depot_frames.specs.declared.frame.FrameAt.{FrameAt as Place}
-use Rattle.depot_frames.specs.declared.frame.FrameAt.TheVariants as place
+use Rattle.depot_streams.proofs.WholeFrames.{whole_within}
+use Rattle.depot_streams.specs.FrameHeads.{StandsAt}
+use Rattle.depot_streams.specs.declared.frame.FrameAt.{FrameAt as Place}
+use Rattle.depot_streams.specs.declared.frame.FrameAt.TheVariants as place
 use Rattle.depot_model.specs.Contents.{Sighting, held_value, not_held, gone}
 use Rattle.depot_model.specs.Feeding.{form_of}
 use Rattle.depot_model.specs.Frames.{Frame, whole_frame, open_frame, no_frame, is_tag, goes_astray, frame_at}
@@ -40,7 +40,7 @@ use Rattle.depot_model.specs.declared.taken.Taken.TheVariants.{New, Known}
 use Rattle.depot_model.proofs.Elements.{one_more}
 use Rattle.depot_model.proofs.LatestLaws.{one_latest_list}
 use Rattle.depot_model.proofs.LatestWrites.{latest_are_listed}
-use Rattle.depot_local.specs.ShownValues.{value_seen}
+use Rattle.depot_queries.specs.ShownValues.{value_seen}
 use Rattle.depot_trim.specs.ReaderAnswers.{ReaderTakes}
 use Rattle.depot_trim.specs.ReaderView.{IsReaderOf}
 use Rattle.depot_trim.specs.declared.trim_error.TrimTake.{TrimTake}

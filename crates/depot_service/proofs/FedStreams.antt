@@ -5,12 +5,12 @@ use Rattle.std.proofs.lemmas.List.{append-nil}
 use Rattle.depot_base.specs.declared.check.Full.{Full}
 use Rattle.depot_base.specs.declared.record.Record.{Record}
 use Rattle.depot_answers.specs.declared.exchange_answers.Closing.TheVariants as closing
-use Rattle.depot_feeds.specs.NodeCalls.{IsFeedCall}
-use Rattle.depot_feeds.specs.Pieces.{AreOf, Feeds, Stream, at_work, stream_of, report_of_stream}
-use Rattle.depot_feeds.specs.declared.feed_error.FeedError.{FeedError}
-use Rattle.depot_feeds.specs.declared.feed_error.FeedError.TheVariants as error
-use Rattle.depot_feeds.proofs.LawfulCalls.{renamed_on}
-use Rattle.depot_feeds.proofs.PieceLaws.{IsUnderWay, at_work_again}
+use Rattle.depot_streams.specs.NodeCalls.{IsFeedCall}
+use Rattle.depot_streams.specs.Pieces.{AreOf, Feeds, Stream, at_work, stream_of, report_of_stream}
+use Rattle.depot_streams.specs.declared.feed_error.FeedError.{FeedError}
+use Rattle.depot_streams.specs.declared.feed_error.FeedError.TheVariants as error
+use Rattle.depot_streams.proofs.LawfulCalls.{renamed_on}
+use Rattle.depot_streams.proofs.PieceLaws.{IsUnderWay, at_work_again}
 use Rattle.depot_model.specs.Checks.{Setting}
 use Rattle.depot_model.specs.Feeding.{Feeding, ending_of, fed, report_of}
 use Rattle.depot_model.specs.declared.bundle.Report.{Report}

@@ -11,3 +11,5 @@ pub mod StreamRequests
 pub mod ReadRequests
 pub mod DueRequests
 pub mod SignRequests
+pub mod AskedCalls
+pub mod AskedFaults

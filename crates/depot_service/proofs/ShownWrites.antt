@@ -24,7 +24,7 @@ use Rattle.depot_model.proofs.LatestLaws.{one_latest_list}
 use Rattle.depot_model.proofs.Members.{in_last, in_left}
 use Rattle.depot_model.specs.ShownWrites.{shown_of}
 use Rattle.depot_model.specs.LatestList.{latest_in}
-use Rattle.depot_local.specs.ShownValues.{value_seen}
+use Rattle.depot_queries.specs.ShownValues.{value_seen}
 use Rattle.depot_service.specs.Printing.{shown_text, shown_value}
 use Rattle.depot_model.proofs.LatestWrites.{latest_are_listed}
 

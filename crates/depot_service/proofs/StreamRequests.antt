@@ -2,10 +2,10 @@
 use Rattle.std.proofs.Common.{◌≡◌, ◌↔◌, ℕ, List, Result, Ok, Err, refl, sym, ap, ◌∙◌}
 use Rattle.std.specs.Prelude.{IfErr, IfOk, IsErrOf}
 use Rattle.depot_base.specs.declared.record.Record.{Record}
-use Rattle.depot_feeds.specs.NodeCalls.{IsFeedCall}
-use Rattle.depot_feeds.specs.declared.feed_error.FeedError.{FeedError}
-use Rattle.depot_feeds.specs.declared.feed_error.FeedError.TheVariants as error
-use Rattle.depot_feeds.proofs.LawfulCalls.{renamed_on}
+use Rattle.depot_streams.specs.NodeCalls.{IsFeedCall}
+use Rattle.depot_streams.specs.declared.feed_error.FeedError.{FeedError}
+use Rattle.depot_streams.specs.declared.feed_error.FeedError.TheVariants as error
+use Rattle.depot_streams.proofs.LawfulCalls.{renamed_on}
 use Rattle.depot_model.specs.Bundle.{Signs}
 use Rattle.depot_model.specs.Checks.{Setting}
 use Rattle.depot_model.specs.Feeding.{feed_of, feeding_from}

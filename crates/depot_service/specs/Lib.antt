@@ -4,3 +4,5 @@ pub mod ReaderPrinting
 pub mod TracePrinting
 pub mod Replying
 pub mod RequestCalls
+pub mod Answering
+pub mod Bodies

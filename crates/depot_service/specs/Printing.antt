@@ -2,9 +2,9 @@
 use Rattle.std.specs.Prelude.{◌≡◌, ℕ, List, Option, Some, None, Err}
 use Rattle.std.specs.List.{flat_map}
 use Rattle.depot_base.specs.declared.record.Record.{Record}
-use Rattle.depot_feeds.specs.Pieces.{Feeds, Stream}
-use Rattle.depot_feeds.specs.declared.feed_error.FeedError.{FeedError}
-use Rattle.depot_feeds.specs.declared.feed_error.FeedError.TheVariants as feed_error
+use Rattle.depot_streams.specs.Pieces.{Feeds, Stream}
+use Rattle.depot_streams.specs.declared.feed_error.FeedError.{FeedError}
+use Rattle.depot_streams.specs.declared.feed_error.FeedError.TheVariants as feed_error
 use Rattle.depot_model.specs.Checks.{Setting}
 use Rattle.depot_model.specs.Contents.{Sighting, held_value, not_held}
 use Rattle.depot_model.specs.Feeding.{Feeding, fed, report_of}

@@ -1,7 +1,7 @@
 -- What a node replies, by what its calls answer.
 use Rattle.std.specs.Prelude.{ℕ, List, Result, Ok, Err}
-use Rattle.depot_feeds.specs.declared.feed_error.FeedError.{FeedError}
-use Rattle.depot_feeds.specs.declared.feed_error.FeedError.TheVariants as feed_error
+use Rattle.depot_streams.specs.declared.feed_error.FeedError.{FeedError}
+use Rattle.depot_streams.specs.declared.feed_error.FeedError.TheVariants as feed_error
 use Rattle.depot_gossip.specs.declared.bundle_error.BundleError.{BundleError}
 use Rattle.depot_gossip.specs.declared.bundle_error.BundleError.TheVariants as bundle_error
 use Rattle.depot_gossip.specs.declared.bundle_stream.Bundled.{Bundled}
@@ -9,8 +9,8 @@ use Rattle.depot_model.specs.declared.put_answers.PutDone.{PutDone}
 use Rattle.depot_model.specs.declared.put_answers.PutError.{PutError}
 use Rattle.depot_model.specs.declared.put_answers.PutError.TheVariants as put_error
 use Rattle.depot_service.specs.declared.feeds.FeedResult.{FeedResult}
-use Rattle.depot_receipts.specs.declared.give_error.GiveError.{GiveError}
-use Rattle.depot_receipts.specs.declared.give_error.GiveError.TheVariants as give_error
+use Rattle.depot_queries.specs.declared.give_error.GiveError.{GiveError}
+use Rattle.depot_queries.specs.declared.give_error.GiveError.TheVariants as give_error
 use Rattle.depot_requests.specs.Requests.{with_text}
 use Rattle.depot_requests.specs.declared.reply.Halt.{Halt}
 use Rattle.depot_requests.specs.declared.reply.Halt.TheVariants as halt

@@ -1,7 +1,7 @@
 -- What a node replies to a request, and what the call leaves of it.
 use Rattle.std.specs.Prelude.{◌≡◌, ◌≢◌, ◌⊎◌, List, ◌++◌, Result, Ok, Err, IsErrAnd, IsErrOf}
 use Rattle.depot_base.specs.declared.record.Record.{Record}
-use Rattle.depot_feeds.specs.Lasting.{LastsIn}
+use Rattle.depot_streams.specs.Lasting.{LastsIn}
 use Rattle.depot_model.specs.Bundle.{Signs}
 use Rattle.depot_model.specs.Checks.{Setting}
 use Rattle.depot_model.specs.Limits.{IsCutShort}

@@ -1,7 +1,7 @@
 //! A stream that a node takes.
 ghost use Rattle.std.specs.Prelude.{◌≡◌, ◌≢◌, ◌≤◌, false, None, IfOk, IfErr};
 ghost use Rattle.depot_model.specs.Feeding.{feed_of, feeding_from};
-ghost use Rattle.depot_feeds.specs.NodeCalls.{IsFeedCall};
+ghost use Rattle.depot_streams.specs.NodeCalls.{IsFeedCall};
 ghost use Rattle.depot_service.specs.Printing.{IsMemoryOrDisk, IsToldClosed, IsToldOf};
 
 use depot_answers::Closing;

@@ -1,3 +1,8 @@
+//! Any `LocalNode` does what it is asked: the one dispatch over requests (`serve`), and whatever may be asked over an
+//! input (`decode_asked`, `answer`).
+//!
+//! # Service
+//!
 //! A node does what it is asked.
 //!
 //! `serve` carries out a `Request` over any `LocalNode` and returns its `Reply`. The reply and the journal afterwards
@@ -10,8 +15,19 @@
 //! by a checkpoint, and `traces` for what a node hands in for an audit.
 //!
 //! What it doesn't do: it decides nothing, and it keeps nothing.
+//!
+//! # Asking
+//!
+//! What a node may be asked over its input: to carry out a request, to answer what it knows, to send within bounds, or
+//! to hand in its trace.
+//!
+//! `decode_asked` reads the body of a message. Its first byte says of which sort it is, so it is read in one way.
+//! `answer` has a `LocalNode` carry it out or answer it, and returns the message that answers.
 #![tactic(auto)]
 
+mod answering;
+mod asked;
+mod asked_reader;
 mod checkpoints;
 mod feeds;
 mod printed;
@@ -22,6 +38,9 @@ mod replying;
 mod serving;
 mod traces;
 
+pub use answering::answer;
+pub use asked::Asked;
+pub use asked_reader::decode_asked;
 pub use checkpoints::trim_line;
 pub use feeds::{FeedResult, feed_all};
 pub use printed::counted_line;

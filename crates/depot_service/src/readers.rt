@@ -7,7 +7,7 @@ ghost use Rattle.depot_model.specs.ReaderFeeds.{ReaderFeed};
 ghost use Rattle.depot_model.specs.Readers.{Reader, seen_by_reader};
 ghost use Rattle.depot_answers.specs.AnswerTexts.{spaced, text_of_reader_feed};
 ghost use Rattle.depot_answers.specs.Sightings.{sighting_of_seen};
-ghost use Rattle.depot_local.specs.ShownValues.{value_seen};
+ghost use Rattle.depot_queries.specs.ShownValues.{value_seen};
 ghost use Rattle.depot_trim.specs.ReaderView.{IsReaderOf};
 ghost use Rattle.depot_trim.specs.ReaderAnswers.{ReaderTakes};
 ghost use Rattle.depot_trim.specs.declared.trim_error.TrimTake.TheVariants as failed;

@@ -4,14 +4,14 @@ ghost use Rattle.depot_base.specs.declared.record.Record.{Record};
 ghost use Rattle.depot_model.specs.Journal.{seen_under};
 ghost use Rattle.depot_answers.specs.AnswerTexts.{spaced, text_of_write};
 ghost use Rattle.depot_answers.specs.Sightings.{sighting_of_seen};
-ghost use Rattle.depot_local.specs.ShownValues.{value_seen};
+ghost use Rattle.depot_queries.specs.ShownValues.{value_seen};
 ghost use Rattle.depot_model.specs.ShownWrites.{shown_of};
 ghost use Rattle.depot_service.specs.Printing.{shown_text, shown_value};
 
 use depot_answers::{Seen, write};
 use depot_base::{Bytes, Key, Memory, Update, Wrote};
-use depot_local::LocalNode;
 use depot_model::Past;
+use depot_queries::LocalNode;
 use std::alloc::Global;
 
 /// What a read shows of an update's write of a key, given the held value, if any.

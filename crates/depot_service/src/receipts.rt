@@ -3,8 +3,7 @@ ghost use Rattle.std.specs.Prelude.{◌≡◌, false, length, nat_le, IfOk};
 ghost use Rattle.depot_model.specs.Receipts.{receipts};
 
 use depot_base::{Hash32, Memory};
-use depot_local::LocalNode;
-use depot_receipts::Book;
+use depot_queries::{Book, LocalNode};
 use std::alloc::Global;
 
 /// Whether at least `k` nodes gave receipts for an id, among all updates that a node accepted. It makes a new book.

@@ -7,7 +7,7 @@ use crate::FeedResult;
 use depot_base::Bytes;
 use depot_gossip::{BundleError, Bundled, FeedError};
 use depot_model::{PutDone, PutError};
-use depot_receipts::GiveError;
+use depot_queries::GiveError;
 use depot_requests::{Halt, NodeLimit, Reason, Reply};
 use depot_trim::{CheckpointError, MakeError};
 

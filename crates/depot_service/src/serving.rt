@@ -18,8 +18,7 @@ use crate::replying::{
 use crate::{feed_all, has_receipts, shown_words};
 use depot_base::{Bytes, Changes, Hash32, Ids, Key, Memory, Value};
 use depot_gossip::{bundle, encode_hello, node_hello};
-use depot_local::LocalNode;
-use depot_receipts::give;
+use depot_queries::{LocalNode, give};
 use depot_requests::{Halt, Reply, Request};
 use depot_trim::{checkpoint_key, make_checkpoint, sign_checkpoint};
 use std::alloc::Global;

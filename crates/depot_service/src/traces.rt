@@ -18,8 +18,8 @@ ghost use Rattle.depot_service.specs.TracePrinting.{IsTraceOf, IsTracedWrite, ex
 use crate::reads::seen;
 use depot_answers::{Seen, traced};
 use depot_base::{Bytes, Key, Memory, Texts, Value};
-use depot_local::LocalNode;
 use depot_model::{Past, Replica};
+use depot_queries::LocalNode;
 use depot_traces::{Answered, Listing, ReadTrace, Reads, Shown, Trace, encode_trace};
 use std::alloc::Global;
 

@@ -25,3 +25,9 @@ pub mod ReaderTurns
 pub mod UnhinderedStreams
 pub mod UnhinderedSteps
 pub mod AskedTurns
+pub mod Folding
+pub mod SameNodes
+pub mod ServerTurns
+pub mod RunTurns
+mod ServerEndings
+mod NodesOnDisks

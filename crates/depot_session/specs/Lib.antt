@@ -6,3 +6,9 @@ pub mod Turns
 pub mod ReplyTelling
 pub mod Unhindered
 pub mod Exports
+pub mod Hearing
+pub mod Answering
+pub mod Serving
+pub mod FirstMessages
+pub mod ServerRuns
+pub mod Staying

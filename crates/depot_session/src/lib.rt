@@ -1,3 +1,8 @@
+//! A node on a disk at work: a script, run with the files of a shelf (`run`), or requests that are heard over a source
+//! and answered (`serve_all`, `run_server`).
+//!
+//! # Session
+//!
 //! Runs scripts: a node over a disk, with files on a shelf, and what it prints.
 //!
 //! `specs/Sessions.antt` defines the outcome of a script, command by command (`step_of`) and as a whole (`answers_of`):
@@ -5,7 +10,7 @@
 //! is cut short by lack of memory or by a fault of the disk, the shelf or the sink. `specs/SessionRuns.antt` says what
 //! holds then, of every crash image too.
 //!
-//! - If the receipts of the file's journal are true (`depot_receipts`), they are true in every crash image: only the
+//! - If the receipts of the file's journal are true (`depot_queries`), they are true in every crash image: only the
 //!   command `receipt` writes their keys, and only `checkpoint` and `sign` write those of checkpoints. `session_laws`
 //!   says what each image then has, and which scripts complete (`specs/Unhindered.antt`).
 //! - If a script hands in a trace, the reads of the run are kept, as traces record them (`kept_reads`); other scripts
@@ -17,6 +22,17 @@
 //! command's file, asks, stores what the node hands out, and prints the reply last. The others are those of readers
 //! (`reader_commands`) and of the trace (`exporting`). `telling` writes lines, and `command_heads` the words of a
 //! command.
+//!
+//! # Server
+//!
+//! Serves a node: requests come over a source as messages, and the replies go to a sink.
+//!
+//! `serve_all` reads a message, has its request carried out on a `LocalNode`, writes the reply, and so on to the end of
+//! the input. A reply is written only once each crash image has what it reports, and no byte after a request is read
+//! before its reply is written.
+//!
+//! `run_server` starts the node from its disk, says by one message whether it was started (`start_telling`), and then
+//! serves it. Only `running` starts a node.
 #![tactic(auto)]
 
 mod asking;
@@ -27,15 +43,24 @@ mod exporting;
 mod kept_reads;
 mod last_reader;
 mod reader_commands;
+mod request_hearing;
 mod requesting;
 mod running;
+mod server_ending;
+mod server_running;
+mod serving;
 mod session_laws;
+mod start_telling;
 mod telling;
 mod whole_script;
 
 pub use ending::ScriptEnding;
 pub use running::{refusal_line, run};
+pub use server_ending::{ServeEnding, ServerEnding};
+pub use server_running::run_server;
+pub use serving::serve_all;
 pub use session_laws::{
     exports_are_right, images_hold_what_receipts_speak_of, runs_leave_true_receipts,
     unhindered_scripts_are_done,
 };
+pub use start_telling::MESSAGE_VERSION;

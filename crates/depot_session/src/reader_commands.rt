@@ -13,9 +13,9 @@ use crate::last_reader::LastReader;
 use crate::telling::{load, no_file, tell};
 use depot_base::{Bytes, Key, Memory};
 use depot_lines::FileName;
-use depot_local::LocalNode;
 use depot_model::Scheme;
 use depot_outside::{Shelf, Sink};
+use depot_queries::LocalNode;
 use depot_script::Command;
 use depot_service::{
     ReaderFeedResult, feed_reader, reader_feed_line, reader_shown_line, trim_line,

@@ -4,9 +4,8 @@
 use crate::hex::bytes;
 use crate::text_tests::{changed, cut_field, fault, is_text};
 use depot_base::Memory;
-use depot_feeds::Feed;
-use depot_frames::{decode_hello, encode_hello};
 use depot_model::Ending;
+use depot_streams::{Feed, decode_hello, encode_hello};
 use std::alloc::Global;
 use std::test::Fail;
 

@@ -1,6 +1,6 @@
 //! Slices of lengths below, at and past full lanes.
 
-use depot_lanes::{all_leq, first_above, max_into};
+use depot_order::{all_leq, first_above, max_into};
 use std::alloc::Global;
 use std::process::Abort;
 use std::test::Fail;

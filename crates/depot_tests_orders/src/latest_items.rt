@@ -2,7 +2,7 @@
 ghost use Rattle.std.specs.Prelude.{◌≡◌, ◌<◌, ◌%◌};
 
 use depot_base::{Key, Memory, Precedes, Steps};
-use depot_index::KeyIndex;
+use depot_order::KeyIndex;
 use std::alloc::Global;
 use std::marker::Brand;
 use std::process::Abort;

@@ -1,9 +1,9 @@
 //! A chain of 70 items that joins a chain of 24 at each third item; and one of 40 that joins twenty short ones so.
 ghost use Rattle.std.specs.Prelude.{◌≡◌, ◌+◌, ◌<◌, ◌≤◌, ℕ, length, OnOk, IfOk};
-ghost use Rattle.depot_clocks.specs.ChainItems.{chain_length, number_of_chains};
+ghost use Rattle.depot_order.specs.ChainItems.{chain_length, number_of_chains};
 
 use depot_base::Steps;
-use depot_clocks::Clocks;
+use depot_order::Clocks;
 use std::alloc::Global;
 use std::marker::Brand;
 use std::process::Abort;

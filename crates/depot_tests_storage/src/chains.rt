@@ -1,7 +1,7 @@
 ghost use Rattle.std.specs.Prelude.{◌≡◌, [], length, OnOk};
 
 use depot_base::Memory;
-use depot_virtual::*;
+use depot_order::*;
 use std::test::Fail;
 
 fn at(chain: u32, place: u32) -> Spot {

@@ -1,5 +1,5 @@
 use depot_base::{Bytes, Hash32, Ids, NodeId, Signed, Statement, Voucher};
-use depot_fork::*;
+use depot_kept::*;
 use std::alloc::Global;
 use std::process::Abort;
 use std::test::Fail;

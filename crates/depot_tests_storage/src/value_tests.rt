@@ -1,8 +1,8 @@
 //! Values under their hashes.
 
 use depot_base::{Hash32, LengthError, Value};
+use depot_kept::*;
 use depot_model::Taken;
-use depot_values::*;
 use sha2::Digest;
 use std::alloc::Global;
 

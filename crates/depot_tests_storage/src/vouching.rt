@@ -1,7 +1,7 @@
 //! Ids that are vouched for, and nodes that are convicted.
 
 use depot_base::{Hash32, Ids, Memory, NodeId};
-use depot_vouch::*;
+use depot_kept::*;
 use std::alloc::Global;
 use std::test::Fail;
 

@@ -16,7 +16,7 @@ use Rattle.depot_model.specs.Trimming.{is_signed_by, trimmed}
 use Rattle.depot_accept.specs.StateView.{IsStateOf, setting}
 use Rattle.depot_readings.specs.Counts.{AreCountsOf}
 use Rattle.depot_readings.specs.Named.{AreNamed}
-use Rattle.depot_values.specs.Values as values
+use Rattle.depot_kept.specs.Values as values
 use Rattle.depot_trim.specs.Opens.{Opens}
 use Rattle.depot_trim.specs.ReaderAnswers.{Trims}
 use Rattle.depot_trim.specs.ReaderView.{mark_of, IsReaderOf}

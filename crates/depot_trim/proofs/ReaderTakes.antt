@@ -37,8 +37,8 @@ use Rattle.depot_accept.specs.declared.answer.CheckError.{CheckError}
 use Rattle.depot_accept.specs.declared.answer.Pass.{Pass}
 use Rattle.depot_accept.proofs.CheckAnswers.{checked_later}
 use Rattle.depot_accept.specs.declared.answer.Front.{Front}
-use Rattle.depot_values.specs.Values as values
-use Rattle.depot_values.specs.declared.values.Values.{Values}
+use Rattle.depot_kept.specs.Values as values
+use Rattle.depot_kept.specs.declared.values.Values.{Values}
 use Rattle.depot_readings.specs.AddedValues.{or_else}
 use Rattle.depot_readings.specs.Counts.{AreCountsOf}
 use Rattle.depot_readings.specs.Named.{AreNamed}

@@ -14,7 +14,7 @@ use Rattle.depot_model.specs.Journal.{accepted, value_with}
 use Rattle.depot_model.specs.Lists.{when}
 use Rattle.depot_model.specs.Readers.{Reader, seen_among, seen_by_reader}
 use Rattle.depot_trim.specs.Trimmings.{held_of}
-use Rattle.depot_local.specs.ShownValues.{value_seen}
+use Rattle.depot_queries.specs.ShownValues.{value_seen}
 
 -- a value of the hash and of the length is that of the name
 pub held_is : (held : List (List ℕ)) (n : NamedValue) (v : List ℕ) → Some v ≡ value_with n.hash held → length v ≡ n.size → Some v ≡ held_of held n

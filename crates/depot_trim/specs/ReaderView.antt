@@ -12,7 +12,7 @@ use Rattle.depot_model.specs.Trimming.{trimmed}
 use Rattle.depot_accept.specs.StateView.{IsStateOf, setting}
 use Rattle.depot_readings.specs.Counts.{AreCountsOf}
 use Rattle.depot_readings.specs.Named.{AreNamed}
-use Rattle.depot_values.specs.Values as values
+use Rattle.depot_kept.specs.Values as values
 use Rattle.depot_trim.specs.declared.marks.UpdateMark.{UpdateMark}
 use Rattle.depot_trim.specs.declared.trimmed.Trimmed.{Trimmed}
 

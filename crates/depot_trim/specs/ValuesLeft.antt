@@ -5,8 +5,8 @@ use Rattle.depot_base.specs.declared.record.Record.{Record}
 use Rattle.depot_base.specs.declared.update.Update.{Update}
 use Rattle.depot_model.specs.Journal.{accepted, held, value_with}
 use Rattle.depot_model.specs.Readers.{left_of, is_named_by}
-use Rattle.depot_values.specs.Values as values
-use Rattle.depot_values.specs.declared.values.Values.{Values}
+use Rattle.depot_kept.specs.Values as values
+use Rattle.depot_kept.specs.declared.values.Values.{Values}
 use Rattle.depot_trim.specs.Trimmings.{given_up, kept_of}
 
 -- for any updates that these flags mark as given up: the values are those held in the journal that the remaining

@@ -7,8 +7,8 @@ ghost use Rattle.depot_model.specs.Checkpoints.{checkpoint, IsCheckpoint, text_o
 use depot_base::fault::{Fault, answer};
 use depot_base::reading::{at_end, hash_in, u8_in, u16_in};
 use depot_base::{Bytes, DecodeError, Fields, Hash32, Memory};
-use depot_frames::{leaves_in, put_list};
 use depot_model::HelloLeaves;
+use depot_streams::{leaves_in, put_list};
 use std::alloc::Global;
 use std::marker::Model;
 

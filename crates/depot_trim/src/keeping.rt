@@ -12,10 +12,10 @@ ghost use Rattle.depot_trim.specs.ValuesLeft.{AreValuesLeft, KeepsMore};
 use crate::flags::flag_at;
 use depot_base::{Bytes, Memory, NamedValue, Update, Value};
 use depot_graph::Graph;
-use depot_local::LocalNode;
+use depot_kept::Values;
 use depot_model::{NodeState, Past};
+use depot_queries::LocalNode;
 use depot_readings::{NamedValues, names_in_update};
-use depot_values::Values;
 use std::alloc::Global;
 
 /// The names of the values that the remaining updates of a graph name: one flag for each item says whether it is given

@@ -10,8 +10,8 @@ use crate::opening::{OpenError, opened};
 use crate::sign_error::CheckpointError;
 use depot_base::{Bytes, Key, Memory, Value};
 use depot_graph::Graph;
-use depot_local::LocalNode;
 use depot_model::{Past, PutDone, PutError, Replica};
+use depot_queries::LocalNode;
 use std::alloc::Global;
 
 /// Signs a checkpoint by a put of its text under its key. All that it names is in the past of this update.

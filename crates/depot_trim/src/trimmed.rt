@@ -6,8 +6,8 @@ ghost use Rattle.depot_model.specs.Journal.{accepted, named, value_with};
 ghost use Rattle.depot_model.specs.Contents.{Writes};
 ghost use Rattle.depot_model.specs.Order.{AreLatestIn};
 ghost use Rattle.depot_model.specs.Readers.{Reader, kept, seen_by_reader};
-ghost use Rattle.depot_values.specs.Values.{held_in};
-ghost use Rattle.depot_local.specs.ShownValues.{value_seen};
+ghost use Rattle.depot_kept.specs.Values.{held_in};
+ghost use Rattle.depot_queries.specs.ShownValues.{value_seen};
 ghost use Rattle.depot_trim.specs.ReaderView.{IsReaderOf};
 ghost use Rattle.depot_trim.specs.ReaderAnswers.{IsKeptItem};
 ghost use Rattle.depot_trim.specs.Trimmings.{held_of};
@@ -15,9 +15,9 @@ ghost use Rattle.depot_trim.specs.Trimmings.{held_of};
 use crate::marked_names::Marks;
 use depot_accept::State;
 use depot_base::{Hash32, Key, NamedValue, Update};
+use depot_kept::Values;
 use depot_model::{Past, Scheme};
 use depot_readings::{JournalCounts, NamedValues};
-use depot_values::Values;
 use std::alloc::Global;
 
 /// A reader: what it keeps of the journal it was made from and of what it took since, without what every member signed

@@ -20,8 +20,8 @@ use crate::trimmed::Trimmed;
 use crate::unsigned::first_unsigned;
 use depot_base::Memory;
 use depot_graph::Graph;
-use depot_local::LocalNode;
 use depot_model::{HelloLeaf, NodeState, Past, Scheme};
+use depot_queries::LocalNode;
 use depot_sign::Roster;
 use std::alloc::Global;
 

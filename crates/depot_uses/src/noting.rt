@@ -3,10 +3,10 @@ ghost use Rattle.std.specs.Prelude.{◌≡◌, false, OnOk};
 ghost use Rattle.depot_uses.specs.Noting.{HasNoted};
 
 use depot_base::{Key, Value};
-use depot_local::LocalNode;
 use depot_model::NodeState;
 use depot_node::{Node, PutError};
 use depot_outside::MemDisk;
+use depot_queries::LocalNode;
 use depot_winter::{WinterScheme, WinterSigner};
 
 /// A node with a key by Winternitz signatures, over a disk in memory.

@@ -6,3 +6,6 @@ pub mod EventRequests
 pub mod ScheduleStops
 pub mod Setups
 pub mod Transcript
+pub mod Loads
+pub mod Summaries
+pub mod TranscriptLines

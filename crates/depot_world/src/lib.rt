@@ -1,3 +1,8 @@
+//! What a schedule means: its world and its transcript; long schedules that a number makes, and the line that sums up a
+//! transcript.
+//!
+//! # World
+//!
 //! The world and the transcript of a schedule.
 //!
 //! `specs` defines what a schedule makes happen, event by event, over one journal and one list of reads for each
@@ -8,10 +13,37 @@
 //!
 //! `world_laws` has the laws: this is a world, whatever faulty nodes sign and send and wherever disks stop. So the laws
 //! of worlds hold of it.
+//!
+//! # Load
+//!
+//! Loads: long schedules that numbers make, and the summary of their transcripts.
+//!
+//! `specs/Loads.antt` defines the schedule of a number, round by round. Each load has a text (`IsSchedule`), so it can
+//! be printed and replayed. `specs/Summaries.antt` defines the summary of a transcript over its bytes, line by line,
+//! and of any other text too.
+//!
+//! A `LoadDraft` is a load as it grows: `rounds` has its rounds and `closing` its end, `event_parts` what its events
+//! name, and `making` all of it. `transcript_lines` reads what a line of a transcript says of a load, `load_totals` and
+//! `agreement` sum it up, and `summing` writes the summary.
+//!
+//! Nothing here says what an event does, or replays one: the command `load` does that (`depot_cli`).
 #![tactic(auto)]
 
+mod agreement;
+mod closing;
+mod event_parts;
+mod load_draft;
+mod load_laws;
+mod load_totals;
+mod making;
+mod rounds;
+mod summing;
+mod transcript_lines;
 mod world_laws;
 
+pub use load_laws::loads_are_schedules;
+pub use making::make_load;
+pub use summing::summary;
 pub use world_laws::{
     audits_of_runs, latest_writes_are_listed, receipts_of_schedules_are_true,
     runs_go_on_without_labels, runs_of_schedules_are_sound, schedules_make_worlds,

@@ -1,8 +1,8 @@
 use Rattle.std.proofs.Common.{ℕ, List, ap, ◌∙◌, arith}
 use Rattle.std.proofs.lemmas.Option.{slice_get_within}
 use Rattle.std.proofs.lemmas.Result.{IfOk-weaker}
-use Rattle.depot_trace_files.proofs.HandedTraces.{as_many}
-use Rattle.depot_trace_files.specs.declared.loading.GatheredTraces.TheVariants.{Refused}
+use Rattle.depot_cli.proofs.HandedTraces.{as_many}
+use Rattle.depot_cli.specs.declared.trace_files.GatheredTraces.TheVariants.{Refused}
 use Rattle.depot_cli.specs.Runs.{text_of_refusal}
 use Rattle.depot_cli.proofs.AuditRuns.{one_at}
 use Rattle.depot_cli.proofs.audit_command.audit_files.Goals as goal

@@ -3,7 +3,7 @@ use Rattle.std.specs.Borrow.{Bor}
 use Rattle.std.proofs.lemmas.List.{append-nil, take_all}
 use Rattle.depot_base.specs.Writes.{values_in}
 use Rattle.depot_base.specs.declared.write.Write.{Write}
-use Rattle.depot_frames.specs.Sendings.{payloads_of}
+use Rattle.depot_streams.specs.Sendings.{payloads_of}
 use Rattle.depot_gossip.specs.Choosing.{Finds}
 use Rattle.depot_gossip.proofs.ValueLaws.{finds_none, finds_more, lent_push}
 use Rattle.depot_gossip.proofs.candidate.values_behind.Goals as goal

@@ -1,6 +1,6 @@
 use Rattle.std.proofs.Common.{take}
 use Rattle.depot_base.specs.Writes.{values_in}
-use Rattle.depot_frames.specs.Sendings.{payloads_of}
+use Rattle.depot_streams.specs.Sendings.{payloads_of}
 use Rattle.depot_gossip.specs.Choosing.{Finds}
 use Rattle.depot_gossip.proofs.candidate.values_behind.Given as goal
 

@@ -8,7 +8,7 @@ use Rattle.depot_model.specs.Contents.{values_named}
 use Rattle.depot_model.specs.Lists.{AreTogether}
 use Rattle.depot_model.specs.Texts.{id_of_update, text_of_signed}
 use Rattle.depot_model.proofs.TextLaws.{signed_is_short}
-use Rattle.depot_frames.specs.Sendings.{ArePayloads, payloads_of}
+use Rattle.depot_streams.specs.Sendings.{ArePayloads, payloads_of}
 use Rattle.depot_gossip.specs.Choosing.{foreign_ids}
 use Rattle.depot_gossip.proofs.FitLaws.{found_adds}
 use Rattle.depot_gossip.proofs.ValueLaws.{few_found, found_are_short}

@@ -4,7 +4,7 @@ use Rattle.sha2.specs.Sha256.{sha256}
 use Rattle.depot_base.specs.declared.memory.Memory.{Memory}
 use Rattle.depot_model.specs.Lists.{is_among}
 use Rattle.depot_model.specs.Bundle.{Parcel, candidate_parcel, candidate_parcels, hashes_of}
-use Rattle.depot_frames.specs.Sendings.{Holds}
+use Rattle.depot_streams.specs.Sendings.{Holds}
 use Rattle.depot_gossip.specs.Choosing.{Carries, AddsHashes, AreAlike, records_at}
 use Rattle.depot_gossip.proofs.FitLaws.{is_short}
 use Rattle.depot_gossip.proofs.ChoiceLaws.{tells_at, next_place, place_parcels, place_cut, alike_push}

@@ -1,6 +1,6 @@
 use Rattle.std.proofs.Common.{arith}
 use Rattle.std.proofs.lemmas.Bool.{lt-ltb, ltb-true}
-use Rattle.depot_virtual.proofs.Placing.{all_placed}
+use Rattle.depot_order.proofs.Placing.{all_placed}
 use Rattle.depot_graph.specs.Kept.{updates_in, prev_places}
 use Rattle.depot_graph.proofs.covered.is_covered.Goals as goal
 

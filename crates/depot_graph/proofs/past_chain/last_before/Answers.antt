@@ -1,8 +1,8 @@
 use Rattle.std.proofs.Common.{◌≡◌, ◌∙◌, ◌≤◌, [], ℕ, List, Some, None, sym, ap, subst, arith}
 use Rattle.std.specs.Prelude.{slice_get}
 use Rattle.depot_base.specs.declared.update.Update.{Update}
-use Rattle.depot_virtual.specs.declared.Spot.{Spot}
-use Rattle.depot_virtual.specs.Spots.{spots}
+use Rattle.depot_order.specs.declared.chains.Spot.{Spot}
+use Rattle.depot_order.specs.Spots.{spots}
 use Rattle.depot_graph.specs.Causal.{causal_from_test}
 use Rattle.depot_graph.specs.Kept.{updates_in, prev_places}
 use Rattle.depot_graph.proofs.ChainLeaves.{IsReached, at_within, tip_is_reached, before_is_reached, prevs_are_earlier}

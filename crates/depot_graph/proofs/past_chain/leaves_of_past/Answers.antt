@@ -3,7 +3,7 @@ use Rattle.std.specs.List.{AllByRecursion}
 use Rattle.depot_model.specs.Items.{children_of}
 use Rattle.depot_model.specs.Lists.{IsIn}
 use Rattle.depot_model.proofs.Members.{all_push}
-use Rattle.depot_virtual.specs.Spots.{IsSpotAt}
+use Rattle.depot_order.specs.Spots.{IsSpotAt}
 use Rattle.depot_graph.specs.Kept.{updates_in, prev_places}
 use Rattle.depot_graph.specs.UpdateRows.{IsJoinedRow}
 use Rattle.depot_graph.specs.PastChains.{IsLastOfChain}

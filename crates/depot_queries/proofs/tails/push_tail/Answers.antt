@@ -1,8 +1,8 @@
 use Rattle.std.proofs.Common.{◌≡◌, ◌∙◌, ◌<◌, ◌≤◌, [], ℕ, List, Option, Some, unwrap_or, sym, ap, subst, arith}
 use Rattle.std.specs.Prelude.{slice_get}
 use Rattle.depot_base.specs.declared.update.Update.{Update}
-use Rattle.depot_virtual.specs.declared.Spot.{Spot}
-use Rattle.depot_virtual.specs.Spots.{IsSpotAt, spots}
+use Rattle.depot_order.specs.declared.chains.Spot.{Spot}
+use Rattle.depot_order.specs.Spots.{IsSpotAt, spots}
 use Rattle.depot_graph.specs.Causal.{causal_from_test}
 use Rattle.depot_graph.specs.Kept.{updates_in, prev_places}
 use Rattle.depot_graph.proofs.ChainLeaves.{at_within, prevs_are_earlier}

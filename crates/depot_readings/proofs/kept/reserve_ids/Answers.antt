@@ -1,5 +1,5 @@
 use Rattle.std.proofs.Common.{◌∙◌}
-use Rattle.depot_vouch.proofs.IdSlotLaws.{added_together}
+use Rattle.depot_kept.proofs.IdSlotLaws.{added_together}
 use Rattle.depot_readings.proofs.VoucherSteps.{room_more}
 use Rattle.depot_readings.proofs.kept.reserve_ids.Goals as goal
 

@@ -1,6 +1,6 @@
 use Rattle.std.proofs.Common.{◌≡◌, true, ◌∙◌}
 use Rattle.depot_base.specs.declared.update.NamedValue.{NamedValue}
-use Rattle.depot_values.specs.Values.{has_value_room}
+use Rattle.depot_kept.specs.Values.{has_value_room}
 use Rattle.depot_readings.proofs.AddingLaws.{each_next}
 use Rattle.depot_readings.proofs.kept.reserve_values.Goals as goal
 

@@ -1,5 +1,5 @@
 use Rattle.std.proofs.Common.{◌≡◌, ℕ, List, take}
-use Rattle.depot_values.specs.Values.{held_in}
+use Rattle.depot_kept.specs.Values.{held_in}
 use Rattle.depot_readings.specs.AddedValues.{HasRoomForAll}
 use Rattle.depot_readings.proofs.kept.reserve_values.Given as goal
 

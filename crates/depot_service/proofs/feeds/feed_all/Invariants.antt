@@ -1,8 +1,8 @@
 use Rattle.std.proofs.Common.{◌≡◌, length, false}
 use Rattle.depot_model.specs.Feeding.{feeding_from}
-use Rattle.depot_feeds.specs.Pieces.{at_work}
-use Rattle.depot_feeds.proofs.FedCalls.{IsLeftWith}
-use Rattle.depot_feeds.proofs.PieceLaws.{IsUnderWay}
+use Rattle.depot_streams.specs.Pieces.{at_work}
+use Rattle.depot_streams.proofs.FedCalls.{IsLeftWith}
+use Rattle.depot_streams.proofs.PieceLaws.{IsUnderWay}
 use Rattle.depot_service.proofs.feeds.feed_all.Given as goal
 
 abbrev pub invariant-loop-rest : goal.invariant-loop-rest

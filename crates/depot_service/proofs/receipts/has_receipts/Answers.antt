@@ -1,8 +1,8 @@
 use Rattle.std.proofs.Common.{[], subst}
 use Rattle.std.proofs.lemmas.Bool.{le-leb, leb-true}
 use Rattle.depot_base.proofs.GeneralLaws.{same_test}
-use Rattle.depot_receipts.specs.Books.{IsBookOf}
-use Rattle.depot_receipts.proofs.BookLaws.{goes_on}
+use Rattle.depot_queries.specs.Books.{IsBookOf}
+use Rattle.depot_queries.proofs.BookLaws.{goes_on}
 use Rattle.depot_service.proofs.receipts.has_receipts.Goals as goal
 
 -- a new book has read what precedes any updates

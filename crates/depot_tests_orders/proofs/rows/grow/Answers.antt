@@ -1,7 +1,7 @@
 use Rattle.std.proofs.Common.{◌≡◌, ◌+◌, ◌-◌, ◌<◌, ℕ, List, [], ◌∷◌, ◌++◌, length, refl, sym, ap, subst, arith}
 use Rattle.std.proofs.lemmas.List.{length-append}
-use Rattle.depot_clocks.specs.ChainItems.{ChainItem, IsChainItemAt, chain_length, number_of_chains}
-use Rattle.depot_clocks.proofs.ChainCounts.{chain_length-own, chain_length-other, number_of_chains-first, number_of_chains-later}
+use Rattle.depot_order.specs.ChainItems.{ChainItem, IsChainItemAt, chain_length, number_of_chains}
+use Rattle.depot_order.proofs.ChainCounts.{chain_length-own, chain_length-other, number_of_chains-first, number_of_chains-later}
 use Rattle.depot_base.proofs.GeneralLaws.{get_last}
 use Rattle.depot_tests_orders.proofs.rows.grow.Goals as goal
 

@@ -1,5 +1,5 @@
 use Rattle.std.proofs.Common.{◌≡◌, ◌+◌, ◌-◌, ◌<◌, ℕ, length}
-use Rattle.depot_clocks.specs.ChainItems.{IsChainItemAt, chain_length, number_of_chains}
+use Rattle.depot_order.specs.ChainItems.{IsChainItemAt, chain_length, number_of_chains}
 use Rattle.depot_tests_orders.proofs.rows.grow.Given as goal
 
 abbrev pub invariant-loop-place : goal.invariant-loop-place

@@ -1,5 +1,5 @@
 use Rattle.std.proofs.Common.{◌≡◌, ◌≤◌, ℕ, length}
-use Rattle.depot_clocks.specs.ChainItems.{chain_length, number_of_chains}
+use Rattle.depot_order.specs.ChainItems.{chain_length, number_of_chains}
 use Rattle.depot_tests_orders.proofs.rows.wide.Given as goal
 
 abbrev pub invariant-loop-chain : goal.invariant-loop-chain

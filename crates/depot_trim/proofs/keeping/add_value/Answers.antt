@@ -1,7 +1,7 @@
 use Rattle.std.proofs.Common.{◌∙◌, ℕ, List, false, Some, Ok, sym, ap, subst}
 use Rattle.sha2.specs.Sha256.{sha256}
 use Rattle.depot_base.specs.Sized.{IsValue}
-use Rattle.depot_values.specs.Values as values
+use Rattle.depot_kept.specs.Values as values
 use Rattle.depot_trim.proofs.KeptValues.{hashed, held_is_of, one_added}
 use Rattle.depot_trim.proofs.keeping.add_value.Goals as goal
 

@@ -7,7 +7,7 @@ use Rattle.depot_model.specs.Contents.{names_value}
 use Rattle.depot_model.specs.Journal.{accepted, has_id, held, is_wanted}
 use Rattle.depot_model.specs.Readers.{left_of}
 use Rattle.depot_model.specs.Texts.{id_of_update}
-use Rattle.depot_values.specs.Values as values
+use Rattle.depot_kept.specs.Values as values
 use Rattle.depot_trim.specs.Trimmings.{kept_of}
 use Rattle.depot_trim.proofs.KeptValues.{kept_alike, kept_are_left, none_wanted, wants_more}
 use Rattle.depot_trim.proofs.SoFar.{filter_next, map_at, whole}

@@ -1,5 +1,5 @@
 use Rattle.depot_model.proofs.BodyLaws.{IsStatement-from_signed}
-use Rattle.depot_fork.specs.Entries.{kept_signed}
+use Rattle.depot_kept.specs.Entries.{kept_signed}
 use Rattle.depot_accept.proofs.state.State.kept.Goals as goal
 
 pub encode_statement-requires : goal.encode_statement-requires

@@ -1,5 +1,5 @@
 use Rattle.std.proofs.Common.{◌∙◌, ap, map, List, ℕ, Option}
-use Rattle.depot_virtual.specs.Spots.{next_spot, spots}
+use Rattle.depot_order.specs.Spots.{next_spot, spots}
 use Rattle.depot_graph.specs.Kept.{updates_in, prev_places}
 use Rattle.depot_graph.proofs.AddLaws.{leaves_from, children_from}
 use Rattle.depot_graph.proofs.graph.Graph.addition_by.Goals as goal

@@ -1,5 +1,5 @@
 use Rattle.std.proofs.Common.{◌∙◌}
-use Rattle.depot_local.proofs.ReadLaws.{says_nothing}
+use Rattle.depot_queries.proofs.ReadLaws.{says_nothing}
 use Rattle.depot_trim.proofs.ReaderValues.{no_value_of, value_of}
 use Rattle.depot_trim.proofs.trimmed.Trimmed.value_of.Goals as goal
 

@@ -1,6 +1,0 @@
-pub mod ListLaws
-pub mod TableLaws
-pub mod NodesOfTraces
-pub mod WrongReads
-pub mod MetRecords
-pub mod NamedNodes

@@ -1,4 +1,0 @@
-pub mod Tables
-pub mod MetTexts
-pub mod TracedWorlds
-pub mod Lookups

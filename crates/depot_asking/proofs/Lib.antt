@@ -1,2 +1,0 @@
-pub mod AskedCalls
-pub mod AskedFaults

@@ -1,9 +1,0 @@
-pub mod BoundLaws
-pub mod ChoiceLaws
-pub mod ChosenLaws
-pub mod FarPlaces
-pub mod FarTexts
-pub mod LeafPuts
-pub mod SendTextLaws
-pub mod SentCalls
-pub mod WithinLaws

@@ -1,5 +1,0 @@
-use Rattle.depot_bounds.proofs.BoundLaws.{sends_front}
-use Rattle.depot_bounds.proofs.bound_laws.bounded_bundles_are_fronts.Goals as goal
-
-pub returns : goal.returns
-returns c = sends_front

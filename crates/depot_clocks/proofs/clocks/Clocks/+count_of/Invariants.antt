@@ -1,4 +1,0 @@
-use Rattle.depot_clocks.proofs.clocks.Clocks.+count_of.Given as goal
-
-abbrev pub decreases-count_of : goal.decreases-count_of
-decreases-count_of l = l.item

@@ -1,4 +1,0 @@
-use Rattle.depot_clocks.proofs.clocks.Clocks.+join_with.Given as goal
-
-abbrev pub decreases-join_with : goal.decreases-join_with
-decreases-join_with l = l.item

@@ -1,2 +1,0 @@
-pub mod ChainItems
-pub mod KeptRows

@@ -1,8 +1,0 @@
-use Rattle.std.proofs.Common.{Bool, false, Some, [], ap, ◌∙◌}
-use Rattle.depot_model.specs.Feeding.{passed}
-use Rattle.depot_feeds.specs.Pieces.{at_work}
-use Rattle.depot_feeds.specs.NodeCalls.{stream_by}
-use Rattle.depot_feeds.proofs.tally.Tally.take_end.Goals as goal
-
-pub returns-clause-takes : goal.returns-clause-takes
-returns-clause-takes c = λ J. c.pass.ensures.passes J ∙ ap (λ (m : Bool). passed c.args.count (record (at_work (stream_by c.args.self.now [] false) J) { ended = Some m })) c.says_more.ensures

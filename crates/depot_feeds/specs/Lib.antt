@@ -1,3 +1,0 @@
-pub mod NodeCalls
-pub mod Pieces
-pub mod Lasting

@@ -1,2 +1,0 @@
-pub mod FrameLengths
-pub mod WholeFrames

@@ -1,7 +1,0 @@
-use Rattle.depot_base.proofs.Combined.{prefix_free}
-use Rattle.depot_model.specs.Hello.{hello}
-use Rattle.depot_model.proofs.HelloLaws.{hello_lawful}
-use Rattle.depot_frames.proofs.hello_laws.hellos_are_prefix_free.Goals as goal
-
-pub returns : goal.returns
-returns c = λ v w x y fits_v fits_w e. prefix_free hello _ hello_lawful v w x y fits_v fits_w e

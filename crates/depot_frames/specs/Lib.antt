@@ -1,2 +1,0 @@
-pub mod FrameHeads
-pub mod Sendings

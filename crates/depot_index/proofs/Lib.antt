@@ -1,3 +1,0 @@
-pub mod ItemLists
-pub mod MendedLists
-pub mod ReadLists

@@ -1,0 +1,13 @@
+pub mod ValueSlotLaws
+pub mod KindLaws
+pub mod SettledLaws
+pub mod HeadLaws
+pub mod LinkLaws
+pub mod MarkLaws
+pub mod ListedPlaces
+pub mod KeepLaws
+pub mod FirstOpponents
+pub mod OpponentLaws
+pub mod HoldLaws
+pub mod ConvictedNodes
+pub mod IdSlotLaws

@@ -1,0 +1,15 @@
+pub mod ValueSlots
+pub mod Values
+pub mod Kinds
+pub mod Opponents
+pub mod Links
+pub mod Table
+pub mod PlacesLeft
+pub mod StatementMarks
+pub mod Settled
+pub mod Heads
+pub mod Entries
+pub mod Keeping
+pub mod Firsts
+pub mod VouchedView
+pub mod IdSlots

@@ -1,6 +1,0 @@
-use Rattle.std.proofs.Common.{◌≡◌, ◌*◌, take, true}
-use Rattle.depot_lanes.specs.Lanes.{all_leq}
-use Rattle.depot_lanes.proofs.skip_lanes.Given as goal
-
-abbrev pub invariant-loop-lane : goal.invariant-loop-lane
-invariant-loop-lane l = all_leq (take (l.lane * 8) l.a) (take (l.lane * 8) l.b) ≡ true

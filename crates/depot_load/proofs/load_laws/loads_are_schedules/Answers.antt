@@ -1,5 +1,0 @@
-use Rattle.depot_load.proofs.LoadFits.{is_schedule}
-use Rattle.depot_load.proofs.load_laws.loads_are_schedules.Goals as goal
-
-pub returns : goal.returns
-returns c = is_schedule

@@ -1,6 +1,0 @@
-use Rattle.std.proofs.Common.{◌≡◌}
-use Rattle.depot_load.specs.Loads.{exchange, steps}
-use Rattle.depot_load.proofs.making.all_exchanges.Given as goal
-
-abbrev pub invariant-loop-j : goal.invariant-loop-j
-invariant-loop-j l = l.draft ≡ steps exchange l.j l.initial.draft

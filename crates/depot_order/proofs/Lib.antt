@@ -1,0 +1,15 @@
+pub mod LaneLaws
+pub mod ItemPaths
+pub mod ChainCounts
+pub mod RowCounts
+pub mod EntryLaws
+pub mod RowMaking
+pub mod KeptCounts
+pub mod HowMany
+pub mod ChainLengths
+pub mod SpotPlaces
+pub mod Placing
+pub mod Tips
+pub mod ItemLists
+pub mod MendedLists
+pub mod ReadLists

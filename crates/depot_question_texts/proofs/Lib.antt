@@ -1,2 +1,0 @@
-pub mod QuestionLaws
-pub mod AnswerLaws

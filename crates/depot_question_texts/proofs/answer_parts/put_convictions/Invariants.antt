@@ -1,7 +1,0 @@
-use Rattle.std.proofs.Common.{◌≡◌, ◌++◌, take}
-use Rattle.std.specs.List.{flat_map}
-use Rattle.depot_question_texts.specs.QuestionAnswers.{conviction_at_text}
-use Rattle.depot_question_texts.proofs.answer_parts.put_convictions.Given as goal
-
-abbrev pub invariant-loop-conviction : goal.invariant-loop-conviction
-invariant-loop-conviction l = l.out ≡ l.fn.out ++ flat_map conviction_at_text.text (take l.conviction-index l.convictions)

@@ -1,7 +1,0 @@
-use Rattle.std.proofs.Common.{◌≡◌, ◌++◌, take}
-use Rattle.std.specs.List.{flat_map}
-use Rattle.depot_question_texts.specs.QuestionAnswers.{update_keys_text}
-use Rattle.depot_question_texts.proofs.answer_parts.put_updates.Given as goal
-
-abbrev pub invariant-loop-update : goal.invariant-loop-update
-invariant-loop-update l = l.out ≡ l.fn.out ++ flat_map update_keys_text.text (take l.update-index l.updates)

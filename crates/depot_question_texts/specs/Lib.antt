@@ -1,2 +1,0 @@
-pub mod QuestionTexts
-pub mod QuestionAnswers

@@ -1,7 +1,0 @@
-use Rattle.std.proofs.Common.{refl}
-use Rattle.depot_model.specs.Receipts.{numbers_rising}
-use Rattle.depot_receipts.proofs.book.Book.new.Goals as goal
-
-pub returns : goal.returns
-unfolding numbers_rising
-returns c = record { count = refl; holders = λ id long. c.new.ensures id }

@@ -1,5 +1,0 @@
-use Rattle.depot_receipts.proofs.BookLaws.{goes_on}
-use Rattle.depot_receipts.proofs.book_laws.books_go_on.Goals as goal
-
-pub returns : goal.returns
-returns c us more book b = goes_on us more book b

@@ -1,6 +1,0 @@
-use Rattle.std.proofs.Common.{◌≡◌, take}
-use Rattle.depot_model.specs.Receipts.{receipt_changes}
-use Rattle.depot_receipts.proofs.due.changes_of.Given as goal
-
-abbrev pub invariant-loop-id : goal.invariant-loop-id
-invariant-loop-id l = l.changes ≡ receipt_changes (take l.id-index l.ids)

@@ -1,5 +1,0 @@
-pub mod Books
-pub mod GivenReceipts
-pub mod Giving
-pub mod HolderLists
-pub mod RisingPlaces

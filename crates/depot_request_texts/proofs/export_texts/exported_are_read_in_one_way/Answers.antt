@@ -1,5 +1,0 @@
-use Rattle.depot_request_texts.proofs.ExportLaws.{handed_in_one_way}
-use Rattle.depot_request_texts.proofs.export_texts.exported_are_read_in_one_way.Goals as goal
-
-pub returns : goal.returns
-returns c = handed_in_one_way

@@ -1,5 +1,0 @@
-use Rattle.depot_request_texts.proofs.ExportLaws.{asked_in_one_way}
-use Rattle.depot_request_texts.proofs.export_texts.exports_are_read_in_one_way.Goals as goal
-
-pub returns : goal.returns
-returns c = asked_in_one_way

@@ -1,5 +1,0 @@
-use Rattle.depot_request_texts.proofs.ReplyLaws.{one_way}
-use Rattle.depot_request_texts.proofs.reply_laws.replies_are_read_in_one_way.Goals as goal
-
-pub returns : goal.returns
-returns c = one_way

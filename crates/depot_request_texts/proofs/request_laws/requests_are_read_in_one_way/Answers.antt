@@ -1,5 +1,0 @@
-use Rattle.depot_request_texts.proofs.RequestLaws.{one_way}
-use Rattle.depot_request_texts.proofs.request_laws.requests_are_read_in_one_way.Goals as goal
-
-pub returns : goal.returns
-returns c = one_way

@@ -1,6 +1,0 @@
-pub mod Hearing
-pub mod Answering
-pub mod Serving
-pub mod FirstMessages
-pub mod ServerRuns
-pub mod Staying

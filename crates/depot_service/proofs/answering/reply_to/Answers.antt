@@ -1,0 +1,24 @@
+use Rattle.std.proofs.Common.{◌≡◌, ℕ, List, Ok}
+use Rattle.std.proofs.lemmas.Result.{err_from_is_err_and}
+use Rattle.depot_requests.specs.declared.reply.Halt.TheVariants as halt
+use Rattle.depot_service.proofs.AskedCalls.{no_text, replies, request_halted, request_never_stopped, request_replied}
+use Rattle.depot_service.proofs.answering.reply_to.Goals as goal
+
+was_written : (text : List ℕ) → Ok text ≡ no_text halt.Disk → ⊥
+was_written text wrong = cc
+
+pub returns-in_err-reply-clause-call : goal.returns-in_err-reply-clause-call
+returns-in_err-reply-clause-call g c =
+    let p = err_from_is_err_and c.from_residual.result c.from_residual.ensures.1 in
+    rw (p.1, p.2) (request_halted g.N.NodeState c.args.node.now c.serve.new.node c.args.request c.in_err-reply.field-0.0 c.requires.running c.in_err-reply.ensures.call)
+
+pub returns-in_err-reply-clause-runs : goal.returns-in_err-reply-clause-runs
+returns-in_err-reply-clause-runs g c =
+    let p = err_from_is_err_and c.from_residual.result c.from_residual.ensures.1 in
+    rw (p.1, p.2) (request_never_stopped g.N.NodeState c.args.node.now c.serve.new.node c.args.request c.in_err-reply.field-0.0 c.requires.running c.in_err-reply.ensures.call)
+
+pub returns-clause-answers : goal.returns-clause-answers
+returns-clause-answers g c = replies (g.N.NodeState.records c.serve.new.node) _ c.in_ok-reply.reply _ c.in_ok-reply.ensures.serves c.in_ok-encode_reply.ensures
+
+pub returns-clause-call : goal.returns-clause-call
+returns-clause-call g c = request_replied g.N.NodeState c.args.node.now c.serve.new.node c.args.request c.in_ok-reply.reply _ (λ is. was_written _ is) c.requires.running c.in_ok-reply.ensures.call

@@ -1,0 +1,10 @@
+pub mod FrameLengths
+pub mod WholeFrames
+pub mod LawfulCalls
+pub mod ChunkLaws
+pub mod FeedRecords
+pub mod FrameGrowth
+pub mod GivenLaws
+pub mod LastingStreams
+pub mod PieceLaws
+pub mod FedCalls

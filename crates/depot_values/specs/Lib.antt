@@ -1,2 +1,0 @@
-pub mod ValueSlots
-pub mod Values

@@ -1,4 +1,0 @@
-pub mod ChainLengths
-pub mod SpotPlaces
-pub mod Placing
-pub mod Tips

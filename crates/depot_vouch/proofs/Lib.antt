@@ -1,2 +1,0 @@
-pub mod ConvictedNodes
-pub mod IdSlotLaws

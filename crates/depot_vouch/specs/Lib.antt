@@ -1,2 +1,0 @@
-pub mod VouchedView
-pub mod IdSlots
