@@ -10,11 +10,11 @@ use Rattle.depot_base.specs.declared.check.Check.TheVariants as check
 use Rattle.depot_base.specs.declared.record.Record.{Record}
 use Rattle.depot_base.specs.declared.statement.Signed.{Signed}
 use Rattle.depot_model.specs.declared.taken.Taken.TheVariants.{Known}
-use Rattle.depot_model.specs.Lists.{first}
-use Rattle.depot_model.specs.Pruning.{checks_to_signature}
-use Rattle.depot_model.specs.Texts.{id_of_statement}
-use Rattle.depot_model.specs.Roster.{Verifies, key_of, has_node, is_signed}
-use Rattle.depot_model.specs.Checks.{Setting, given_statement, is_kept, statement_checks, first_failed_check, is_known, answer_by, answer_to, exposed, growth_by, growth}
+use Rattle.depot_model.specs.lists.Lists.{first}
+use Rattle.depot_model.specs.readers.Pruning.{checks_to_signature}
+use Rattle.depot_model.specs.texts.Texts.{id_of_statement}
+use Rattle.depot_model.specs.texts.Roster.{Verifies, key_of, has_node, is_signed}
+use Rattle.depot_model.specs.checks.Checks.{Setting, given_statement, is_kept, statement_checks, first_failed_check, is_known, answer_by, answer_to, exposed, growth_by, growth}
 use Rattle.depot_kept.specs.declared.seen_statements.Found.{Found}
 use Rattle.depot_accept.specs.StateView.{View, setting}
 use Rattle.depot_accept.specs.CheckResults.{AreDue, IsNew, IsChecked}

@@ -3,9 +3,9 @@ use Rattle.std.proofs.Common.{◌≡◌, List, [], ◌∷◌, ◌++◌, map, Som
 use Rattle.std.specs.Prelude.{Option}
 use Rattle.depot_base.specs.declared.check.Check.{Check}
 use Rattle.depot_base.specs.declared.update.Update.{Update}
-use Rattle.depot_model.specs.Lists.{first}
-use Rattle.depot_model.specs.Journal.{prev_of}
-use Rattle.depot_model.specs.Checks.{Sight, sight, content_checks, missing, wrong_prev, wrong_entries, wrong_dep, behind, backward, clock_low, clock_far, bad_history}
+use Rattle.depot_model.specs.lists.Lists.{first}
+use Rattle.depot_model.specs.journals.Journal.{prev_of}
+use Rattle.depot_model.specs.checks.Checks.{Sight, sight, content_checks, missing, wrong_prev, wrong_entries, wrong_dep, behind, backward, clock_low, clock_far, bad_history}
 use Rattle.depot_accept.specs.Content.{checks_of_parents}
 use Rattle.depot_accept.proofs.FirstFound.{first_front, first_behind, first_one, first_now, first_later}
 use Rattle.depot_accept.proofs.NamedUpdates.{first_prev}

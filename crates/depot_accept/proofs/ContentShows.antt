@@ -6,8 +6,8 @@ use Rattle.depot_base.specs.declared.check.Check.{Check}
 use Rattle.depot_base.specs.declared.check.Check.TheVariants as check
 use Rattle.depot_base.specs.declared.update.Dep.{Dep}
 use Rattle.depot_base.specs.declared.update.Update.{Update}
-use Rattle.depot_model.specs.Checks.{Sight, lost, wrong_prev, wrong_entry, wrong_entries, behind, not_above, content_checks}
-use Rattle.depot_model.proofs.FirstLaws.{Shows, shows_when, shows_map, shows_append, shows_first}
+use Rattle.depot_model.specs.checks.Checks.{Sight, lost, wrong_prev, wrong_entry, wrong_entries, behind, not_above, content_checks}
+use Rattle.depot_model.proofs.lists.FirstLaws.{Shows, shows_when, shows_map, shows_append, shows_first}
 
 -- it holds of each kind of check of the content
 pub record HoldsOfContent (P : Check → Type 0) : Type 0 where

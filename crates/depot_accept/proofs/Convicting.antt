@@ -4,10 +4,10 @@ use Rattle.std.specs.List.{AllByRecursion}
 use Rattle.std.specs.Prelude.{Some, is_some}
 use Rattle.std.proofs.lemmas.Bool.Decides.{nat_tests}
 use Rattle.depot_base.specs.declared.key.RosterEntry.{RosterEntry}
-use Rattle.depot_model.specs.Lists.{IsIn, is_one_of}
-use Rattle.depot_model.specs.Items.{AreDistinct}
-use Rattle.depot_model.specs.Roster.{key_of, has_node}
-use Rattle.depot_model.proofs.Members.{all_at, all_from, any_from, in_pushed}
+use Rattle.depot_model.specs.lists.Lists.{IsIn, is_one_of}
+use Rattle.depot_model.specs.lists.Items.{AreDistinct}
+use Rattle.depot_model.specs.texts.Roster.{key_of, has_node}
+use Rattle.depot_model.proofs.lists.Members.{all_at, all_from, any_from, in_pushed}
 use Rattle.depot_kept.specs.VouchedView.{with_node}
 use Rattle.depot_accept.specs.Convicts.{AreConvicts}
 

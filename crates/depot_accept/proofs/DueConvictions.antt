@@ -13,18 +13,18 @@ use Rattle.depot_base.specs.declared.statement.Statement.{Statement}
 use Rattle.depot_base.specs.declared.statement.Statement.TheVariants as statements
 use Rattle.depot_base.specs.declared.update.Update.{Update}
 use Rattle.depot_base.specs.declared.voucher.Voucher.{Voucher}
-use Rattle.depot_model.specs.Items.{AreItemsOf}
-use Rattle.depot_model.specs.Lists.{first, is_among, is_one_of}
-use Rattle.depot_model.specs.Order.{parents}
-use Rattle.depot_model.specs.Texts.{id_of_statement, id_of_update}
-use Rattle.depot_model.specs.Journal.{foreign, vouched, is_convicted, is_vouched}
-use Rattle.depot_model.specs.Conviction.{proof_of}
-use Rattle.depot_model.specs.Checks.{given_statement, sight, content_checks, content_of, opponent, named_opponent, due, added, exposed}
+use Rattle.depot_model.specs.lists.Items.{AreItemsOf}
+use Rattle.depot_model.specs.lists.Lists.{first, is_among, is_one_of}
+use Rattle.depot_model.specs.updates.Order.{parents}
+use Rattle.depot_model.specs.texts.Texts.{id_of_statement, id_of_update}
+use Rattle.depot_model.specs.journals.Journal.{foreign, vouched, is_convicted, is_vouched}
+use Rattle.depot_model.specs.updates.Conviction.{proof_of}
+use Rattle.depot_model.specs.checks.Checks.{given_statement, sight, content_checks, content_of, opponent, named_opponent, due, added, exposed}
 use Rattle.depot_kept.specs.declared.seen_statements.Found.{Found}
 use Rattle.depot_kept.specs.Opponents.{IsContradiction}
 use Rattle.std.proofs.Math.Bool.{or-false}
-use Rattle.depot_model.proofs.DueLaws.{none_due, no_fork_vouched, no_fork_alone}
-use Rattle.depot_model.proofs.BodyLaws.{update_id}
+use Rattle.depot_model.proofs.of_updates.DueLaws.{none_due, no_fork_vouched, no_fork_alone}
+use Rattle.depot_model.proofs.of_texts.BodyLaws.{update_id}
 use Rattle.depot_accept.specs.StateView.{View, IsStateOf}
 use Rattle.depot_accept.specs.CheckResults.{AreDue, IsUpdateBehind}
 use Rattle.depot_accept.specs.AfterSignature.{IsOpponent, failed_after_signature, Passes, IsCheckedAfterSignature}

@@ -1,7 +1,7 @@
 -- The first element of several lists in turn, if there is one.
 use Rattle.std.proofs.Common.{◌≡◌, List, [], ◌∷◌, ◌++◌, Some, None, refl}
 use Rattle.std.specs.Prelude.{Option}
-use Rattle.depot_model.specs.Lists.{first}
+use Rattle.depot_model.specs.lists.Lists.{first}
 
 -- ---- one list after another
 

@@ -10,10 +10,10 @@ use Rattle.depot_base.specs.declared.statement.Statement.{Statement}
 use Rattle.depot_base.specs.declared.statement.Statement.TheVariants as statements
 use Rattle.depot_base.specs.declared.update.Update.{Update}
 use Rattle.depot_base.specs.declared.voucher.Voucher.{Voucher}
-use Rattle.depot_model.specs.Lists.{first}
-use Rattle.depot_model.specs.Texts.{id_of_statement}
-use Rattle.depot_model.specs.Journal.{foreign, is_convicted, is_vouched}
-use Rattle.depot_model.specs.Checks.{content_of, opponent, forked_by, forked, refused_as_convicted}
+use Rattle.depot_model.specs.lists.Lists.{first}
+use Rattle.depot_model.specs.texts.Texts.{id_of_statement}
+use Rattle.depot_model.specs.journals.Journal.{foreign, is_convicted, is_vouched}
+use Rattle.depot_model.specs.checks.Checks.{content_of, opponent, forked_by, forked, refused_as_convicted}
 use Rattle.depot_accept.specs.AfterSignature.{failed_after_signature}
 use Rattle.depot_accept.proofs.FirstFound.{first_front, first_behind, first_one, first_now, first_later}
 

@@ -11,12 +11,12 @@ use Rattle.depot_base.specs.declared.check.Check.{Check}
 use Rattle.depot_base.specs.declared.check.Check.TheVariants as check
 use Rattle.depot_base.specs.declared.update.Dep.{Dep}
 use Rattle.depot_base.specs.declared.update.Update.{Update}
-use Rattle.depot_model.specs.Lists.{first}
-use Rattle.depot_model.specs.Texts.{id_of_update}
-use Rattle.depot_model.specs.Journal.{named, prev_of}
-use Rattle.depot_model.specs.Items.{place_of_id}
-use Rattle.depot_model.specs.Order.{parents}
-use Rattle.depot_model.specs.Checks.{sight, lost, wrong_entry, wrong_entries}
+use Rattle.depot_model.specs.lists.Lists.{first}
+use Rattle.depot_model.specs.texts.Texts.{id_of_update}
+use Rattle.depot_model.specs.journals.Journal.{named, prev_of}
+use Rattle.depot_model.specs.lists.Items.{place_of_id}
+use Rattle.depot_model.specs.updates.Order.{parents}
+use Rattle.depot_model.specs.checks.Checks.{sight, lost, wrong_entry, wrong_entries}
 use Rattle.depot_graph.proofs.ItemPlaces.{has_place}
 use Rattle.depot_base.proofs.GeneralLaws.{when_none}
 use Rattle.depot_accept.proofs.FirstFound.{first_one}

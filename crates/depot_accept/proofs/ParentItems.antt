@@ -14,13 +14,13 @@ use Rattle.depot_base.specs.declared.check.Check.{Check}
 use Rattle.depot_base.specs.declared.check.Check.TheVariants as check
 use Rattle.depot_base.specs.declared.update.Dep.{Dep}
 use Rattle.depot_base.specs.declared.update.Update.{Update}
-use Rattle.depot_model.specs.Lists.{when, first}
-use Rattle.depot_model.specs.Texts.{id_of_update}
-use Rattle.depot_model.specs.Order.{prevs, parents}
-use Rattle.depot_model.specs.History.{history_hash}
-use Rattle.depot_model.specs.Journal.{named, prev_of}
-use Rattle.depot_model.specs.Items.{at, place_of_id, updates_at, places_of, AreItemsOf}
-use Rattle.depot_model.specs.Checks.{Sight, sight, lost, missing, not_above, clock_low, greatest_of, clock_far, bad_history}
+use Rattle.depot_model.specs.lists.Lists.{when, first}
+use Rattle.depot_model.specs.texts.Texts.{id_of_update}
+use Rattle.depot_model.specs.updates.Order.{prevs, parents}
+use Rattle.depot_model.specs.updates.History.{history_hash}
+use Rattle.depot_model.specs.journals.Journal.{named, prev_of}
+use Rattle.depot_model.specs.lists.Items.{at, place_of_id, updates_at, places_of, AreItemsOf}
+use Rattle.depot_model.specs.checks.Checks.{Sight, sight, lost, missing, not_above, clock_low, greatest_of, clock_far, bad_history}
 use Rattle.depot_graph.specs.Closure.{reached, closure_of}
 use Rattle.depot_graph.proofs.ItemPlaces.{has_place, places_within}
 use Rattle.depot_graph.proofs.Reaching.{past_is_reached}

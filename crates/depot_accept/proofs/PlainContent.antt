@@ -7,13 +7,13 @@ use Rattle.depot_base.specs.declared.statement.Signed.{Signed}
 use Rattle.depot_base.specs.declared.statement.Statement.{Statement}
 use Rattle.depot_base.specs.declared.statement.Statement.TheVariants as statements
 use Rattle.depot_base.specs.declared.update.Update.{Update}
-use Rattle.depot_model.specs.Lists.{first}
-use Rattle.depot_model.specs.Texts.{update_body, update_fields, IsUpdate, IsStatement, IsSigned}
-use Rattle.depot_model.specs.Checks.{Sight, content_checks}
-use Rattle.depot_model.proofs.BodyLaws.{IsUpdate-from_statement, IsStatement-from_signed}
+use Rattle.depot_model.specs.lists.Lists.{first}
+use Rattle.depot_model.specs.texts.Texts.{update_body, update_fields, IsUpdate, IsStatement, IsSigned}
+use Rattle.depot_model.specs.checks.Checks.{Sight, content_checks}
+use Rattle.depot_model.proofs.of_texts.BodyLaws.{IsUpdate-from_statement, IsStatement-from_signed}
 use Rattle.depot_accept.specs.Content.{TellsNoFork}
 use Rattle.depot_accept.proofs.ContentShows.{HoldsOfContent, shows_content}
-use Rattle.depot_model.proofs.FirstLaws.{shows_first}
+use Rattle.depot_model.proofs.lists.FirstLaws.{shows_first}
 
 -- an update that was signed has at most 1,024 entries
 pub few_deps : (s : Signed) (u : Update) → IsSigned s → s.statement ≡ statements.Update u → length u.deps ≤ 1024

@@ -9,8 +9,8 @@ use Rattle.depot_base.specs.declared.proof.Kind.{Kind}
 use Rattle.depot_base.specs.declared.record.Record.{Record}
 use Rattle.depot_base.specs.declared.record.Record.TheVariants.{Foreign}
 use Rattle.depot_base.specs.declared.check.Check.{Check}
-use Rattle.depot_model.specs.Lists.{first}
-use Rattle.depot_model.specs.Checks.{given_statement, content_of, forked, refused_as_convicted, added, exposed}
+use Rattle.depot_model.specs.lists.Lists.{first}
+use Rattle.depot_model.specs.checks.Checks.{given_statement, content_of, forked, refused_as_convicted, added, exposed}
 use Rattle.depot_kept.specs.declared.seen_statements.Found.{Found}
 use Rattle.depot_accept.specs.CheckResults.{AreDue, IsUpdateBehind}
 use Rattle.depot_accept.specs.declared.answer.Pass.{Pass}

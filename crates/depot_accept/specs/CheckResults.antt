@@ -7,11 +7,11 @@ use Rattle.depot_base.specs.declared.voucher.Voucher.{Voucher}
 use Rattle.depot_base.specs.declared.record.Record.{Record}
 use Rattle.depot_base.specs.declared.record.Record.TheVariants.{Foreign, Conviction}
 use Rattle.depot_model.specs.declared.taken.Taken.TheVariants.{New, Known}
-use Rattle.depot_model.specs.Checks.{Setting, given_statement, answer_to, growth}
-use Rattle.depot_model.specs.Conviction.{proof_of}
-use Rattle.depot_model.specs.Items.{AreItemsOf}
-use Rattle.depot_model.specs.Journal.{accepted, foreign}
-use Rattle.depot_model.specs.Order.{parents}
+use Rattle.depot_model.specs.checks.Checks.{Setting, given_statement, answer_to, growth}
+use Rattle.depot_model.specs.updates.Conviction.{proof_of}
+use Rattle.depot_model.specs.lists.Items.{AreItemsOf}
+use Rattle.depot_model.specs.journals.Journal.{accepted, foreign}
+use Rattle.depot_model.specs.updates.Order.{parents}
 use Rattle.depot_kept.specs.declared.seen_statements.Found.{Found}
 use Rattle.depot_graph.specs.UpdateRows.{IsJoinedRow}
 use Rattle.depot_accept.specs.declared.answer.Parents.{Parents}

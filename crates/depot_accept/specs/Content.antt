@@ -3,10 +3,10 @@ use Rattle.std.specs.Prelude.{◌≡◌, List, [], ◌∷◌, Option, Some, None
 use Rattle.depot_base.specs.declared.check.Check.{Check}
 use Rattle.depot_base.specs.declared.check.Check.TheVariants as check
 use Rattle.depot_base.specs.declared.update.Update.{Update}
-use Rattle.depot_model.specs.Checks.{Sight, sight, content_checks, wrong_dep, backward, clock_low, clock_far}
-use Rattle.depot_model.specs.Items.{AreItemsOf}
-use Rattle.depot_model.specs.Lists.{first}
-use Rattle.depot_model.specs.Order.{parents}
+use Rattle.depot_model.specs.checks.Checks.{Sight, sight, content_checks, wrong_dep, backward, clock_low, clock_far}
+use Rattle.depot_model.specs.lists.Items.{AreItemsOf}
+use Rattle.depot_model.specs.lists.Lists.{first}
+use Rattle.depot_model.specs.updates.Order.{parents}
 use Rattle.depot_graph.specs.UpdateRows.{IsJoinedRow}
 use Rattle.depot_accept.specs.declared.content.Content.{Content}
 use Rattle.depot_accept.specs.declared.content.Content.TheVariants as content

@@ -1,9 +1,9 @@
 -- Who is convicted.
 use Rattle.std.specs.Prelude.{◌≡◌, ℕ, List, length, true}
 use Rattle.depot_base.specs.declared.key.RosterEntry.{RosterEntry}
-use Rattle.depot_model.specs.Lists.{IsIn}
-use Rattle.depot_model.specs.Items.{AreDistinct}
-use Rattle.depot_model.specs.Roster.{has_node}
+use Rattle.depot_model.specs.lists.Lists.{IsIn}
+use Rattle.depot_model.specs.lists.Items.{AreDistinct}
+use Rattle.depot_model.specs.texts.Roster.{has_node}
 
 -- They are nodes of the roster, each once, and as many may be convicted as the roster has.
 pub record AreConvicts (listed : List RosterEntry) (convicted : List ℕ) (room : ℕ) : Type 0 where

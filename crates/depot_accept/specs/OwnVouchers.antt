@@ -5,7 +5,7 @@ use Rattle.std.specs.Str.{bytes_eq}
 use Rattle.std.specs.Vec.{vec_capacity}
 use Rattle.depot_base.specs.declared.voucher.Voucher.{Voucher}
 use Rattle.depot_base.specs.declared.statement.Statement.TheVariants as statements
-use Rattle.depot_model.specs.Texts.{IsStatement, text_of_statement}
+use Rattle.depot_model.specs.texts.Texts.{IsStatement, text_of_statement}
 
 -- whether a voucher has the same body as this one
 abbrev pub has_body_of_voucher : Voucher → Voucher → Bool

@@ -8,11 +8,11 @@ use Rattle.depot_base.specs.declared.statement.Statement.TheVariants as statemen
 use Rattle.depot_base.specs.declared.statement.Signed.{Signed}
 use Rattle.depot_base.specs.declared.key.RosterEntry.{RosterEntry}
 use Rattle.depot_base.specs.declared.record.Record.{Record}
-use Rattle.depot_model.specs.Lists.{is_among, is_one_of}
-use Rattle.depot_model.specs.Journal.{accepted, foreign, vouched, is_convicted}
-use Rattle.depot_model.specs.Vouching.{own_voucher_by}
-use Rattle.depot_model.specs.Checks.{Setting}
-use Rattle.depot_model.specs.Roster.{Verifies}
+use Rattle.depot_model.specs.lists.Lists.{is_among, is_one_of}
+use Rattle.depot_model.specs.journals.Journal.{accepted, foreign, vouched, is_convicted}
+use Rattle.depot_model.specs.checks.Vouching.{own_voucher_by}
+use Rattle.depot_model.specs.checks.Checks.{Setting}
+use Rattle.depot_model.specs.texts.Roster.{Verifies}
 
 -- What is seen: the node's own number, its roster and its scheme, and what the checks look at.
 pub record View (S : Type 0) : Type 0 where

@@ -4,9 +4,9 @@ use Rattle.depot_base.specs.declared.check.Check.{Check}
 use Rattle.depot_base.specs.declared.record.Record.{Record}
 use Rattle.depot_base.specs.declared.statement.Signed.{Signed}
 use Rattle.depot_model.specs.declared.taken.Taken.TheVariants.{Known}
-use Rattle.depot_model.specs.Checks.{Setting, given_statement, is_known, answer_by, answer_to, growth}
-use Rattle.depot_model.specs.Lists.{first}
-use Rattle.depot_model.specs.Pruning.{checks_to_signature}
+use Rattle.depot_model.specs.checks.Checks.{Setting, given_statement, is_known, answer_by, answer_to, growth}
+use Rattle.depot_model.specs.lists.Lists.{first}
+use Rattle.depot_model.specs.readers.Pruning.{checks_to_signature}
 use Rattle.depot_accept.specs.AfterSignature.{failed_after_signature}
 use Rattle.depot_accept.specs.declared.answer.Front.{Front}
 use Rattle.depot_accept.specs.declared.answer.Front.TheVariants as front

@@ -6,11 +6,11 @@ ghost use Rattle.std.specs.Prelude.{◌≡◌, ◌<◌, ◌≤◌, ◌+◌, ◌+
 ghost use Rattle.std.specs.List.{AllByRecursion};
 ghost use Rattle.std.specs.Option.{option_copied, option_to_list};
 ghost use Rattle.depot_base.specs.declared.limits.TheConstants.{MOST_ENTRIES};
-ghost use Rattle.depot_model.specs.Lists.{first};
-ghost use Rattle.depot_model.specs.Order.{prevs, parents as parents_of};
-ghost use Rattle.depot_model.specs.Journal.{named, prev_of};
-ghost use Rattle.depot_model.specs.Items.{place_of_id, updates_at, places_of, AreItemsOf};
-ghost use Rattle.depot_model.specs.Checks.{sight, lost, missing, wrong_prev, wrong_entry, wrong_entries, wrong_dep, behind, clock_low, greatest_of, clock_far, bad_history};
+ghost use Rattle.depot_model.specs.lists.Lists.{first};
+ghost use Rattle.depot_model.specs.updates.Order.{prevs, parents as parents_of};
+ghost use Rattle.depot_model.specs.journals.Journal.{named, prev_of};
+ghost use Rattle.depot_model.specs.lists.Items.{place_of_id, updates_at, places_of, AreItemsOf};
+ghost use Rattle.depot_model.specs.checks.Checks.{sight, lost, missing, wrong_prev, wrong_entry, wrong_entries, wrong_dep, behind, clock_low, greatest_of, clock_far, bad_history};
 ghost use Rattle.depot_graph.specs.UpdateRows.{IsJoinedRow};
 ghost use Rattle.depot_accept.specs.Content.{checks_of_parents, IsContentOf};
 

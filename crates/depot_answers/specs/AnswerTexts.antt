@@ -15,19 +15,19 @@ use Rattle.depot_model.specs.declared.bundle.Counts.{Counts}
 use Rattle.depot_model.specs.declared.bundle.Refusal.{Refusal}
 use Rattle.depot_model.specs.declared.bundle.Report.{Report}
 use Rattle.depot_model.specs.declared.hello.Hello.{Hello}
-use Rattle.depot_model.specs.Audit.{Op, the_write, the_read, Finding, yes_found, unlawful, answer_found, circle_found, unordered_found, unseen_found, wrong_found, split_found, named_found}
-use Rattle.depot_model.specs.Contents.{Sighting, held_value, not_held, gone}
-use Rattle.depot_model.specs.Feeding.{Feeding, Closing, ill_formed, out_of_room, report_of}
+use Rattle.depot_model.specs.worlds.Audit.{Op, the_write, the_read, Finding, yes_found, unlawful, answer_found, circle_found, unordered_found, unseen_found, wrong_found, split_found, named_found}
+use Rattle.depot_model.specs.texts.Contents.{Sighting, held_value, not_held, gone}
+use Rattle.depot_model.specs.exchange.Feeding.{Feeding, Closing, ill_formed, out_of_room, report_of}
 use Rattle.depot_model.specs.declared.bundle.Ending.{Ending}
 use Rattle.depot_model.specs.declared.bundle.Ending.TheVariants as ending
-use Rattle.depot_model.specs.Limits.{Limit, spent, tips, collides, full}
-use Rattle.depot_model.specs.Journal.{accepted}
-use Rattle.depot_model.specs.Lines.{name_of_kind}
-use Rattle.depot_model.specs.Opening.{Opened, ill_at, of_roster, with_unknown, opened}
-use Rattle.depot_model.specs.ReaderFeeds.{ReaderFeed}
-use Rattle.depot_model.specs.Readers.{kept, TrimAnswer, unopened, unsigned, reading}
-use Rattle.depot_model.specs.Receipts.{NoReceipt, unknown, lacks_value}
-use Rattle.depot_model.specs.World.{Shown}
+use Rattle.depot_model.specs.checks.Limits.{Limit, spent, tips, collides, full}
+use Rattle.depot_model.specs.journals.Journal.{accepted}
+use Rattle.depot_model.specs.texts.Lines.{name_of_kind}
+use Rattle.depot_model.specs.readers.Opening.{Opened, ill_at, of_roster, with_unknown, opened}
+use Rattle.depot_model.specs.readers.ReaderFeeds.{ReaderFeed}
+use Rattle.depot_model.specs.readers.Readers.{kept, TrimAnswer, unopened, unsigned, reading}
+use Rattle.depot_model.specs.worlds.Receipts.{NoReceipt, unknown, lacks_value}
+use Rattle.depot_model.specs.worlds.World.{Shown}
 use Rattle.depot_lines.specs.declared.line_fault.LineFault.{LineFault}
 use Rattle.depot_lines.specs.declared.line_fault.LineFault.TheVariants as line_fault
 

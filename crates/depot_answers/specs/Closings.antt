@@ -2,8 +2,8 @@
 use Rattle.std.specs.Prelude.{Option, Some, None}
 use Rattle.depot_answers.specs.declared.exchange_answers.Closing.{Closing}
 use Rattle.depot_answers.specs.declared.exchange_answers.Closing.TheVariants.{IllFormed, Full}
-use Rattle.depot_model.specs.Feeding.{ill_formed, out_of_room}
-use Rattle.depot_model.specs.Feeding as feeding
+use Rattle.depot_model.specs.exchange.Feeding.{ill_formed, out_of_room}
+use Rattle.depot_model.specs.exchange.Feeding as feeding
 
 -- what that is for a feed
 abbrev pub closing_of : Option Closing → Option feeding.Closing

@@ -1,7 +1,7 @@
 -- What a reader counted of a stream, as a caller says it.
 use Rattle.std.specs.Prelude.{◌≡◌, ◌++◌, ℕ, List, Option}
 use Rattle.depot_base.specs.declared.check.Full.{Full}
-use Rattle.depot_model.specs.ReaderFeeds.{ReaderFeed}
+use Rattle.depot_model.specs.readers.ReaderFeeds.{ReaderFeed}
 use Rattle.depot_answers.specs.AnswerTexts.{text_of_reader_feed}
 use Rattle.depot_answers.specs.declared.reader_answers.ReaderCounts.{ReaderCounts}
 

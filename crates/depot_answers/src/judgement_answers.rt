@@ -1,6 +1,6 @@
 //! What a judge answers, and where a roster goes wrong.
 ghost use Rattle.std.specs.Prelude.{◌≡◌, ◌++◌, OnOk};
-ghost use Rattle.depot_model.specs.Lines.{name_of_half, text_of_point, text_of_roster_error, text_of_verdict};
+ghost use Rattle.depot_model.specs.texts.Lines.{name_of_half, text_of_point, text_of_roster_error, text_of_verdict};
 
 use crate::words::{numbered, numbered_node, text, two_words};
 use depot_base::{Bytes, Memory, NodeId};

@@ -1,7 +1,7 @@
 //! The text that is printed of each answer: of a put and a read, a refusal, an exchange of two nodes, a judgement.
 //!
 //! Each function appends one text to the bytes so far: the one that `specs/AnswerTexts.antt` or
-//! `depot_model/specs/Lines.antt` defines for that answer, without LF. On `Memory` a prefix of it may have been
+//! `depot_model/specs/texts/Lines.antt` defines for that answer, without LF. On `Memory` a prefix of it may have been
 //! appended.
 //!
 //! `checks` has failed checks and refusals, `limit_answers` the limits that a node meets, `journal_answers` puts, reads

@@ -1,6 +1,6 @@
 //! The limits that what a node writes may meet.
 ghost use Rattle.std.specs.Prelude.{◌≡◌, ℕ, List, ◌++◌, OnOk};
-ghost use Rattle.depot_model.specs.Limits.{spent, tips, collides};
+ghost use Rattle.depot_model.specs.checks.Limits.{spent, tips, collides};
 ghost use Rattle.depot_answers.specs.AnswerTexts.{name_of_full, text_of_full, text_of_limit};
 
 use crate::words::{numbered, text};

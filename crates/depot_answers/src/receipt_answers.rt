@@ -1,6 +1,6 @@
 //! Why no receipt is given, and whether a put is settled.
 ghost use Rattle.std.specs.Prelude.{◌≡◌, ℕ, List, ◌++◌, OnOk};
-ghost use Rattle.depot_model.specs.Receipts.{unknown, lacks_value};
+ghost use Rattle.depot_model.specs.worlds.Receipts.{unknown, lacks_value};
 ghost use Rattle.depot_answers.specs.AnswerTexts.{name_of_settled, text_of_no_receipt};
 
 use crate::words::text;

@@ -6,9 +6,9 @@ use Rattle.std.specs.Option.{option_or}
 use Rattle.std.proofs.lemmas.Iterator.Adapters.{position_from-zero}
 use Rattle.std.proofs.lemmas.List.{map-append, length-take-le}
 use Rattle.depot_base.proofs.GeneralLaws.{take_next}
-use Rattle.depot_model.specs.Lists.{first}
-use Rattle.depot_model.proofs.Members.{in_parts}
-use Rattle.depot_laws.proofs.FirstOfRow.{no_place_from, no_place_to}
+use Rattle.depot_model.specs.lists.Lists.{first}
+use Rattle.depot_model.proofs.lists.Members.{in_parts}
+use Rattle.depot_laws.proofs.lists.FirstOfRow.{no_place_from, no_place_to}
 use Rattle.depot_audit.specs.MetTexts.{ArePairs}
 
 -- a test of what each gives is a test of each

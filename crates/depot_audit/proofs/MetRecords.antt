@@ -10,18 +10,18 @@ use Rattle.depot_base.specs.declared.statement.Statement.TheVariants as statemen
 use Rattle.depot_base.specs.declared.update.Update.{Update}
 use Rattle.depot_base.specs.declared.voucher.Voucher.{Voucher}
 use Rattle.depot_base.proofs.GeneralLaws.{flat_push}
-use Rattle.depot_model.specs.Causality.{puts_of}
-use Rattle.depot_model.specs.Journal.{accepted, accepted_by, update_in, value_by}
-use Rattle.depot_model.specs.Lists.{IsIn}
-use Rattle.depot_model.specs.Records.{IsRecord}
-use Rattle.depot_model.specs.Texts.{text_of_update, id_of_update}
-use Rattle.depot_model.specs.World.{World, IsWorld, writes_of}
-use Rattle.depot_model.proofs.BodyLaws.{body_is_text_of_update}
-use Rattle.depot_model.proofs.Members.{from_map}
+use Rattle.depot_model.specs.worlds.Causality.{puts_of}
+use Rattle.depot_model.specs.journals.Journal.{accepted, accepted_by, update_in, value_by}
+use Rattle.depot_model.specs.lists.Lists.{IsIn}
+use Rattle.depot_model.specs.texts.Records.{IsRecord}
+use Rattle.depot_model.specs.texts.Texts.{text_of_update, id_of_update}
+use Rattle.depot_model.specs.worlds.World.{World, IsWorld, writes_of}
+use Rattle.depot_model.proofs.of_texts.BodyLaws.{body_is_text_of_update}
+use Rattle.depot_model.proofs.lists.Members.{from_map}
 use Rattle.depot_laws.specs.OneText.{HaveOneText}
-use Rattle.depot_laws.proofs.LawfulRecords.{IsSigned-from_record}
-use Rattle.depot_laws.proofs.Puts.{put_by}
-use Rattle.depot_laws.proofs.Worlds.{one_write}
+use Rattle.depot_laws.proofs.records.LawfulRecords.{IsSigned-from_record}
+use Rattle.depot_laws.proofs.own_updates.Puts.{put_by}
+use Rattle.depot_laws.proofs.of_worlds.Worlds.{one_write}
 use Rattle.depot_audit.specs.MetTexts.{IsMetOf}
 use Rattle.depot_audit.specs.Tables.{HaveOneKey, AreMetUpdates, update_where, AreMetValues}
 use Rattle.depot_audit.specs.TracedWorlds.{IsMetIn}

@@ -8,12 +8,12 @@ use Rattle.depot_base.specs.Format.{number}
 use Rattle.depot_base.specs.declared.proof.Proof.{Proof}
 use Rattle.depot_base.specs.declared.record.Record.{Record}
 use Rattle.depot_base.specs.declared.record.Record.TheVariants.{Birth, OwnPut, OwnVoucher, Foreign, Conviction, Held}
-use Rattle.depot_model.specs.Audit.{named_found, names_one_of, named_node}
-use Rattle.depot_model.specs.Journal.{proof_by, accused}
-use Rattle.depot_model.specs.Lists.{first}
-use Rattle.depot_model.specs.Records.{tagged, record_text, tag_of, text_of_record}
-use Rattle.depot_model.specs.World.{Correct, World}
-use Rattle.depot_model.proofs.Members.{map_same}
+use Rattle.depot_model.specs.worlds.Audit.{named_found, names_one_of, named_node}
+use Rattle.depot_model.specs.journals.Journal.{proof_by, accused}
+use Rattle.depot_model.specs.lists.Lists.{first}
+use Rattle.depot_model.specs.texts.Records.{tagged, record_text, tag_of, text_of_record}
+use Rattle.depot_model.specs.worlds.World.{Correct, World}
+use Rattle.depot_model.proofs.lists.Members.{map_same}
 use Rattle.depot_traces.specs.declared.trace.Trace.{Trace}
 use Rattle.depot_audit.specs.Lookups.{nodes_in, accuses_one, first_accusing}
 use Rattle.depot_audit.specs.MetTexts.{AreToldBy}

@@ -7,19 +7,19 @@ use Rattle.std.proofs.lemmas.Simd.{map-map}
 use Rattle.std.proofs.lemmas.Grind.{flat_map-append}
 use Rattle.depot_base.specs.declared.key.RosterEntry.{RosterEntry}
 use Rattle.depot_base.specs.declared.record.Record.{Record}
-use Rattle.depot_model.specs.Journal.{accepted, value_by}
-use Rattle.depot_model.specs.Lawful.{IsLawful}
-use Rattle.depot_model.specs.Lists.{IsIn}
-use Rattle.depot_model.specs.Records.{IsRecord, text_of_record}
-use Rattle.depot_model.specs.Roster.{Verifies}
-use Rattle.depot_model.specs.ShownWrites.{shown_of}
-use Rattle.depot_model.specs.Texts.{id_of_update}
-use Rattle.depot_model.specs.Traces as traces
-use Rattle.depot_model.specs.Traces.{AreNodesOf, IsRightRead, AreRightReads, at_node, answered, IsWorldOf}
-use Rattle.depot_model.specs.World.{Shown, Read, Correct, World, writes_of}
+use Rattle.depot_model.specs.journals.Journal.{accepted, value_by}
+use Rattle.depot_model.specs.journals.Lawful.{IsLawful}
+use Rattle.depot_model.specs.lists.Lists.{IsIn}
+use Rattle.depot_model.specs.texts.Records.{IsRecord, text_of_record}
+use Rattle.depot_model.specs.texts.Roster.{Verifies}
+use Rattle.depot_model.specs.journals.ShownWrites.{shown_of}
+use Rattle.depot_model.specs.texts.Texts.{id_of_update}
+use Rattle.depot_model.specs.worlds.Traces as traces
+use Rattle.depot_model.specs.worlds.Traces.{AreNodesOf, IsRightRead, AreRightReads, at_node, answered, IsWorldOf}
+use Rattle.depot_model.specs.worlds.World.{Shown, Read, Correct, World, writes_of}
 use Rattle.depot_laws.specs.OneText.{world_values}
-use Rattle.depot_laws.proofs.OwnTexts.{lawful_is_short}
-use Rattle.depot_laws.proofs.Splits.{lawful_texts}
+use Rattle.depot_laws.proofs.own_updates.OwnTexts.{lawful_is_short}
+use Rattle.depot_laws.proofs.lists.Splits.{lawful_texts}
 use Rattle.depot_traces.specs.SeenTraces.{answered_of, read_of, trace_of}
 use Rattle.depot_traces.specs.declared.trace.ReadTrace.{ReadTrace}
 use Rattle.depot_traces.specs.declared.trace.Trace.{Trace}

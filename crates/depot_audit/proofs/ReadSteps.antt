@@ -6,10 +6,10 @@ use Rattle.std.proofs.lemmas.Option.{get_or_from_slice_get}
 use Rattle.depot_base.proofs.GeneralLaws.{at_place, take_next}
 use Rattle.depot_base.specs.declared.key.RosterEntry.{RosterEntry}
 use Rattle.depot_base.specs.declared.record.Record.{Record}
-use Rattle.depot_model.specs.RecordFaults.{AreTextsOf}
-use Rattle.depot_model.specs.Roster.{Verifies}
-use Rattle.depot_model.specs.ShownWrites.{shown_of}
-use Rattle.depot_model.specs.Traces.{ReadTrace, Trace, answered, IsRightRead, AreRightReads, IsFirstBad, last_length, at_node}
+use Rattle.depot_model.specs.checks.RecordFaults.{AreTextsOf}
+use Rattle.depot_model.specs.texts.Roster.{Verifies}
+use Rattle.depot_model.specs.journals.ShownWrites.{shown_of}
+use Rattle.depot_model.specs.worlds.Traces.{ReadTrace, Trace, answered, IsRightRead, AreRightReads, IsFirstBad, last_length, at_node}
 use Rattle.depot_audit.specs.OneNode.{NeverRight, IsAhead, AreRightUpTo}
 use Rattle.depot_audit.specs.Shows.{IsShown}
 

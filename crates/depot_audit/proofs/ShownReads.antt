@@ -14,21 +14,21 @@ use Rattle.depot_base.specs.declared.update.Update.{Update}
 use Rattle.depot_base.specs.declared.write.Wrote.{Wrote}
 use Rattle.depot_base.specs.declared.write.Wrote.TheVariants.{Put, Gone}
 use Rattle.depot_base.specs.Writes.{value_in, wrote_under}
-use Rattle.depot_model.specs.Checks.{Setting}
-use Rattle.depot_model.specs.Contents.{Sighting, gone, held_value, not_held}
-use Rattle.depot_model.specs.Items.{updates_at}
-use Rattle.depot_model.specs.Journal.{accepted, held_as, seen_as, seen_under}
-use Rattle.depot_model.specs.LatestList.{latest_in}
-use Rattle.depot_model.specs.Lawful.{IsLawful}
-use Rattle.depot_model.specs.Lists.{IsIn}
-use Rattle.depot_model.specs.Order.{AreLatestIn, Precedes}
-use Rattle.depot_model.specs.ShownWrites.{shown_of}
-use Rattle.depot_model.specs.Traces as traces
-use Rattle.depot_model.specs.Traces.{answered}
-use Rattle.depot_model.proofs.Elements.{from_place}
-use Rattle.depot_model.proofs.LatestLaws.{one_latest_list}
-use Rattle.depot_model.proofs.LatestWrites.{latest_are_listed}
-use Rattle.depot_laws.proofs.Causes.{lawful_is_causal}
+use Rattle.depot_model.specs.checks.Checks.{Setting}
+use Rattle.depot_model.specs.texts.Contents.{Sighting, gone, held_value, not_held}
+use Rattle.depot_model.specs.lists.Items.{updates_at}
+use Rattle.depot_model.specs.journals.Journal.{accepted, held_as, seen_as, seen_under}
+use Rattle.depot_model.specs.updates.LatestList.{latest_in}
+use Rattle.depot_model.specs.journals.Lawful.{IsLawful}
+use Rattle.depot_model.specs.lists.Lists.{IsIn}
+use Rattle.depot_model.specs.updates.Order.{AreLatestIn, Precedes}
+use Rattle.depot_model.specs.journals.ShownWrites.{shown_of}
+use Rattle.depot_model.specs.worlds.Traces as traces
+use Rattle.depot_model.specs.worlds.Traces.{answered}
+use Rattle.depot_model.proofs.lists.Elements.{from_place}
+use Rattle.depot_model.proofs.of_updates.LatestLaws.{one_latest_list}
+use Rattle.depot_model.proofs.of_updates.LatestWrites.{latest_are_listed}
+use Rattle.depot_laws.proofs.records.Causes.{lawful_is_causal}
 use Rattle.depot_traces.specs.SeenTraces.{answered_of}
 use Rattle.depot_traces.specs.declared.trace.Answered.{Answered}
 use Rattle.depot_audit.specs.Shows.{expected_answer}

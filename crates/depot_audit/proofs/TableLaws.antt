@@ -10,10 +10,10 @@ use Rattle.std.proofs.lemmas.Slice.Eq.{bytes_eq-Decides}
 use Rattle.sha2.specs.Sha256.{sha256}
 use Rattle.depot_base.specs.declared.update.Update.{Update}
 use Rattle.depot_base.proofs.GeneralLaws.{same_bytes}
-use Rattle.depot_model.specs.Lists.{IsIn}
-use Rattle.depot_model.specs.Texts.{id_of_update}
-use Rattle.depot_model.proofs.Members.{in_left, in_right, in_parts}
-use Rattle.depot_laws.proofs.FirstOfRow.{none_to}
+use Rattle.depot_model.specs.lists.Lists.{IsIn}
+use Rattle.depot_model.specs.texts.Texts.{id_of_update}
+use Rattle.depot_model.proofs.lists.Members.{in_left, in_right, in_parts}
+use Rattle.depot_laws.proofs.lists.FirstOfRow.{none_to}
 use Rattle.depot_audit.specs.declared.met_updates.MetUpdate.{MetUpdate}
 use Rattle.depot_audit.specs.declared.met_updates.Under.TheVariants.{Nothing, Same, Other}
 use Rattle.depot_audit.specs.Tables.{first_under, HaveOneKey, UpdateTable, IsUnder, PutsUpdate, update_where, AreMetUpdates, ValueTable, PutsValue, AreMetValues}

@@ -2,9 +2,9 @@
 use Rattle.std.proofs.Common.{List, [], ◌∷◌, Some, refl}
 use Rattle.std.specs.List.{AllByRecursion}
 use Rattle.depot_base.specs.declared.key.RosterEntry.{RosterEntry}
-use Rattle.depot_model.specs.Roster.{Verifies}
-use Rattle.depot_model.specs.Traces.{Trace, HasRightReads, AreNodesOf, AreTraced, IsFindingOf, by_node, traced_node}
-use Rattle.depot_model.specs.World.{Correct, World}
+use Rattle.depot_model.specs.texts.Roster.{Verifies}
+use Rattle.depot_model.specs.worlds.Traces.{Trace, HasRightReads, AreNodesOf, AreTraced, IsFindingOf, by_node, traced_node}
+use Rattle.depot_model.specs.worlds.World.{Correct, World}
 use Rattle.depot_traces.specs.SeenTraces.{finding_of}
 use Rattle.depot_traces.specs.declared.finding.Finding.{Finding}
 use Rattle.depot_traces.specs.declared.finding.Finding.TheVariants.{Unlawful, Answer}

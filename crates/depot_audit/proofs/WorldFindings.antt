@@ -8,18 +8,18 @@ use Rattle.std.proofs.lemmas.List.{length-map}
 use Rattle.std.proofs.lemmas.Simd.{map-map}
 use Rattle.depot_base.proofs.Numbers.{number_within}
 use Rattle.depot_base.specs.declared.key.RosterEntry.{RosterEntry}
-use Rattle.depot_model.specs.Audit.{Finding, yes_found, unlawful, answer_found, circle_found, unordered_found, unseen_found, wrong_found, split_found, named_found, reads_of, operations, observed, op_of, circle, unordered, unseen, is_exact, wrong_at, wrong, split_finding, names_one_of, named_node, finding_in}
-use Rattle.depot_model.specs.Causality.{Operation, write, read_at}
-use Rattle.depot_model.specs.Items.{AreDistinct}
-use Rattle.depot_model.specs.Lists.{first}
-use Rattle.depot_model.specs.Roster.{Verifies, has_node}
-use Rattle.depot_model.specs.Traces.{Trace, HasRightReads, AreNodesOf, AreTraced, IsFindingOf, put_by_node, by_node, IsWorldOf}
-use Rattle.depot_model.specs.World.{Correct, World, IsWorld}
-use Rattle.depot_model.proofs.FirstLaws.{Shows, shows_when, shows_map, shows_first}
-use Rattle.depot_model.proofs.Members.{all_at, from_map}
-use Rattle.depot_laws.proofs.Branches.{none_split}
-use Rattle.depot_laws.proofs.InLine.{none_unordered, none_unseen}
-use Rattle.depot_laws.proofs.TracedWorlds.{traced_is_world}
+use Rattle.depot_model.specs.worlds.Audit.{Finding, yes_found, unlawful, answer_found, circle_found, unordered_found, unseen_found, wrong_found, split_found, named_found, reads_of, operations, observed, op_of, circle, unordered, unseen, is_exact, wrong_at, wrong, split_finding, names_one_of, named_node, finding_in}
+use Rattle.depot_model.specs.worlds.Causality.{Operation, write, read_at}
+use Rattle.depot_model.specs.lists.Items.{AreDistinct}
+use Rattle.depot_model.specs.lists.Lists.{first}
+use Rattle.depot_model.specs.texts.Roster.{Verifies, has_node}
+use Rattle.depot_model.specs.worlds.Traces.{Trace, HasRightReads, AreNodesOf, AreTraced, IsFindingOf, put_by_node, by_node, IsWorldOf}
+use Rattle.depot_model.specs.worlds.World.{Correct, World, IsWorld}
+use Rattle.depot_model.proofs.lists.FirstLaws.{Shows, shows_when, shows_map, shows_first}
+use Rattle.depot_model.proofs.lists.Members.{all_at, from_map}
+use Rattle.depot_laws.proofs.orders.Branches.{none_split}
+use Rattle.depot_laws.proofs.of_worlds.InLine.{none_unordered, none_unseen}
+use Rattle.depot_laws.proofs.of_audits.TracedWorlds.{traced_is_world}
 use Rattle.depot_traces.specs.SeenTraces.{read_of, trace_of}
 use Rattle.depot_traces.specs.TraceTexts.{trace_text, IsTrace}
 use Rattle.depot_traces.specs.declared.trace.Trace as made

@@ -10,19 +10,19 @@ use Rattle.std.proofs.lemmas.Bool.{both_ways, cases_Bool, eqb-true, eq-eqb, fals
 use Rattle.std.proofs.lemmas.Iterator.Adapters.{position_from-zero}
 use Rattle.depot_base.specs.declared.update.Update.{Update}
 use Rattle.depot_base.proofs.GeneralLaws.{same_test}
-use Rattle.depot_model.specs.Audit.{wrong_found, reads_from, reads_of, is_exact, wrong_at, wrong}
-use Rattle.depot_model.specs.Causality.{puts_of}
-use Rattle.depot_model.specs.Journal.{accepted}
-use Rattle.depot_model.specs.Lists.{IsIn, first, is_one_of}
-use Rattle.depot_model.specs.Texts.{id_of_update}
-use Rattle.depot_model.specs.Traces.{AreRightReads, IsWorldOf}
-use Rattle.depot_model.specs.World.{Shown, Read, Correct, World, IsWorld, writes_of}
-use Rattle.depot_model.proofs.Members.{any_from, any_to, in_map, from_map, in_right}
+use Rattle.depot_model.specs.worlds.Audit.{wrong_found, reads_from, reads_of, is_exact, wrong_at, wrong}
+use Rattle.depot_model.specs.worlds.Causality.{puts_of}
+use Rattle.depot_model.specs.journals.Journal.{accepted}
+use Rattle.depot_model.specs.lists.Lists.{IsIn, first, is_one_of}
+use Rattle.depot_model.specs.texts.Texts.{id_of_update}
+use Rattle.depot_model.specs.worlds.Traces.{AreRightReads, IsWorldOf}
+use Rattle.depot_model.specs.worlds.World.{Shown, Read, Correct, World, IsWorld, writes_of}
+use Rattle.depot_model.proofs.lists.Members.{any_from, any_to, in_map, from_map, in_right}
 use Rattle.depot_laws.specs.OneText.{HaveOneText}
-use Rattle.depot_laws.proofs.AuditLaws.{apart_exact, exact_puts}
-use Rattle.depot_laws.proofs.Puts.{put_writer}
-use Rattle.depot_laws.proofs.Splits.{given_by, flat_gives}
-use Rattle.depot_laws.proofs.Worlds.{giver_in, taken_in, write_from, one_node, one_write, journal_lawful}
+use Rattle.depot_laws.proofs.of_audits.AuditLaws.{apart_exact, exact_puts}
+use Rattle.depot_laws.proofs.own_updates.Puts.{put_writer}
+use Rattle.depot_laws.proofs.lists.Splits.{given_by, flat_gives}
+use Rattle.depot_laws.proofs.of_worlds.Worlds.{giver_in, taken_in, write_from, one_node, one_write, journal_lawful}
 use Rattle.depot_traces.specs.SeenTraces.{read_of, trace_of}
 use Rattle.depot_traces.specs.declared.trace.Answered.{Answered}
 use Rattle.depot_traces.specs.declared.trace.ReadTrace.{ReadTrace}

@@ -2,9 +2,9 @@
 use Rattle.std.specs.Prelude.{◌≡◌, List, Option, Some, None}
 use Rattle.std.specs.List.{AllByRecursion}
 use Rattle.depot_base.specs.declared.key.RosterEntry.{RosterEntry}
-use Rattle.depot_model.specs.RecordFaults.{HaveFaultAt}
-use Rattle.depot_model.specs.Roster.{Verifies}
-use Rattle.depot_model.specs.Traces.{Trace, IsLawfulTrace, HasRightReads, IsFirstBad, FirstAt, at_node}
+use Rattle.depot_model.specs.checks.RecordFaults.{HaveFaultAt}
+use Rattle.depot_model.specs.texts.Roster.{Verifies}
+use Rattle.depot_model.specs.worlds.Traces.{Trace, IsLawfulTrace, HasRightReads, IsFirstBad, FirstAt, at_node}
 use Rattle.depot_traces.specs.declared.finding.Finding.{Finding}
 use Rattle.depot_traces.specs.declared.finding.Finding.TheVariants.{Unlawful, Answer}
 

@@ -5,10 +5,10 @@ use Rattle.std.specs.List.{list_any}
 use Rattle.std.specs.Option.{option_map_or}
 use Rattle.std.specs.Str.{bytes_eq}
 use Rattle.depot_base.specs.declared.record.Record.{Record}
-use Rattle.depot_model.specs.Audit.{Finding, wrong_found, named_found}
-use Rattle.depot_model.specs.Journal.{proof_by, accused}
-use Rattle.depot_model.specs.Lists.{is_one_of, first}
-use Rattle.depot_model.specs.World.{Correct}
+use Rattle.depot_model.specs.worlds.Audit.{Finding, wrong_found, named_found}
+use Rattle.depot_model.specs.journals.Journal.{proof_by, accused}
+use Rattle.depot_model.specs.lists.Lists.{is_one_of, first}
+use Rattle.depot_model.specs.worlds.World.{Correct}
 use Rattle.depot_traces.specs.declared.trace.ReadTrace.{ReadTrace}
 use Rattle.depot_traces.specs.declared.trace.Trace.{Trace}
 use Rattle.depot_audit.specs.Tables.{UpdateTable}

@@ -3,10 +3,10 @@ use Rattle.std.specs.Prelude.{◌≡◌, ◌≤◌, ℕ, List, [], ◌∷◌, le
 use Rattle.std.specs.List.{flat_map}
 use Rattle.depot_base.specs.declared.limits.TheConstants.{MOST_RECORDS}
 use Rattle.depot_base.specs.declared.record.Record.{Record}
-use Rattle.depot_model.specs.Causality.{puts_of}
-use Rattle.depot_model.specs.Journal.{accepted, value_by}
-use Rattle.depot_model.specs.Records.{IsTextOf}
-use Rattle.depot_model.specs.World.{Correct}
+use Rattle.depot_model.specs.worlds.Causality.{puts_of}
+use Rattle.depot_model.specs.journals.Journal.{accepted, value_by}
+use Rattle.depot_model.specs.texts.Records.{IsTextOf}
+use Rattle.depot_model.specs.worlds.World.{Correct}
 use Rattle.depot_traces.specs.declared.trace.Trace.{Trace}
 use Rattle.depot_audit.specs.Tables.{AreMetUpdates, AreMetValues}
 use Rattle.depot_audit.specs.declared.met.Met.{Met}

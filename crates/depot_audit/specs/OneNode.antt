@@ -2,9 +2,9 @@
 use Rattle.std.specs.Prelude.{ℕ, ◌≤◌, List, [], ◌∷◌, ◌++◌, length, take, drop, ◌⊎◌}
 use Rattle.depot_base.specs.declared.key.RosterEntry.{RosterEntry}
 use Rattle.depot_base.specs.declared.record.Record.{Record}
-use Rattle.depot_model.specs.RecordFaults.{HaveFaultAt}
-use Rattle.depot_model.specs.Roster.{Verifies}
-use Rattle.depot_model.specs.Traces.{ReadTrace, Trace, IsRightRead, AreRightReads, HasRightReads, IsFirstBad, last_length, at_node}
+use Rattle.depot_model.specs.checks.RecordFaults.{HaveFaultAt}
+use Rattle.depot_model.specs.texts.Roster.{Verifies}
+use Rattle.depot_model.specs.worlds.Traces.{ReadTrace, Trace, IsRightRead, AreRightReads, HasRightReads, IsFirstBad, last_length, at_node}
 use Rattle.depot_audit.specs.declared.one_node.NodeAnswer.{NodeAnswer}
 use Rattle.depot_audit.specs.declared.one_node.NodeAnswer.TheVariants.{Unlawful, WrongRead, Right}
 

@@ -2,9 +2,9 @@
 use Rattle.std.specs.Prelude.{◌≡◌, ℕ, List, length, map}
 use Rattle.depot_base.specs.declared.record.Record.{Record}
 use Rattle.depot_base.specs.declared.update.Update.{Update}
-use Rattle.depot_model.specs.Journal.{seen_under}
-use Rattle.depot_model.specs.ShownWrites.{shown_of}
-use Rattle.depot_model.specs.Traces.{Answered, ReadTrace, answered}
+use Rattle.depot_model.specs.journals.Journal.{seen_under}
+use Rattle.depot_model.specs.journals.ShownWrites.{shown_of}
+use Rattle.depot_model.specs.worlds.Traces.{Answered, ReadTrace, answered}
 
 -- it was made at all these records, and lists what they show
 pub record IsShown (J : List Record) (r : ReadTrace) : Type 0 where

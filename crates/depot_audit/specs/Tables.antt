@@ -6,8 +6,8 @@ use Rattle.std.specs.declared.hash.FoldHasher.{FoldHasher}
 use Rattle.std.specs.declared.hash.BuildHasherDefault.{BuildHasherDefault}
 use Rattle.sha2.specs.Sha256.{sha256}
 use Rattle.depot_base.specs.declared.update.Update.{Update}
-use Rattle.depot_model.specs.Lists.{IsIn}
-use Rattle.depot_model.specs.Texts.{id_of_update}
+use Rattle.depot_model.specs.lists.Lists.{IsIn}
+use Rattle.depot_model.specs.texts.Texts.{id_of_update}
 use Rattle.depot_audit.specs.declared.met_updates.MetUpdate.{MetUpdate}
 use Rattle.depot_audit.specs.declared.met_updates.Under.{Under}
 use Rattle.depot_audit.specs.declared.met_updates.Under.TheVariants.{Nothing, Same, Other}

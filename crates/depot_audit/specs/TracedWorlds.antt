@@ -2,7 +2,7 @@
 use Rattle.std.specs.Prelude.{List}
 use Rattle.std.specs.List.{flat_map}
 use Rattle.depot_base.specs.declared.record.Record.{Record}
-use Rattle.depot_model.specs.World.{World}
+use Rattle.depot_model.specs.worlds.World.{World}
 use Rattle.depot_audit.specs.MetTexts.{IsMetOf}
 use Rattle.depot_audit.specs.declared.met.Met.{Met}
 

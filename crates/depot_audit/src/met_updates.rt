@@ -3,7 +3,7 @@ ghost use Rattle.std.specs.Prelude.{◌≡◌, List, [], ◌∷◌, ◌++◌, On
 ghost use Rattle.std.specs.HashMap.{get};
 ghost use Rattle.std.specs.Str.{bytes_eq};
 ghost use Rattle.depot_base.specs.declared.update.Update.{Update};
-ghost use Rattle.depot_model.specs.Texts.{id_of_update};
+ghost use Rattle.depot_model.specs.texts.Texts.{id_of_update};
 ghost use Rattle.depot_audit.specs.Tables.{IsUnder, PutsUpdate, AreMetUpdates, update_where};
 
 use depot_base::{Hash32, Memory, Update};

@@ -2,10 +2,10 @@
 ghost use Rattle.std.specs.Prelude.{◌≡◌, ◌≤◌, List, length, map, option_map, position, IfOk};
 ghost use Rattle.depot_base.specs.declared.limits.TheConstants.{MOST_RECORDS};
 ghost use Rattle.depot_base.specs.declared.record.Record.{Record};
-ghost use Rattle.depot_model.specs.Audit.{named_node};
-ghost use Rattle.depot_model.specs.World.{Correct, World};
-ghost use Rattle.depot_model.specs.Records.{IsTextOf};
-ghost use Rattle.depot_model.specs.Traces.{IsWorldOf};
+ghost use Rattle.depot_model.specs.worlds.Audit.{named_node};
+ghost use Rattle.depot_model.specs.worlds.World.{Correct, World};
+ghost use Rattle.depot_model.specs.texts.Records.{IsTextOf};
+ghost use Rattle.depot_model.specs.worlds.Traces.{IsWorldOf};
 ghost use Rattle.depot_traces.specs.SeenTraces.{finding_of, trace_of};
 ghost use Rattle.depot_audit.specs.Lookups.{nodes_in, accuses_one, first_accusing};
 ghost use Rattle.depot_audit.specs.MetTexts.{AreTexts, AreToldBy};

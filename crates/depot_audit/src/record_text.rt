@@ -1,7 +1,7 @@
 //! Texts of lawful records, as values.
 ghost use Rattle.std.specs.Prelude.{◌≡◌, IfOk};
 ghost use Rattle.depot_base.specs.declared.record.Record.{Record};
-ghost use Rattle.depot_model.specs.Records.{IsTextOf};
+ghost use Rattle.depot_model.specs.texts.Records.{IsTextOf};
 
 use depot_base::{DecodeError, Memory, Record};
 use depot_update::decode_record;

@@ -2,10 +2,10 @@
 ghost use Rattle.std.specs.Prelude.{◌≡◌, ◌↔◌, ◌<◌, length, map, IsTrue, Some, slice_get};
 ghost use Rattle.std.specs.Option.{option_map_or};
 ghost use Rattle.depot_base.specs.declared.update.Update.{Update};
-ghost use Rattle.depot_model.specs.Contents.{gone, held_value, not_held};
-ghost use Rattle.depot_model.specs.Journal.{accepted, held_as, seen_under};
-ghost use Rattle.depot_model.specs.ShownWrites.{shown_of};
-ghost use Rattle.depot_model.specs.Traces.{answered};
+ghost use Rattle.depot_model.specs.texts.Contents.{gone, held_value, not_held};
+ghost use Rattle.depot_model.specs.journals.Journal.{accepted, held_as, seen_under};
+ghost use Rattle.depot_model.specs.journals.ShownWrites.{shown_of};
+ghost use Rattle.depot_model.specs.worlds.Traces.{answered};
 ghost use Rattle.depot_audit.specs.Shows.{expected_answer};
 ghost use Rattle.depot_traces.specs.SeenTraces.{answered_of, sighting_of};
 

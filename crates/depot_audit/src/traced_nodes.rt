@@ -1,7 +1,7 @@
 //! The nodes of traces.
 ghost use Rattle.std.specs.Prelude.{◌≡◌, ◌==◌, map};
 ghost use Rattle.std.specs.List.{list_any};
-ghost use Rattle.depot_model.specs.Lists.{is_one_of};
+ghost use Rattle.depot_model.specs.lists.Lists.{is_one_of};
 ghost use Rattle.depot_audit.specs.Lookups.{nodes_in};
 
 use depot_base::NodeId;

@@ -1,12 +1,12 @@
 //! The audit of traces: what is found of each node, and then in the world that they make.
 ghost use Rattle.std.specs.Prelude.{◌≡◌, ◌≤◌, ◌∷◌, [], length, map, option_map, true, IfOk};
 ghost use Rattle.std.specs.List.{AllByRecursion};
-ghost use Rattle.depot_model.specs.Audit.{circle, wrong, finding_in};
-ghost use Rattle.depot_model.specs.Items.{AreDistinct};
-ghost use Rattle.depot_model.specs.Lists.{first};
-ghost use Rattle.depot_model.specs.Roster.{has_node};
-ghost use Rattle.depot_model.specs.Traces.{IsFindingOf, IsWorldOf};
-ghost use Rattle.depot_model.specs.World.{World};
+ghost use Rattle.depot_model.specs.worlds.Audit.{circle, wrong, finding_in};
+ghost use Rattle.depot_model.specs.lists.Items.{AreDistinct};
+ghost use Rattle.depot_model.specs.lists.Lists.{first};
+ghost use Rattle.depot_model.specs.texts.Roster.{has_node};
+ghost use Rattle.depot_model.specs.worlds.Traces.{IsFindingOf, IsWorldOf};
+ghost use Rattle.depot_model.specs.worlds.World.{World};
 ghost use Rattle.depot_traces.specs.SeenTraces.{finding_of, trace_of};
 ghost use Rattle.depot_traces.specs.TraceTexts.{IsTrace};
 ghost use Rattle.depot_traces.specs.declared.trace.TheConstants.{MOST_READS, MOST_TRACES};

@@ -2,9 +2,9 @@
 //! contract is the law.
 ghost use Rattle.std.specs.Prelude.{List, Some, None};
 ghost use Rattle.depot_base.specs.declared.key.RosterEntry.{RosterEntry};
-ghost use Rattle.depot_model.specs.Roster.{Verifies};
-ghost use Rattle.depot_model.specs.Traces.{Trace, AreTraced, IsFindingOf, by_node};
-ghost use Rattle.depot_model.specs.World.{World};
+ghost use Rattle.depot_model.specs.texts.Roster.{Verifies};
+ghost use Rattle.depot_model.specs.worlds.Traces.{Trace, AreTraced, IsFindingOf, by_node};
+ghost use Rattle.depot_model.specs.worlds.World.{World};
 ghost use Rattle.depot_traces.specs.SeenTraces.{finding_of};
 ghost use Rattle.depot_traces.specs.declared.finding.Finding.{Finding};
 ghost use Rattle.depot_audit.specs.InTurn.{IsTurnOf};

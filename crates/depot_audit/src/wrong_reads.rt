@@ -2,9 +2,9 @@
 ghost use Rattle.std.specs.Prelude.{◌≡◌, ◌≤◌, length, map, None, option_map, position};
 ghost use Rattle.std.specs.List.{AllByRecursion};
 ghost use Rattle.depot_laws.specs.OneText.{HaveOneText};
-ghost use Rattle.depot_model.specs.Audit.{circle, wrong};
-ghost use Rattle.depot_model.specs.World.{World, IsWorld};
-ghost use Rattle.depot_model.specs.Traces.{IsWorldOf};
+ghost use Rattle.depot_model.specs.worlds.Audit.{circle, wrong};
+ghost use Rattle.depot_model.specs.worlds.World.{World, IsWorld};
+ghost use Rattle.depot_model.specs.worlds.Traces.{IsWorldOf};
 ghost use Rattle.depot_traces.specs.SeenTraces.{finding_of, trace_of};
 ghost use Rattle.depot_traces.specs.declared.trace.TheConstants.{MOST_READS};
 ghost use Rattle.depot_audit.specs.Lookups.{nodes_in, is_unput_in, lists_unput, first_unput};

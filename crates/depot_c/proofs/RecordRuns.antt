@@ -4,11 +4,11 @@ use Rattle.std.specs.Prelude.{slice_get, sum_by}
 use Rattle.std.proofs.lemmas.List.Sums.{sum_by-cons}
 use Rattle.depot_base.specs.File.{blocks, framed}
 use Rattle.depot_base.specs.declared.record.Record.{Record}
-use Rattle.depot_laws.proofs.OwnTexts.{lawful_is_light}
-use Rattle.depot_model.proofs.Elements.{from_place}
-use Rattle.depot_model.specs.Checks.{Setting}
-use Rattle.depot_model.specs.Lawful.{IsLawful}
-use Rattle.depot_model.specs.Records.{text_of_record}
+use Rattle.depot_laws.proofs.own_updates.OwnTexts.{lawful_is_light}
+use Rattle.depot_model.proofs.lists.Elements.{from_place}
+use Rattle.depot_model.specs.checks.Checks.{Setting}
+use Rattle.depot_model.specs.journals.Lawful.{IsLawful}
+use Rattle.depot_model.specs.texts.Records.{text_of_record}
 
 -- one more record stands behind those that were added
 pub one_more : (run : List ℕ) (texts : List (List ℕ)) (at : ℕ) (text : List ℕ) → slice_get texts at ≡ Some text → (run ++ 1 ∷ framed text) ++ blocks (drop (at + 1) texts) ≡ run ++ blocks (drop at texts)

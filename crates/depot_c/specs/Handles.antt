@@ -3,9 +3,9 @@ use Rattle.std.specs.Prelude.{◌≡◌, ◌≤◌, ℕ, List, [], Bool, false, 
 use Rattle.depot_base.specs.declared.key.PublicKey.{PublicKey}
 use Rattle.depot_base.specs.declared.key.RosterEntry.{RosterEntry}
 use Rattle.depot_base.specs.declared.limits.TheConstants.{GREATEST_HEIGHT, LEAST_HEIGHT}
-use Rattle.depot_model.specs.Bundle.{Signs}
-use Rattle.depot_model.specs.RosterText.{ParsesRoster}
-use Rattle.depot_model.specs.Winternitz.{winternitz_signature, winternitz_verifies}
+use Rattle.depot_model.specs.exchange.Bundle.{Signs}
+use Rattle.depot_model.specs.texts.RosterText.{ParsesRoster}
+use Rattle.depot_model.specs.texts.Winternitz.{winternitz_signature, winternitz_verifies}
 use Rattle.depot_winter.specs.TreeSigning.{key_of_seed}
 use Rattle.depot_c.specs.MessageAnswers.{Messaging}
 use Rattle.depot_c.specs.NodeViews.{CallAnswer, NodeView, RunsOn, Stays, records_onward}

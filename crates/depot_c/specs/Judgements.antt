@@ -7,11 +7,11 @@ use Rattle.depot_model.specs.declared.roster_format.RosterError.{RosterError}
 use Rattle.depot_model.specs.declared.roster_format.RosterError.TheVariants as roster_error
 use Rattle.depot_model.specs.declared.judgement.JudgeError.{JudgeError}
 use Rattle.depot_model.specs.declared.judgement.JudgeError.TheVariants as point
-use Rattle.depot_model.specs.Conviction.{Convicts}
-use Rattle.depot_model.specs.Judgement.{IsJudgementOf}
-use Rattle.depot_model.specs.RosterText.{ParsesRoster}
-use Rattle.depot_model.specs.Texts.{IsRoster, number_of_kind, text_of_roster}
-use Rattle.depot_model.specs.Winternitz.{winternitz_verifies}
+use Rattle.depot_model.specs.updates.Conviction.{Convicts}
+use Rattle.depot_model.specs.updates.Judgement.{IsJudgementOf}
+use Rattle.depot_model.specs.texts.RosterText.{ParsesRoster}
+use Rattle.depot_model.specs.texts.Texts.{IsRoster, number_of_kind, text_of_roster}
+use Rattle.depot_model.specs.texts.Winternitz.{winternitz_verifies}
 
 -- The texts are those of a roster and of a proof that convicts its node of this number in the kind of this number.
 pub record IsConvicted (roster proof : List ℕ) (node kind : ℕ) : Type 0 where

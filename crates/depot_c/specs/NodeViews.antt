@@ -3,9 +3,9 @@ use Rattle.std.specs.Prelude.{◌≡◌, ℕ, List, [], Bool, true, false, Optio
 use Rattle.depot_base.specs.File.{blocks}
 use Rattle.depot_base.specs.declared.key.PublicKey.{PublicKey}
 use Rattle.depot_base.specs.declared.record.Record.{Record}
-use Rattle.depot_model.specs.Bundle.{Signs}
-use Rattle.depot_model.specs.Checks.{Setting}
-use Rattle.depot_model.specs.Records.{text_of_record}
+use Rattle.depot_model.specs.exchange.Bundle.{Signs}
+use Rattle.depot_model.specs.checks.Checks.{Setting}
+use Rattle.depot_model.specs.texts.Records.{text_of_record}
 use Rattle.depot_node.specs.declared.start_error.StartError.TheVariants as start_error
 use Rattle.depot_outside.specs.declared.stops.Stop.{Stop}
 use Rattle.depot_requests.specs.declared.reply.Halt.TheVariants as halt

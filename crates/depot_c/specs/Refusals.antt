@@ -1,7 +1,7 @@
 -- Why a call is refused, as its caller is told.
 use Rattle.std.specs.Prelude.{◌≡◌, ◌⊎◌, ℕ, List, [], ◌++◌, codes}
 use Rattle.depot_answers.specs.AnswerTexts.{text_of_number, spaced, text_of_record_fault}
-use Rattle.depot_model.specs.Lines.{text_of_roster_error}
+use Rattle.depot_model.specs.texts.Lines.{text_of_roster_error}
 use Rattle.depot_model.specs.declared.roster_format.RosterError.{RosterError}
 use Rattle.depot_model.specs.declared.roster_format.RosterError.TheVariants as roster_error
 use Rattle.depot_node.specs.declared.start_error.StartError.{StartError}

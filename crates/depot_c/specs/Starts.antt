@@ -1,9 +1,9 @@
 -- A node is started for a caller.
 use Rattle.std.specs.Prelude.{◌≡◌, ◌<◌, ℕ, List, false, Result, Ok, Err, Some}
 use Rattle.depot_base.specs.declared.key.PublicKey.{PublicKey}
-use Rattle.depot_model.specs.Bundle.{Signs}
-use Rattle.depot_model.specs.Checks.{Setting}
-use Rattle.depot_model.specs.Roster.{key_of}
+use Rattle.depot_model.specs.exchange.Bundle.{Signs}
+use Rattle.depot_model.specs.checks.Checks.{Setting}
+use Rattle.depot_model.specs.texts.Roster.{key_of}
 use Rattle.depot_model.specs.declared.signature.Signer as signer
 use Rattle.depot_node.specs.Starting.{IsNotStarted, IsStartedFrom}
 use Rattle.depot_c.specs.NodeViews.{Runs, NodeView, for_disk}

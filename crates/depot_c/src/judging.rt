@@ -1,6 +1,6 @@
 //! Proofs of misbehaviour, judged for a caller in C.
 ghost use Rattle.std.specs.Prelude.{◌≡◌, ◌≢◌};
-ghost use Rattle.depot_model.specs.Texts.{number_of_kind};
+ghost use Rattle.depot_model.specs.texts.Texts.{number_of_kind};
 ghost use Rattle.depot_c.specs.Judgements.{IsConvicted, IsRosterRefused, IsNotConvicted, IsStatus};
 
 use depot_base::Kind;

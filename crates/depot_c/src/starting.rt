@@ -1,6 +1,6 @@
 //! A node is started for a caller.
 ghost use Rattle.std.specs.Prelude.{IfOk, IfErr};
-ghost use Rattle.depot_model.specs.Winternitz.{winternitz_verifies};
+ghost use Rattle.depot_model.specs.texts.Winternitz.{winternitz_verifies};
 ghost use Rattle.depot_node.specs.Starting.{placed};
 ghost use Rattle.depot_c.specs.Starts.{IsRefusedOn, IsStartedBy, NodeGiven};
 

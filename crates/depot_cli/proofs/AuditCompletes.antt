@@ -6,13 +6,13 @@ use Rattle.depot_base.proofs.Decoding.{in_one_way}
 use Rattle.depot_base.specs.declared.fault.DecodeError.TheVariants as errors
 use Rattle.depot_base.specs.Reading.{Decodes}
 use Rattle.depot_base.specs.declared.key.RosterEntry.{RosterEntry}
-use Rattle.depot_model.specs.Audit as audits
-use Rattle.depot_model.specs.Items.{AreDistinct}
-use Rattle.depot_model.specs.Lists.{IsIn}
-use Rattle.depot_model.specs.Roster.{has_node}
-use Rattle.depot_model.specs.Texts.{roster}
-use Rattle.depot_model.proofs.Members.{all_at, in_map}
-use Rattle.depot_model.proofs.TextLaws.{roster_lawful}
+use Rattle.depot_model.specs.worlds.Audit as audits
+use Rattle.depot_model.specs.lists.Items.{AreDistinct}
+use Rattle.depot_model.specs.lists.Lists.{IsIn}
+use Rattle.depot_model.specs.texts.Roster.{has_node}
+use Rattle.depot_model.specs.texts.Texts.{roster}
+use Rattle.depot_model.proofs.lists.Members.{all_at, in_map}
+use Rattle.depot_model.proofs.of_texts.TextLaws.{roster_lawful}
 use Rattle.depot_outside.specs.Told.{Shelves, Loads, Sinks, HasFile}
 use Rattle.depot_traces.proofs.TraceLaws.{trace_text_lawful}
 use Rattle.depot_traces.specs.TraceTexts.{IsTrace, text_of_trace, trace_text}

@@ -7,16 +7,16 @@ use Rattle.depot_answers.specs.AnswerTexts.{text_of_finding}
 use Rattle.depot_base.specs.Format.{number}
 use Rattle.depot_base.specs.declared.key.RosterEntry.{RosterEntry}
 use Rattle.depot_base.specs.declared.memory.Memory as absent
-use Rattle.depot_laws.proofs.OneFinding.{one_finding}
-use Rattle.depot_laws.proofs.YesOfTraces.{yes_to, yes_from}
-use Rattle.depot_model.specs.Audit.{Finding, yes_found}
-use Rattle.depot_model.specs.Items.{AreDistinct}
-use Rattle.depot_model.specs.Lists.{IsIn}
-use Rattle.depot_model.specs.Roster.{has_node}
-use Rattle.depot_model.specs.Traces.{IsFindingOf}
-use Rattle.depot_model.specs.Traces as traces
-use Rattle.depot_model.specs.Winternitz.{winternitz_verifies}
-use Rattle.depot_model.proofs.Members.{from_map, all_at}
+use Rattle.depot_laws.proofs.of_audits.OneFinding.{one_finding}
+use Rattle.depot_laws.proofs.of_audits.YesOfTraces.{yes_to, yes_from}
+use Rattle.depot_model.specs.worlds.Audit.{Finding, yes_found}
+use Rattle.depot_model.specs.lists.Items.{AreDistinct}
+use Rattle.depot_model.specs.lists.Lists.{IsIn}
+use Rattle.depot_model.specs.texts.Roster.{has_node}
+use Rattle.depot_model.specs.worlds.Traces.{IsFindingOf}
+use Rattle.depot_model.specs.worlds.Traces as traces
+use Rattle.depot_model.specs.texts.Winternitz.{winternitz_verifies}
+use Rattle.depot_model.proofs.lists.Members.{from_map, all_at}
 use Rattle.depot_outside.specs.Told.{Shelves, Loads, HasFile, WhereTold}
 use Rattle.depot_traces.specs.SeenTraces.{finding_of, trace_of}
 use Rattle.depot_traces.specs.TraceTexts.{IsTrace, trace_text}

@@ -3,8 +3,8 @@ use Rattle.std.proofs.Common.{◌≡◌, ℕ, ◌⊎◌, List, Option, Some, Non
 use Rattle.depot_base.specs.Format.{whole}
 use Rattle.depot_base.specs.declared.update.Update.{Update}
 use Rattle.depot_base.specs.declared.key.RosterEntry.{RosterEntry}
-use Rattle.depot_model.specs.Log.{first_orphan}
-use Rattle.depot_model.proofs.LogLaws.{one_log, log_has_no_fault}
+use Rattle.depot_model.specs.texts.Log.{first_orphan}
+use Rattle.depot_model.proofs.of_texts.LogLaws.{one_log, log_has_no_fault}
 use Rattle.depot_schedule.specs.Schedules.{schedule_of}
 use Rattle.depot_schedule.proofs.ScheduleLaws.{schedule_again}
 pub use Rattle.depot_cli.proofs.ThereFiles.{not_lacking, one_file, no_roster}

@@ -3,8 +3,8 @@ use Rattle.std.proofs.Common.{◌≡◌, ℕ, List, [], ◌∷◌, ◌++◌, tak
 use Rattle.std.specs.Result.{IfOk}
 use Rattle.std.proofs.lemmas.Result.{IfOk-weaker}
 use Rattle.depot_base.specs.declared.memory.Memory as absent
-use Rattle.depot_model.specs.Causality.{IsForkJoinCausal, ConvictsNoCorrectNode}
-use Rattle.depot_model.specs.World.{IsAuthentic, IsCollisionFree}
+use Rattle.depot_model.specs.worlds.Causality.{IsForkJoinCausal, ConvictsNoCorrectNode}
+use Rattle.depot_model.specs.worlds.World.{IsAuthentic, IsCollisionFree}
 use Rattle.depot_schedule.specs.Schedules.{IsTextOfSchedule}
 use Rattle.depot_schedule.specs.declared.schedule.Schedule.{Schedule}
 use Rattle.depot_world.specs.Transcript.{transcript_of, world_of}

@@ -5,9 +5,9 @@ use Rattle.std.proofs.lemmas.Bool.{eq-eqb}
 use Rattle.std.proofs.lemmas.Option.{slice_get-get_or}
 use Rattle.depot_base.proofs.GeneralLaws.{take_next}
 use Rattle.depot_base.specs.declared.key.RosterEntry.{RosterEntry}
-use Rattle.depot_model.specs.Items.{AreDistinct}
-use Rattle.depot_model.specs.Roster.{has_node}
-use Rattle.depot_model.proofs.Members.{all_push}
+use Rattle.depot_model.specs.lists.Items.{AreDistinct}
+use Rattle.depot_model.specs.texts.Roster.{has_node}
+use Rattle.depot_model.proofs.lists.Members.{all_push}
 use Rattle.depot_outside.specs.Told.{loads, HasLoaded}
 use Rattle.depot_outside.specs.declared.shelf.Shelf.{Ghosts}
 use Rattle.depot_traces.specs.TraceTexts.{IsTrace, text_of_trace}

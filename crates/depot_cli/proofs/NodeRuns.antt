@@ -7,14 +7,14 @@ use Rattle.depot_base.specs.declared.record.Record.{Record}
 use Rattle.std.specs.Result.{IfOk}
 use Rattle.std.proofs.lemmas.Result.{IfOk-weaker}
 use Rattle.depot_base.specs.declared.memory.Memory as absent
-use Rattle.depot_model.specs.Bundle.{Signs}
-use Rattle.depot_model.specs.Checks.{Setting}
-use Rattle.depot_model.specs.Lines.{text_of_roster_error}
-use Rattle.depot_model.specs.RosterText.{IsRefusedFor}
+use Rattle.depot_model.specs.exchange.Bundle.{Signs}
+use Rattle.depot_model.specs.checks.Checks.{Setting}
+use Rattle.depot_model.specs.texts.Lines.{text_of_roster_error}
+use Rattle.depot_model.specs.texts.RosterText.{IsRefusedFor}
 use Rattle.depot_model.specs.declared.roster_format.RosterError.{RosterError}
 use Rattle.depot_model.specs.declared.roster_format.RosterError.TheVariants as roster_error
-use Rattle.depot_model.specs.Texts.{roster}
-use Rattle.depot_model.proofs.TextLaws.{roster_lawful}
+use Rattle.depot_model.specs.texts.Texts.{roster}
+use Rattle.depot_model.proofs.of_texts.TextLaws.{roster_lawful}
 use Rattle.depot_outside.specs.Told.{Disks, HasFile, HasLoaded, LacksFile, Loads, Shelves, Sinks, WhereTold, shelves}
 use Rattle.depot_outside.specs.declared.shelf.Shelf.{Ghosts}
 use Rattle.depot_script.specs.Scripts.{IsTextOfScript, script_of}

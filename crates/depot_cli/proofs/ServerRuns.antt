@@ -11,8 +11,8 @@ use Rattle.std.specs.Result.{IfOk}
 use Rattle.depot_base.specs.declared.key.RosterEntry.{RosterEntry}
 use Rattle.depot_base.specs.declared.memory.Memory as absent
 use Rattle.depot_base.specs.declared.record.Record.{Record}
-use Rattle.depot_model.specs.Lines.{text_of_roster_error}
-use Rattle.depot_model.specs.RosterText.{IsRefusedFor}
+use Rattle.depot_model.specs.texts.Lines.{text_of_roster_error}
+use Rattle.depot_model.specs.texts.RosterText.{IsRefusedFor}
 use Rattle.depot_model.specs.declared.roster_format.RosterError.{RosterError}
 use Rattle.depot_model.specs.declared.roster_format.RosterError.TheVariants as roster_error
 use Rattle.depot_node.specs.Starting.{LeavesFile}

@@ -4,8 +4,8 @@ use Rattle.std.specs.List.{AllByRecursion, list_any}
 use Rattle.depot_base.specs.Reading.{Decodes}
 use Rattle.depot_base.specs.declared.fault.DecodeError.TheVariants as errors
 use Rattle.depot_base.specs.declared.key.RosterEntry.{RosterEntry}
-use Rattle.depot_model.specs.Items.{AreDistinct}
-use Rattle.depot_model.specs.Roster.{has_node}
+use Rattle.depot_model.specs.lists.Items.{AreDistinct}
+use Rattle.depot_model.specs.texts.Roster.{has_node}
 use Rattle.depot_outside.specs.Told.{Loads, loads, HasLoaded}
 use Rattle.depot_outside.specs.declared.shelf.Shelf.{Ghosts}
 use Rattle.depot_traces.specs.TraceTexts.{trace_text, IsTrace, text_of_trace}

@@ -2,11 +2,11 @@
 use Rattle.std.specs.Prelude.{◌≡◌, ◌<◌, ◌⊎◌, ℕ, List, Bool, [], ◌∷◌, ◌++◌, IsTrue, Option, Some}
 use Rattle.depot_base.specs.declared.key.RosterEntry.{RosterEntry}
 use Rattle.depot_base.specs.declared.record.Record.{Record}
-use Rattle.depot_model.specs.Checks.{Setting}
-use Rattle.depot_model.specs.Lawful.{IsLawful}
-use Rattle.depot_model.specs.Roster.{key_of}
-use Rattle.depot_model.specs.Stops.{HasRecords}
-use Rattle.depot_model.specs.Winternitz.{winternitz_signature, winternitz_verifies}
+use Rattle.depot_model.specs.checks.Checks.{Setting}
+use Rattle.depot_model.specs.journals.Lawful.{IsLawful}
+use Rattle.depot_model.specs.texts.Roster.{key_of}
+use Rattle.depot_model.specs.journals.Stops.{HasRecords}
+use Rattle.depot_model.specs.texts.Winternitz.{winternitz_signature, winternitz_verifies}
 use Rattle.depot_outside.specs.declared.disk.Disk as disk_of
 use Rattle.depot_outside.specs.declared.shelf.Shelf as shelf_of
 use Rattle.depot_outside.specs.declared.sink.Sink as sink_of

@@ -9,19 +9,19 @@ use Rattle.depot_base.specs.declared.key.RosterEntry.{RosterEntry}
 use Rattle.depot_model.specs.declared.judgement.Verdict.{Verdict}
 use Rattle.depot_model.specs.declared.judgement.JudgeError.{JudgeError}
 use Rattle.depot_model.specs.declared.judgement.JudgeError.TheVariants as point
-use Rattle.depot_model.specs.Texts.{IsRoster, text_of_roster}
-use Rattle.depot_model.specs.RosterText.{IsRefusedFor}
+use Rattle.depot_model.specs.texts.Texts.{IsRoster, text_of_roster}
+use Rattle.depot_model.specs.texts.RosterText.{IsRefusedFor}
 use Rattle.depot_model.specs.declared.roster_format.RosterError.{RosterError}
-use Rattle.depot_model.specs.Log.{IsLog, IsLogFault, first_orphan}
-use Rattle.depot_model.specs.Judgement.{IsJudgementOf}
-use Rattle.depot_model.specs.Winternitz.{root_of, winternitz_verifies}
-use Rattle.depot_model.specs.Lines.{text_of_verdict, text_of_point, text_of_roster_error}
-use Rattle.depot_model.specs.Causality.{IsForkJoinCausal, ConvictsNoCorrectNode}
-use Rattle.depot_model.specs.Items.{AreDistinct}
-use Rattle.depot_model.specs.Roster.{has_node}
-use Rattle.depot_model.specs.World.{IsAuthentic, IsCollisionFree}
-use Rattle.depot_model.specs.Audit as audits
-use Rattle.depot_model.specs.Traces.{IsFindingOf, IsCausalWorldOf}
+use Rattle.depot_model.specs.texts.Log.{IsLog, IsLogFault, first_orphan}
+use Rattle.depot_model.specs.updates.Judgement.{IsJudgementOf}
+use Rattle.depot_model.specs.texts.Winternitz.{root_of, winternitz_verifies}
+use Rattle.depot_model.specs.texts.Lines.{text_of_verdict, text_of_point, text_of_roster_error}
+use Rattle.depot_model.specs.worlds.Causality.{IsForkJoinCausal, ConvictsNoCorrectNode}
+use Rattle.depot_model.specs.lists.Items.{AreDistinct}
+use Rattle.depot_model.specs.texts.Roster.{has_node}
+use Rattle.depot_model.specs.worlds.World.{IsAuthentic, IsCollisionFree}
+use Rattle.depot_model.specs.worlds.Audit as audits
+use Rattle.depot_model.specs.worlds.Traces.{IsFindingOf, IsCausalWorldOf}
 use Rattle.depot_answers.specs.AnswerTexts.{text_of_faulty_line, text_of_finding}
 use Rattle.depot_script.specs.Scripts.{script_of}
 use Rattle.depot_schedule.specs.Schedules.{IsTextOfSchedule, schedule_of}

@@ -3,7 +3,7 @@ use Rattle.std.specs.Prelude.{ℕ, List, [], ◌∷◌, length, ◌&&◌, codes,
 use Rattle.std.specs.List.{list_all}
 use Rattle.std.specs.Str.{bytes_eq}
 use Rattle.depot_base.specs.declared.limits.TheConstants.{MOST_KEY, LEAST_HEIGHT, GREATEST_HEIGHT}
-use Rattle.depot_model.specs.Lists.{when}
+use Rattle.depot_model.specs.lists.Lists.{when}
 use Rattle.depot_lines.specs.Spelling.{is_within, hex_word, sized, number_word, is_plain_name}
 use Rattle.depot_lines.specs.FileNames.{is_file_name}
 use Rattle.depot_traces.specs.declared.trace.TheConstants.{MOST_TRACES}

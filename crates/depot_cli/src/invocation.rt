@@ -1,7 +1,7 @@
 //! The commands, and which words ask for them.
 ghost use Rattle.std.specs.Prelude.{◌≡◌, IfOk, None, Some};
 ghost use Rattle.std.specs.List.{list_all};
-ghost use Rattle.depot_model.specs.Lists.{when};
+ghost use Rattle.depot_model.specs.lists.Lists.{when};
 ghost use Rattle.depot_lines.specs.FileNames.{is_file_name};
 ghost use Rattle.depot_cli.specs.Words.{audit_command, trace_names, command_of, command_by_number, command_by, command_for, command_with, scan_command, key_command, judge_command, load_command, node_command, replay_command, served_words, server_words};
 

@@ -1,6 +1,6 @@
 //! `judge ROSTER PROOF`: whether a text convicts a node: by two statements that contradict each other, or as a hollow proof.
 ghost use Rattle.std.specs.Prelude.{◌≡◌, ◌≢◌, ◌++◌, ◌∷◌, [], IfOk, codes, Ok, Err};
-ghost use Rattle.depot_model.specs.Lines.{text_of_verdict, text_of_point, text_of_roster_error};
+ghost use Rattle.depot_model.specs.texts.Lines.{text_of_verdict, text_of_point, text_of_roster_error};
 ghost use Rattle.depot_outside.specs.Told.{shelves, loads, HasLoaded};
 ghost use Rattle.depot_cli.specs.Runs.{EndsAtFault, Judges, JudgesProof, JudgementOf, LoadsBehindRoster};
 

@@ -13,13 +13,13 @@ use Rattle.depot_base.specs.declared.record.Record.{Record}
 use Rattle.depot_model.specs.declared.taken.Taken.{Taken}
 use Rattle.depot_model.specs.declared.taken.TakeError.{TakeError}
 use Rattle.depot_model.specs.declared.taken.TakeError.TheVariants as refused
-use Rattle.depot_model.specs.Checks.{Setting, Given, answer_to, growth_by, growth}
-use Rattle.depot_model.specs.Lawful.{IsLawful, is_empty}
-use Rattle.depot_model.specs.Limits.{IsCutShort}
-use Rattle.depot_model.specs.Room.{full_by}
-use Rattle.depot_model.specs.Taking.{OfGiven, IsAnswered, IsFull, IsCutByDisk, Takes}
+use Rattle.depot_model.specs.checks.Checks.{Setting, Given, answer_to, growth_by, growth}
+use Rattle.depot_model.specs.journals.Lawful.{IsLawful, is_empty}
+use Rattle.depot_model.specs.checks.Limits.{IsCutShort}
+use Rattle.depot_model.specs.checks.Room.{full_by}
+use Rattle.depot_model.specs.checks.Taking.{OfGiven, IsAnswered, IsFull, IsCutByDisk, Takes}
 use Rattle.depot_laws.specs.Given.{HasText}
-use Rattle.depot_laws.proofs.Growing.{grown_is_lawful}
+use Rattle.depot_laws.proofs.records.Growing.{grown_is_lawful}
 use Rattle.depot_readings.specs.NewRecords.{MayGrow}
 use Rattle.depot_decide.specs.Deciding.{HasGrown, HadNoRoom, IsDecided, Decides, IsCarriedOut}
 use Rattle.depot_decide.specs.declared.decision.Decision.{Decision}

@@ -15,15 +15,15 @@ use Rattle.depot_base.specs.declared.record.Record.TheVariants.{Foreign, Convict
 use Rattle.depot_base.specs.declared.statement.Signed.{Signed}
 use Rattle.depot_model.specs.declared.taken.Taken.{Taken}
 use Rattle.depot_model.specs.declared.taken.Taken.TheVariants.{New, Known}
-use Rattle.depot_model.specs.Checks.{Setting, given_statement, answer_to, opponent, named_opponent, due, added, exposed, growth_by, growth}
-use Rattle.depot_model.specs.Contradictions.{contradicts}
-use Rattle.depot_model.specs.Conviction.{proof_of}
-use Rattle.depot_model.specs.Journal.{foreign, is_convicted, is_vouched}
-use Rattle.depot_model.specs.Texts.{IsSigned, id_of_statement}
-use Rattle.depot_model.specs.Judgement.{IsContrary}
-use Rattle.depot_model.proofs.BodyLaws.{body_is_text}
-use Rattle.depot_model.proofs.ContradictionLaws.{contradicts_comm}
-use Rattle.depot_laws.proofs.Contrary.{IsOpponent, opponent_is, named_opponent_is, of_proof_of}
+use Rattle.depot_model.specs.checks.Checks.{Setting, given_statement, answer_to, opponent, named_opponent, due, added, exposed, growth_by, growth}
+use Rattle.depot_model.specs.updates.Contradictions.{contradicts}
+use Rattle.depot_model.specs.updates.Conviction.{proof_of}
+use Rattle.depot_model.specs.journals.Journal.{foreign, is_convicted, is_vouched}
+use Rattle.depot_model.specs.texts.Texts.{IsSigned, id_of_statement}
+use Rattle.depot_model.specs.updates.Judgement.{IsContrary}
+use Rattle.depot_model.proofs.of_texts.BodyLaws.{body_is_text}
+use Rattle.depot_model.proofs.of_updates.ContradictionLaws.{contradicts_comm}
+use Rattle.depot_laws.proofs.convicting.Contrary.{IsOpponent, opponent_is, named_opponent_is, of_proof_of}
 use Rattle.depot_kept.specs.declared.seen_statements.Found.{Found}
 use Rattle.depot_accept.specs.CheckResults.{AreDue, IsNew, IsChecked}
 use Rattle.depot_accept.specs.StateView.{View, IsStateOf}

@@ -5,13 +5,13 @@ use Rattle.std.specs.Str.{bytes_eq}
 use Rattle.std.proofs.lemmas.Bool.{and_from, and_parts, false_from_ne_true}
 use Rattle.std.proofs.lemmas.Slice.Eq.{bytes_eq-Decides}
 use Rattle.depot_base.specs.declared.update.Update.{Update}
-use Rattle.depot_model.specs.Texts.{id_of_update}
-use Rattle.depot_model.specs.Order.{IsCausal}
-use Rattle.depot_model.specs.Items.{place_of_id}
-use Rattle.depot_model.specs.Journal.{is_foreign}
-use Rattle.depot_model.proofs.Elements.{in_at}
-use Rattle.depot_model.proofs.Members.{any_from, any_to}
-use Rattle.depot_model.proofs.Orders.{one_of_id}
+use Rattle.depot_model.specs.texts.Texts.{id_of_update}
+use Rattle.depot_model.specs.updates.Order.{IsCausal}
+use Rattle.depot_model.specs.lists.Items.{place_of_id}
+use Rattle.depot_model.specs.journals.Journal.{is_foreign}
+use Rattle.depot_model.proofs.lists.Elements.{in_at}
+use Rattle.depot_model.proofs.lists.Members.{any_from, any_to}
+use Rattle.depot_model.proofs.of_updates.Orders.{one_of_id}
 use Rattle.depot_graph.proofs.ItemPlaces.{has_place, has_no_place}
 use Rattle.depot_base.proofs.GeneralLaws.{same_test}
 

@@ -9,11 +9,11 @@ use Rattle.depot_base.specs.declared.record.Record.TheVariants.{Foreign, Convict
 use Rattle.depot_base.specs.declared.statement.Signed.{Signed}
 use Rattle.depot_model.specs.declared.taken.Taken.{Taken}
 use Rattle.depot_model.specs.declared.taken.Taken.TheVariants.{New, Known}
-use Rattle.depot_model.specs.Checks.{Setting, Given, given_statement, given_proof, given_value, answer_to, opponent, named_opponent, due, added, exposed, growth_by, growth}
-use Rattle.depot_model.specs.Conviction.{proof_of}
-use Rattle.depot_model.specs.Journal.{foreign, is_convicted, is_vouched}
-use Rattle.depot_model.specs.Lists.{IsIn}
-use Rattle.depot_model.proofs.Members.{in_parts}
+use Rattle.depot_model.specs.checks.Checks.{Setting, Given, given_statement, given_proof, given_value, answer_to, opponent, named_opponent, due, added, exposed, growth_by, growth}
+use Rattle.depot_model.specs.updates.Conviction.{proof_of}
+use Rattle.depot_model.specs.journals.Journal.{foreign, is_convicted, is_vouched}
+use Rattle.depot_model.specs.lists.Lists.{IsIn}
+use Rattle.depot_model.proofs.lists.Members.{in_parts}
 use Rattle.depot_readings.specs.NewRecords.{AreNew}
 
 -- a conviction that is due brings no statement

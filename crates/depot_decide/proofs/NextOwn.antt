@@ -8,21 +8,21 @@ use Rattle.depot_base.specs.declared.record.Record.{Record}
 use Rattle.depot_base.specs.declared.update.Dep.{Dep}
 use Rattle.depot_base.specs.declared.update.Update.{Update}
 use Rattle.depot_base.specs.declared.write.Write.{Write}
-use Rattle.depot_model.specs.Checks.{Setting}
-use Rattle.depot_model.specs.History.{by_id, leaves_of, history_hash}
-use Rattle.depot_model.specs.Items.{place_of_prev, updates_at}
-use Rattle.depot_model.specs.Journal.{accepted, last_own}
-use Rattle.depot_model.specs.Lawful.{IsLawful}
-use Rattle.depot_model.specs.Own.{entry_of, next_entries, next_with}
-use Rattle.depot_model.specs.Roster.{Verifies}
-use Rattle.depot_laws.proofs.OwnTexts.{lawful_is_short}
+use Rattle.depot_model.specs.checks.Checks.{Setting}
+use Rattle.depot_model.specs.updates.History.{by_id, leaves_of, history_hash}
+use Rattle.depot_model.specs.lists.Items.{place_of_prev, updates_at}
+use Rattle.depot_model.specs.journals.Journal.{accepted, last_own}
+use Rattle.depot_model.specs.journals.Lawful.{IsLawful}
+use Rattle.depot_model.specs.checks.Own.{entry_of, next_entries, next_with}
+use Rattle.depot_model.specs.texts.Roster.{Verifies}
+use Rattle.depot_laws.proofs.own_updates.OwnTexts.{lawful_is_short}
 use Rattle.depot_accept.specs.StateView.{View, IsStateOf, setting}
 use Rattle.depot_readings.specs.Totals.{AreTotals}
 use Rattle.depot_readings.specs.ReadingsView.{Known, standing}
 use Rattle.depot_readings.specs.declared.totals.Totals.{Totals}
 use Rattle.depot_readings.proofs.LeafLaws.{few_accepted}
 use Rattle.depot_base.proofs.GeneralLaws.{at_place}
-use Rattle.depot_model.proofs.RisingUpdates.{by_id_length}
+use Rattle.depot_model.proofs.lists.RisingUpdates.{by_id_length}
 
 -- ---- the items of its entries
 

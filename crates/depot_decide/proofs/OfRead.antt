@@ -12,13 +12,13 @@ use Rattle.depot_base.specs.declared.statement.Statement.TheVariants as statemen
 use Rattle.depot_base.specs.Statement.{writer_of}
 use Rattle.depot_model.specs.declared.judgement.JudgeError.{JudgeError}
 use Rattle.depot_model.specs.declared.judgement.JudgeError.TheVariants as point
-use Rattle.depot_model.specs.Judgement.{first_failed_point}
-use Rattle.depot_model.specs.Lists.{when}
-use Rattle.depot_model.specs.Texts.{id_of_statement}
-use Rattle.depot_model.specs.Journal.{foreign, is_convicted, is_vouched}
-use Rattle.depot_model.specs.Checks.{Setting, Given, given_statement, given_proof, given_value, content_of, opponent, forked_by, forked, refused_as_convicted, statement_checks, check_of_point, proof_checks, first_failed_check, is_known, answer_by, answer_to}
+use Rattle.depot_model.specs.updates.Judgement.{first_failed_point}
+use Rattle.depot_model.specs.lists.Lists.{when}
+use Rattle.depot_model.specs.texts.Texts.{id_of_statement}
+use Rattle.depot_model.specs.journals.Journal.{foreign, is_convicted, is_vouched}
+use Rattle.depot_model.specs.checks.Checks.{Setting, Given, given_statement, given_proof, given_value, content_of, opponent, forked_by, forked, refused_as_convicted, statement_checks, check_of_point, proof_checks, first_failed_check, is_known, answer_by, answer_to}
 use Rattle.depot_accept.proofs.ContentShows.{HoldsOfContent, shows_content}
-use Rattle.depot_model.proofs.FirstLaws.{Shows, shows_first, shows_append, shows_when}
+use Rattle.depot_model.proofs.lists.FirstLaws.{Shows, shows_first, shows_append, shows_when}
 
 -- it is another check than that of the text
 abbrev pub IsOfRead : Check → Type 0

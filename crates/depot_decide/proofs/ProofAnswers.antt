@@ -6,9 +6,9 @@ use Rattle.depot_base.specs.declared.proof.Proof.{Proof}
 use Rattle.depot_base.specs.declared.record.Record.{Record}
 use Rattle.depot_base.specs.declared.record.Record.TheVariants.{Conviction}
 use Rattle.depot_model.specs.declared.taken.Taken.TheVariants.{New, Known}
-use Rattle.depot_model.specs.Lists.{first}
-use Rattle.depot_model.specs.Checks.{Setting, given_proof, proof_checks, first_failed_check, is_known, answer_to, added}
-use Rattle.depot_model.specs.Journal.{accused, is_convicted}
+use Rattle.depot_model.specs.lists.Lists.{first}
+use Rattle.depot_model.specs.checks.Checks.{Setting, given_proof, proof_checks, first_failed_check, is_known, answer_to, added}
+use Rattle.depot_model.specs.journals.Journal.{accused, is_convicted}
 use Rattle.depot_accept.specs.StateView.{View, IsStateOf}
 use Rattle.depot_decide.specs.Deciding.{IsDecided}
 use Rattle.depot_decide.proofs.Decided.{decided_by}

@@ -8,23 +8,23 @@ use Rattle.depot_base.specs.declared.statement.Signed.{Signed}
 use Rattle.depot_base.specs.declared.update.Update.{Update}
 use Rattle.depot_base.specs.declared.write.Change.{Change}
 use Rattle.depot_base.specs.declared.write.Write.{Write}
-use Rattle.depot_model.specs.Changes.{AreChanges}
-use Rattle.depot_model.specs.Checks.{Setting}
-use Rattle.depot_model.specs.Journal.{own}
-use Rattle.depot_model.specs.Lawful.{IsLawful, is_empty}
-use Rattle.depot_model.specs.Lists.{IsIn}
-use Rattle.depot_model.specs.Own.{next_own, next_with, write_of, values_of, IsFresh, leaf_count}
-use Rattle.depot_model.specs.Records.{IsRecord, text_of_record, IsTextOf}
-use Rattle.depot_model.specs.Room.{full_by}
-use Rattle.depot_model.specs.Texts.{id_of_update}
-use Rattle.depot_laws.proofs.OwnTexts.{own_record_fits, own_put_is_lawful}
+use Rattle.depot_model.specs.updates.Changes.{AreChanges}
+use Rattle.depot_model.specs.checks.Checks.{Setting}
+use Rattle.depot_model.specs.journals.Journal.{own}
+use Rattle.depot_model.specs.journals.Lawful.{IsLawful, is_empty}
+use Rattle.depot_model.specs.lists.Lists.{IsIn}
+use Rattle.depot_model.specs.checks.Own.{next_own, next_with, write_of, values_of, IsFresh, leaf_count}
+use Rattle.depot_model.specs.texts.Records.{IsRecord, text_of_record, IsTextOf}
+use Rattle.depot_model.specs.checks.Room.{full_by}
+use Rattle.depot_model.specs.texts.Texts.{id_of_update}
+use Rattle.depot_laws.proofs.own_updates.OwnTexts.{own_record_fits, own_put_is_lawful}
 use Rattle.depot_readings.specs.NewRecords.{MayGrow}
-use Rattle.depot_model.specs.Limits.{limit_of_own, limit_of_put, IsCutShort}
-use Rattle.depot_model.specs.Limits as limits
-use Rattle.depot_model.proofs.LimitLaws.{limit_spent, limit_tips, limit_collides, limit_full, limit_none}
+use Rattle.depot_model.specs.checks.Limits.{limit_of_own, limit_of_put, IsCutShort}
+use Rattle.depot_model.specs.checks.Limits as limits
+use Rattle.depot_model.proofs.of_updates.LimitLaws.{limit_spent, limit_tips, limit_collides, limit_full, limit_none}
 use Rattle.depot_decide.specs.Deciding.{HasGrown, HadNoRoom}
 use Rattle.depot_decide.specs.PlannedPuts.{IsTooWide, IsPlanned, IsRefused}
-use Rattle.depot_model.specs.Putting.{put_done_of, put_records, Puts}
+use Rattle.depot_model.specs.checks.Putting.{put_done_of, put_records, Puts}
 use Rattle.depot_model.specs.declared.put_answers.PutDone.{PutDone}
 use Rattle.depot_model.specs.declared.put_answers.PutError.TheVariants as refused
 use Rattle.depot_decide.specs.PlanErrors.{of_next, put_error_of}

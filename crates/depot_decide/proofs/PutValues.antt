@@ -10,8 +10,8 @@ use Rattle.depot_base.specs.declared.update.NamedValue.{NamedValue}
 use Rattle.depot_base.specs.declared.write.Wrote.{Wrote}
 use Rattle.depot_base.specs.declared.write.Wrote.TheVariants.{Put, Gone}
 use Rattle.depot_base.specs.declared.write.Write.{Write}
-use Rattle.depot_model.specs.Own.{write_of, changes_of}
-use Rattle.depot_model.proofs.ChangeLaws.{have_hashes, goes_with, hashes_from}
+use Rattle.depot_model.specs.checks.Own.{write_of, changes_of}
+use Rattle.depot_model.proofs.of_updates.ChangeLaws.{have_hashes, goes_with, hashes_from}
 
 -- Of writes and values these are left: their lengths agree, and all values are those of all writes exactly where these are.
 pub record AreLeft (ws : List Write) (vs : List (List ℕ)) (left : List Write) (rest : List (List ℕ)) : Type 0 where

@@ -15,14 +15,14 @@ use Rattle.depot_model.specs.declared.record_fault.RecordFault.{RecordFault}
 use Rattle.depot_model.specs.declared.record_fault.RecordFault.TheVariants as fault
 use Rattle.depot_model.specs.declared.taken.Taken.{Taken}
 use Rattle.depot_model.specs.declared.taken.Taken.TheVariants.{New, Known}
-use Rattle.depot_model.specs.Checks.{Setting, Given, given_statement, given_proof, given_value, opponent, due, added, growth_by, growth}
-use Rattle.depot_model.specs.Journal.{accepted, foreign, is_foreign, is_vouched, own}
-use Rattle.depot_model.specs.Lawful.{MayFollow, MayPut, MayVouch}
-use Rattle.depot_model.proofs.Members.{all_at, all_from}
-use Rattle.depot_model.specs.Own.{next_own, next_with, write_of, changes_of, IsFresh, leaf_count}
-use Rattle.depot_model.specs.RecordFaults.{taken_by_record, IsAtPlace}
-use Rattle.depot_model.specs.Texts.{id_of_update}
-use Rattle.depot_laws.proofs.Nexts.{next_of, own_writes}
+use Rattle.depot_model.specs.checks.Checks.{Setting, Given, given_statement, given_proof, given_value, opponent, due, added, growth_by, growth}
+use Rattle.depot_model.specs.journals.Journal.{accepted, foreign, is_foreign, is_vouched, own}
+use Rattle.depot_model.specs.journals.Lawful.{MayFollow, MayPut, MayVouch}
+use Rattle.depot_model.proofs.lists.Members.{all_at, all_from}
+use Rattle.depot_model.specs.checks.Own.{next_own, next_with, write_of, changes_of, IsFresh, leaf_count}
+use Rattle.depot_model.specs.checks.RecordFaults.{taken_by_record, IsAtPlace}
+use Rattle.depot_model.specs.texts.Texts.{id_of_update}
+use Rattle.depot_laws.proofs.own_updates.Nexts.{next_of, own_writes}
 use Rattle.depot_decide.specs.Deciding.{IsDecided}
 use Rattle.depot_decide.specs.ReadRecords.{IsGoodRecord, IsRecordChecked, TakesNew, HasManyEntries, record_fault_of}
 use Rattle.depot_decide.specs.declared.record_check.Fit.{Fit}

@@ -17,26 +17,26 @@ use Rattle.depot_base.specs.declared.write.Write.{Write}
 use Rattle.depot_base.proofs.FormatLaws.{cursor}
 use Rattle.depot_model.specs.declared.record_fault.RecordFault.{RecordFault}
 use Rattle.depot_model.specs.declared.record_fault.RecordFault.TheVariants as fault
-use Rattle.depot_model.specs.Checks.{sight, content_checks, opponent, forked, refused_as_convicted, statement_checks, proof_checks, first_failed_check, is_known, answer_to, due, named_opponent, added, growth}
-use Rattle.depot_model.specs.Contradictions.{is_of_kind, contradicts, kind_of}
-use Rattle.depot_model.specs.Conviction.{proof_of}
-use Rattle.depot_model.specs.History.{leaves_of, put_by_id, by_id, history_text, history_hash}
-use Rattle.depot_model.specs.Journal.{first_values, has_id, named, prev_of, is_convicted, is_vouched, holds_hash, is_wanted}
-use Rattle.depot_model.specs.Judgement.{points}
-use Rattle.depot_model.specs.Lawful.{MayFollow, IsAllowed}
-use Rattle.depot_model.specs.Order.{past}
-use Rattle.depot_model.specs.Own.{precedes_named, next_entries, next_own, leaf_count}
-use Rattle.depot_model.specs.RecordFaults.{IsFaultOf, IsFault}
-use Rattle.depot_model.specs.Records.{birth, own_put, record_text, tagged, text_of_record}
-use Rattle.depot_model.specs.Room.{HasRoom, foreign_leaves, full_with}
-use Rattle.depot_model.specs.Roster.{key_of, is_signed}
-use Rattle.depot_model.specs.Texts.{update_fields, voucher_fields, update_body, voucher_body, statement, signed, proof, roster, id_of_update, id_of_statement, hash_of_roster}
-use Rattle.depot_model.proofs.Cast.{members, here, one, two, two_id, two_more, nine, nine_other, vouch, took, took_voucher}
-use Rattle.depot_model.proofs.RecordLaws.{record_text_lawful}
-use Rattle.depot_laws.proofs.JournalLimits.{within_from_room}
-use Rattle.depot_model.proofs.LawfulExamples.{birth_is_allowed}
+use Rattle.depot_model.specs.checks.Checks.{sight, content_checks, opponent, forked, refused_as_convicted, statement_checks, proof_checks, first_failed_check, is_known, answer_to, due, named_opponent, added, growth}
+use Rattle.depot_model.specs.updates.Contradictions.{is_of_kind, contradicts, kind_of}
+use Rattle.depot_model.specs.updates.Conviction.{proof_of}
+use Rattle.depot_model.specs.updates.History.{leaves_of, put_by_id, by_id, history_text, history_hash}
+use Rattle.depot_model.specs.journals.Journal.{first_values, has_id, named, prev_of, is_convicted, is_vouched, holds_hash, is_wanted}
+use Rattle.depot_model.specs.updates.Judgement.{points}
+use Rattle.depot_model.specs.journals.Lawful.{MayFollow, IsAllowed}
+use Rattle.depot_model.specs.updates.Order.{past}
+use Rattle.depot_model.specs.checks.Own.{precedes_named, next_entries, next_own, leaf_count}
+use Rattle.depot_model.specs.checks.RecordFaults.{IsFaultOf, IsFault}
+use Rattle.depot_model.specs.texts.Records.{birth, own_put, record_text, tagged, text_of_record}
+use Rattle.depot_model.specs.checks.Room.{HasRoom, foreign_leaves, full_with}
+use Rattle.depot_model.specs.texts.Roster.{key_of, is_signed}
+use Rattle.depot_model.specs.texts.Texts.{update_fields, voucher_fields, update_body, voucher_body, statement, signed, proof, roster, id_of_update, id_of_statement, hash_of_roster}
+use Rattle.depot_model.proofs.examples.Cast.{members, here, one, two, two_id, two_more, nine, nine_other, vouch, took, took_voucher}
+use Rattle.depot_model.proofs.of_texts.RecordLaws.{record_text_lawful}
+use Rattle.depot_laws.proofs.records.JournalLimits.{within_from_room}
+use Rattle.depot_model.proofs.examples.LawfulExamples.{birth_is_allowed}
 use Rattle.depot_decide.proofs.RecordChecks.{made_of}
-use Rattle.depot_laws.proofs.FaultLaws.{no_fault}
+use Rattle.depot_laws.proofs.records.FaultLaws.{no_fault}
 
 abbrev begun : List Record
 begun = Birth 1 (hash_of_roster members) ∷ []

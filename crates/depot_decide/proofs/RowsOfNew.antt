@@ -9,11 +9,11 @@ use Rattle.depot_base.specs.declared.statement.Statement.TheVariants as statemen
 use Rattle.depot_base.specs.declared.update.Update.{Update}
 use Rattle.depot_model.specs.declared.taken.Taken.{Taken}
 use Rattle.depot_model.specs.declared.taken.Taken.TheVariants.{New}
-use Rattle.depot_model.specs.Checks.{Setting, given_statement}
-use Rattle.depot_model.specs.Items.{AreItemsOf}
-use Rattle.depot_model.specs.Journal.{accepted}
-use Rattle.depot_model.specs.Lists.{IsIn}
-use Rattle.depot_model.specs.Order.{parents}
+use Rattle.depot_model.specs.checks.Checks.{Setting, given_statement}
+use Rattle.depot_model.specs.lists.Items.{AreItemsOf}
+use Rattle.depot_model.specs.journals.Journal.{accepted}
+use Rattle.depot_model.specs.lists.Lists.{IsIn}
+use Rattle.depot_model.specs.updates.Order.{parents}
 use Rattle.depot_kept.specs.declared.seen_statements.Found.{Found}
 use Rattle.depot_graph.specs.UpdateRows.{IsJoinedRow}
 use Rattle.depot_accept.specs.CheckResults.{IsNew, IsChecked}

@@ -7,16 +7,16 @@ use Rattle.depot_base.specs.declared.key.RosterEntry.{RosterEntry}
 use Rattle.depot_base.specs.declared.record.Record.{Record}
 use Rattle.depot_model.specs.declared.record_fault.RecordFault.{RecordFault}
 use Rattle.depot_model.specs.declared.record_fault.RecordFault.TheVariants as fault
-use Rattle.depot_model.specs.Checks.{Setting}
-use Rattle.depot_model.specs.Journal.{is_convicted}
-use Rattle.depot_model.specs.Lawful.{IsAllowed, IsLawful}
-use Rattle.depot_model.specs.RecordFaults.{IsFault, AreTextsOf, HaveFaultAt}
-use Rattle.depot_model.specs.Records.{text_of_record}
-use Rattle.depot_model.specs.Room.{full_by}
-use Rattle.depot_model.specs.Roster.{Verifies}
+use Rattle.depot_model.specs.checks.Checks.{Setting}
+use Rattle.depot_model.specs.journals.Journal.{is_convicted}
+use Rattle.depot_model.specs.journals.Lawful.{IsAllowed, IsLawful}
+use Rattle.depot_model.specs.checks.RecordFaults.{IsFault, AreTextsOf, HaveFaultAt}
+use Rattle.depot_model.specs.texts.Records.{text_of_record}
+use Rattle.depot_model.specs.checks.Room.{full_by}
+use Rattle.depot_model.specs.texts.Roster.{Verifies}
 use Rattle.depot_base.proofs.GeneralLaws.{take_next}
 use Rattle.depot_accept.specs.StateView.{View, IsStateOf}
-use Rattle.depot_laws.proofs.Splits.{lawful_push}
+use Rattle.depot_laws.proofs.lists.Splits.{lawful_push}
 use Rattle.depot_readings.specs.ReadingsView.{Known, standing}
 use Rattle.depot_decide.specs.ReadRecords.{IsFitFrom}
 use Rattle.depot_decide.specs.TextFaults.{IsTakenFrom}

@@ -11,8 +11,8 @@ use Rattle.depot_base.specs.declared.record.Record.{Record}
 use Rattle.depot_base.specs.declared.record.Record.TheVariants.{Held}
 use Rattle.depot_model.specs.declared.taken.Taken.{Taken}
 use Rattle.depot_model.specs.declared.taken.Taken.TheVariants.{New, Known}
-use Rattle.depot_model.specs.Checks.{Setting, given_value, first_failed_check, is_known, answer_to, added}
-use Rattle.depot_model.specs.Journal.{accepted, held, value_with, holds_hash, is_wanted}
+use Rattle.depot_model.specs.checks.Checks.{Setting, given_value, first_failed_check, is_known, answer_to, added}
+use Rattle.depot_model.specs.journals.Journal.{accepted, held, value_with, holds_hash, is_wanted}
 use Rattle.depot_decide.specs.Deciding.{IsDecided, DecidesValue}
 use Rattle.depot_decide.proofs.Decided.{decided_by, decides_given}
 

@@ -13,22 +13,22 @@ use Rattle.depot_base.specs.declared.statement.Signed.{Signed}
 use Rattle.depot_base.specs.declared.update.Update.{Update}
 use Rattle.depot_base.specs.declared.voucher.Voucher.{Voucher}
 use Rattle.depot_model.specs.declared.bundle.VoucherError.TheVariants as refused
-use Rattle.depot_model.specs.Checks.{Setting}
-use Rattle.depot_model.specs.Journal.{accepted, is_foreign, own}
-use Rattle.depot_model.specs.Lawful.{IsLawful, is_empty}
-use Rattle.depot_model.specs.Limits.{spent_by, IsCutShort}
-use Rattle.depot_model.specs.Limits as limits
-use Rattle.depot_model.specs.Lists.{AreApart, IsIn, first, when}
-use Rattle.depot_model.specs.Own.{leaf_count}
-use Rattle.depot_model.specs.Records.{IsRecord}
-use Rattle.depot_model.specs.Room.{full_by}
-use Rattle.depot_model.specs.Texts.{id_of_update}
-use Rattle.depot_model.specs.Vouching.{Vouches, groups_of, limit_of_new, limit_of_vouchers, new_vouchers, numbered, records_of}
-use Rattle.depot_model.proofs.Members.{all_at, all_from, any_to, in_map}
+use Rattle.depot_model.specs.checks.Checks.{Setting}
+use Rattle.depot_model.specs.journals.Journal.{accepted, is_foreign, own}
+use Rattle.depot_model.specs.journals.Lawful.{IsLawful, is_empty}
+use Rattle.depot_model.specs.checks.Limits.{spent_by, IsCutShort}
+use Rattle.depot_model.specs.checks.Limits as limits
+use Rattle.depot_model.specs.lists.Lists.{AreApart, IsIn, first, when}
+use Rattle.depot_model.specs.checks.Own.{leaf_count}
+use Rattle.depot_model.specs.texts.Records.{IsRecord}
+use Rattle.depot_model.specs.checks.Room.{full_by}
+use Rattle.depot_model.specs.texts.Texts.{id_of_update}
+use Rattle.depot_model.specs.checks.Vouching.{Vouches, groups_of, limit_of_new, limit_of_vouchers, new_vouchers, numbered, records_of}
+use Rattle.depot_model.proofs.lists.Members.{all_at, all_from, any_to, in_map}
 use Rattle.depot_accept.proofs.FirstFound.{first_one}
-use Rattle.depot_laws.proofs.Groups.{IsSized, from_groups, groups_sized, numbered_count}
-use Rattle.depot_laws.proofs.NewVouchers.{foreign_is_digest, voucher_fits, new_are_lawful}
-use Rattle.depot_laws.proofs.OwnTexts.{few_own, lawful_is_short, me_fits}
+use Rattle.depot_laws.proofs.lists.Groups.{IsSized, from_groups, groups_sized, numbered_count}
+use Rattle.depot_laws.proofs.records.NewVouchers.{foreign_is_digest, voucher_fits, new_are_lawful}
+use Rattle.depot_laws.proofs.own_updates.OwnTexts.{few_own, lawful_is_short, me_fits}
 use Rattle.depot_readings.specs.NewRecords.{MayGrow}
 use Rattle.depot_readings.proofs.LeafLaws.{few_accepted}
 use Rattle.depot_decide.specs.Deciding.{HasGrown, HadNoRoom}

@@ -4,12 +4,12 @@ use Rattle.depot_base.specs.declared.limits.TheConstants.{MOST_ENTRIES}
 use Rattle.depot_base.specs.declared.update.Update.{Update}
 use Rattle.depot_base.specs.declared.write.Change.{Change}
 use Rattle.depot_base.specs.declared.record.Record.{Record}
-use Rattle.depot_model.specs.Checks.{Setting}
-use Rattle.depot_model.specs.Lawful.{IsLawful}
-use Rattle.depot_model.specs.Limits.{spent, tips, collides, full, limit_of_put}
-use Rattle.depot_model.specs.Own.{next_own}
-use Rattle.depot_model.specs.Putting.{put_done_of, put_records}
-use Rattle.depot_model.specs.Room.{full_by}
+use Rattle.depot_model.specs.checks.Checks.{Setting}
+use Rattle.depot_model.specs.journals.Lawful.{IsLawful}
+use Rattle.depot_model.specs.checks.Limits.{spent, tips, collides, full, limit_of_put}
+use Rattle.depot_model.specs.checks.Own.{next_own}
+use Rattle.depot_model.specs.checks.Putting.{put_done_of, put_records}
+use Rattle.depot_model.specs.checks.Room.{full_by}
 use Rattle.depot_model.specs.declared.put_answers.PutDone.{PutDone}
 use Rattle.depot_decide.specs.declared.plan_errors.PlanError.{PlanError}
 use Rattle.depot_decide.specs.declared.plan_errors.PlanError.TheVariants as plan

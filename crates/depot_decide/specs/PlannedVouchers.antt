@@ -1,11 +1,11 @@
 -- What a node decides where it is to vouch for ids.
 use Rattle.std.specs.Prelude.{◌≡◌, ℕ, List, ◌++◌, Some, None, option_map}
 use Rattle.depot_base.specs.declared.record.Record.{Record}
-use Rattle.depot_model.specs.Checks.{Setting}
-use Rattle.depot_model.specs.Lawful.{IsLawful}
-use Rattle.depot_model.specs.Limits.{spent, full}
-use Rattle.depot_model.specs.Room.{full_by}
-use Rattle.depot_model.specs.Vouching.{new_vouchers, records_of, limit_of_vouchers}
+use Rattle.depot_model.specs.checks.Checks.{Setting}
+use Rattle.depot_model.specs.journals.Lawful.{IsLawful}
+use Rattle.depot_model.specs.checks.Limits.{spent, full}
+use Rattle.depot_model.specs.checks.Room.{full_by}
+use Rattle.depot_model.specs.checks.Vouching.{new_vouchers, records_of, limit_of_vouchers}
 use Rattle.depot_decide.specs.declared.plan_errors.VoucherPlanError.{VoucherPlanError}
 use Rattle.depot_decide.specs.declared.plan_errors.VoucherPlanError.TheVariants as refused
 

@@ -8,10 +8,10 @@ use Rattle.depot_model.specs.declared.record_fault.RecordFault.{RecordFault}
 use Rattle.depot_model.specs.declared.record_fault.RecordFault.TheVariants as fault
 use Rattle.depot_model.specs.declared.taken.Taken.{Taken}
 use Rattle.depot_model.specs.declared.taken.Taken.TheVariants.{New, Known}
-use Rattle.depot_model.specs.Checks.{Setting}
-use Rattle.depot_model.specs.Lawful.{MayFollow, IsAllowed}
-use Rattle.depot_model.specs.RecordFaults.{IsAtPlace, IsFault, IsFaultOf}
-use Rattle.depot_model.specs.Records.{IsRecord, text_of_record}
+use Rattle.depot_model.specs.checks.Checks.{Setting}
+use Rattle.depot_model.specs.journals.Lawful.{MayFollow, IsAllowed}
+use Rattle.depot_model.specs.checks.RecordFaults.{IsAtPlace, IsFault, IsFaultOf}
+use Rattle.depot_model.specs.texts.Records.{IsRecord, text_of_record}
 use Rattle.depot_decide.specs.declared.record_check.Fit.{Fit}
 use Rattle.depot_decide.specs.declared.record_check.ReadError.{ReadError}
 use Rattle.depot_decide.specs.declared.record_check.ReadError.TheVariants as refused

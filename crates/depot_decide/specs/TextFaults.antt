@@ -1,10 +1,10 @@
 -- What is found of texts that are checked one after another.
 use Rattle.std.specs.Prelude.{◌≡◌, ℕ, List, [], ◌∷◌, ◌++◌, Option, Some, None, Err}
 use Rattle.depot_base.specs.declared.record.Record.{Record}
-use Rattle.depot_model.specs.Checks.{Setting}
-use Rattle.depot_model.specs.Lawful.{IsAllowed}
-use Rattle.depot_model.specs.RecordFaults.{AreTextsOf, HaveFaultAt}
-use Rattle.depot_model.specs.Records.{text_of_record}
+use Rattle.depot_model.specs.checks.Checks.{Setting}
+use Rattle.depot_model.specs.journals.Lawful.{IsAllowed}
+use Rattle.depot_model.specs.checks.RecordFaults.{AreTextsOf, HaveFaultAt}
+use Rattle.depot_model.specs.texts.Records.{text_of_record}
 use Rattle.depot_decide.specs.declared.record_check.ReadError.{ReadError}
 use Rattle.depot_decide.specs.ReadRecords.{IsFitAs}
 use Rattle.depot_decide.specs.declared.text_checks.PlaceFault.{PlaceFault}

@@ -8,7 +8,7 @@ ghost use Rattle.depot_base.specs.declared.record.Record.TheVariants.{Conviction
 ghost use Rattle.depot_base.specs.declared.statement.Statement.TheVariants as statements;
 ghost use Rattle.depot_base.specs.declared.update.Update.{Update};
 ghost use Rattle.depot_model.specs.declared.taken.Taken.TheVariants.{New};
-ghost use Rattle.depot_model.specs.Texts.{IsSigned, IsProof, id_of_statement, text_of_signed};
+ghost use Rattle.depot_model.specs.texts.Texts.{IsSigned, IsProof, id_of_statement, text_of_signed};
 ghost use Rattle.depot_accept.specs.CheckResults.{IsNew, IsChecked, AreDue};
 ghost use Rattle.depot_accept.specs.StateView.{IsStateOf, setting};
 ghost use Rattle.depot_accept.specs.declared.answer.CheckError.TheVariants as failed;

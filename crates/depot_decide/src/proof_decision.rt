@@ -1,11 +1,11 @@
 //! Decides on a proof.
 ghost use Rattle.std.specs.Prelude.{◌≡◌, List, IfOk};
 ghost use Rattle.depot_base.specs.declared.record.Record.{Record};
-ghost use Rattle.depot_model.specs.Checks.{check_of_point, given_proof, proof_checks};
-ghost use Rattle.depot_model.specs.Lists.{first};
-ghost use Rattle.depot_model.specs.Texts.{IsProof, text_of_proof};
+ghost use Rattle.depot_model.specs.checks.Checks.{check_of_point, given_proof, proof_checks};
+ghost use Rattle.depot_model.specs.lists.Lists.{first};
+ghost use Rattle.depot_model.specs.texts.Texts.{IsProof, text_of_proof};
 ghost use Rattle.depot_accept.specs.StateView.{IsStateOf, setting};
-ghost use Rattle.depot_model.specs.Journal.{accepted};
+ghost use Rattle.depot_model.specs.journals.Journal.{accepted};
 ghost use Rattle.depot_readings.specs.ReadingsView.{standing};
 ghost use Rattle.depot_decide.specs.Deciding.{AreJoined, DecidesByState, DecidesProof, IsDecided, IsSettled};
 
@@ -98,7 +98,7 @@ fn settled<S: Scheme>(
 
 /// The first check of a proof that fails: the judge's points, and then that it isn't against the node itself. It takes
 /// memory only where the judge does.
-#[tactic(auto, unfolding(depot_model::specs::Checks::proof_checks))]
+#[tactic(auto, unfolding(depot_model::specs::checks::Checks::proof_checks))]
 fn failed_check<S: Scheme>(
     alloc: Global,
     state: &State<S>,

@@ -6,10 +6,10 @@ ghost use Rattle.depot_base.specs.Pairs.{AllPairsByRecursion};
 ghost use Rattle.depot_base.specs.Parts.{is_below};
 ghost use Rattle.depot_base.specs.declared.limits.TheConstants.{MOST_ENTRIES, MOST_WRITES};
 ghost use Rattle.depot_base.specs.declared.record.Record.{Record};
-ghost use Rattle.depot_model.specs.Items.{place_of_prev, updates_at};
-ghost use Rattle.depot_model.specs.Journal.{accepted};
-ghost use Rattle.depot_model.specs.Lawful.{is_empty};
-ghost use Rattle.depot_model.specs.Own.{entry_of, next_with, IsFresh, leaf_count};
+ghost use Rattle.depot_model.specs.lists.Items.{place_of_prev, updates_at};
+ghost use Rattle.depot_model.specs.journals.Journal.{accepted};
+ghost use Rattle.depot_model.specs.journals.Lawful.{is_empty};
+ghost use Rattle.depot_model.specs.checks.Own.{entry_of, next_with, IsFresh, leaf_count};
 ghost use Rattle.depot_readings.specs.ReadingsView.{standing};
 ghost use Rattle.depot_decide.specs.PlannedPuts.{IsPlanned, IsRefused, IsTooWide};
 
@@ -68,7 +68,7 @@ pub fn decide_put<S: Scheme>(
 }
 
 /// Whether the node has a leaf of this number to sign with.
-#[tactic(auto, unfolding(depot_model::specs::Own::leaf_count))]
+#[tactic(auto, unfolding(depot_model::specs::checks::Own::leaf_count))]
 pub fn has_leaf<S: Scheme>(readings: &Readings<S>, leaf: u32) -> bool
     ensures { result ≡ nat_lt leaf (leaf_count readings.now.listed readings.now.me) }
 {

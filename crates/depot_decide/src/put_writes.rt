@@ -5,8 +5,8 @@ ghost use Rattle.std.specs.Option.{option_map_or, option_to_list};
 ghost use Rattle.sha2.specs.Sha256.{sha256};
 ghost use Rattle.depot_base.specs.Sized.{IsKey, IsValue};
 ghost use Rattle.depot_base.specs.declared.write.Wrote.TheVariants.{Put, Gone};
-ghost use Rattle.depot_model.specs.Own.{write_of, values_of};
-ghost use Rattle.depot_model.specs.Putting.{HasSizes};
+ghost use Rattle.depot_model.specs.checks.Own.{write_of, values_of};
+ghost use Rattle.depot_model.specs.checks.Putting.{HasSizes};
 
 use depot_base::{Change, Changes, Key, Memory, Value, ValueList, Write, Writes, Wrote};
 use depot_model::hash_of;

@@ -1,8 +1,8 @@
 //! Decides on a statement.
 ghost use Rattle.std.specs.Prelude.{◌≡◌, IfOk};
-ghost use Rattle.depot_model.specs.Checks.{given_statement};
-ghost use Rattle.depot_model.specs.Journal.{accepted};
-ghost use Rattle.depot_model.specs.Texts.{IsSigned, text_of_signed};
+ghost use Rattle.depot_model.specs.checks.Checks.{given_statement};
+ghost use Rattle.depot_model.specs.journals.Journal.{accepted};
+ghost use Rattle.depot_model.specs.texts.Texts.{IsSigned, text_of_signed};
 ghost use Rattle.depot_readings.specs.ReadingsView.{standing};
 ghost use Rattle.depot_decide.specs.Deciding.{AreJoined, ComeWithRow, DecidesStatement, IsDecided};
 

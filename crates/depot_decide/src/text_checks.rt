@@ -1,6 +1,6 @@
 //! Checks records one by one, each after those before it, and reads them into memory alone.
 ghost use Rattle.std.specs.Prelude.{◌≡◌, [], IfOk, IfErr, OnOk, OnErr};
-ghost use Rattle.depot_model.specs.Journal.{accepted};
+ghost use Rattle.depot_model.specs.journals.Journal.{accepted};
 ghost use Rattle.depot_readings.specs.ReadingsView.{standing};
 ghost use Rattle.depot_decide.specs.Deciding.{AreJoined};
 ghost use Rattle.depot_decide.specs.TextFaults.{AreCheckedAs, IsTakenFrom, IsTextFault};

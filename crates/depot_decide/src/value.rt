@@ -1,8 +1,8 @@
 //! Decides on a value.
 ghost use Rattle.std.specs.Prelude.{IfOk};
 ghost use Rattle.depot_base.specs.Sized.{IsValue};
-ghost use Rattle.depot_model.specs.Checks.{given_value};
-ghost use Rattle.depot_model.specs.Journal.{accepted};
+ghost use Rattle.depot_model.specs.checks.Checks.{given_value};
+ghost use Rattle.depot_model.specs.journals.Journal.{accepted};
 ghost use Rattle.depot_readings.specs.ReadingsView.{standing};
 ghost use Rattle.depot_decide.specs.Deciding.{AreJoined, DecidesValue, IsDecided};
 

@@ -2,11 +2,11 @@
 ghost use Rattle.std.specs.Prelude.{◌≡◌, ◌<◌, ◌+◌, ◌^◌, length, true, false, not, nat_lt, IfOk, IfErr};
 ghost use Rattle.std.specs.List.{AllByRecursion};
 ghost use Rattle.depot_base.specs.declared.limits.TheConstants.{MOST_IDS};
-ghost use Rattle.depot_model.specs.Journal.{accepted, is_foreign};
-ghost use Rattle.depot_model.specs.Lawful.{is_empty};
-ghost use Rattle.depot_model.specs.Lists.{AreApart};
-ghost use Rattle.depot_model.specs.Own.{leaf_count};
-ghost use Rattle.depot_model.specs.Vouching.{groups_of, numbered, rising};
+ghost use Rattle.depot_model.specs.journals.Journal.{accepted, is_foreign};
+ghost use Rattle.depot_model.specs.journals.Lawful.{is_empty};
+ghost use Rattle.depot_model.specs.lists.Lists.{AreApart};
+ghost use Rattle.depot_model.specs.checks.Own.{leaf_count};
+ghost use Rattle.depot_model.specs.checks.Vouching.{groups_of, numbered, rising};
 ghost use Rattle.depot_readings.specs.ReadingsView.{standing};
 ghost use Rattle.depot_decide.specs.PlannedVouchers.{ArePlanned, AreRefused};
 

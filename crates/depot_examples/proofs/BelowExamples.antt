@@ -14,20 +14,20 @@ use Rattle.depot_base.specs.declared.statement.Signed.{Signed}
 use Rattle.depot_base.specs.declared.statement.Statement.TheVariants as statements
 use Rattle.depot_base.specs.declared.record.Record.{Record}
 use Rattle.depot_base.specs.declared.record.Record.TheVariants.{Birth, OwnPut, Foreign, Held}
-use Rattle.depot_model.specs.Bundle.{is_covered}
-use Rattle.depot_model.specs.Checks.{Setting, given_statement, is_known}
-use Rattle.depot_model.specs.Contents.{held_value}
-use Rattle.depot_model.specs.History.{leaves_of, put_by_id, by_id, history_text, history_hash}
-use Rattle.depot_model.specs.Insertion.{insert_by, order_by}
-use Rattle.depot_model.specs.Journal.{first_values, has_id, is_wanted, named, prev_of}
-use Rattle.depot_model.specs.LatestList.{latest_in}
-use Rattle.depot_model.specs.Order.{past}
-use Rattle.depot_model.specs.Own.{precedes_named, next_entries, next_own}
-use Rattle.depot_model.specs.Pruning.{below_of}
-use Rattle.depot_model.specs.Readers.{Reader, reader_of, reader_outcome, kept, seen_by_reader, stands_below, shown_by_reader}
-use Rattle.depot_model.specs.Roster.{key_of, is_signed}
-use Rattle.depot_model.specs.Texts.{update_fields, voucher_fields, statement, update_body, id_of_update, id_of_statement}
-use Rattle.depot_model.specs.Trimming.{is_trimmed, trimmed, names}
+use Rattle.depot_model.specs.exchange.Bundle.{is_covered}
+use Rattle.depot_model.specs.checks.Checks.{Setting, given_statement, is_known}
+use Rattle.depot_model.specs.texts.Contents.{held_value}
+use Rattle.depot_model.specs.updates.History.{leaves_of, put_by_id, by_id, history_text, history_hash}
+use Rattle.depot_model.specs.lists.Insertion.{insert_by, order_by}
+use Rattle.depot_model.specs.journals.Journal.{first_values, has_id, is_wanted, named, prev_of}
+use Rattle.depot_model.specs.updates.LatestList.{latest_in}
+use Rattle.depot_model.specs.updates.Order.{past}
+use Rattle.depot_model.specs.checks.Own.{precedes_named, next_entries, next_own}
+use Rattle.depot_model.specs.readers.Pruning.{below_of}
+use Rattle.depot_model.specs.readers.Readers.{Reader, reader_of, reader_outcome, kept, seen_by_reader, stands_below, shown_by_reader}
+use Rattle.depot_model.specs.texts.Roster.{key_of, is_signed}
+use Rattle.depot_model.specs.texts.Texts.{update_fields, voucher_fields, statement, update_body, id_of_update, id_of_statement}
+use Rattle.depot_model.specs.readers.Trimming.{is_trimmed, trimmed, names}
 
 -- ---- node 1 puts three values under a key, and node 2 takes them
 

@@ -10,13 +10,13 @@ use Rattle.depot_base.specs.declared.statement.Signed.{Signed}
 use Rattle.depot_base.specs.declared.proof.Kind.{Kind}
 use Rattle.depot_base.specs.declared.proof.Kind.TheVariants.{SameNumber, SamePrev, Backward, NotUpdate}
 use Rattle.depot_base.specs.declared.record.Record.{Record}
-use Rattle.depot_model.specs.Lists.{IsIn}
-use Rattle.depot_model.specs.Chains.{IsChain, HasPrev}
-use Rattle.depot_model.specs.Contradictions.{contradicts, is_of_kind}
-use Rattle.depot_model.specs.Causality.{HasForests}
-use Rattle.depot_model.specs.Journal.{accepted, foreign, is_convicted}
-use Rattle.depot_model.specs.Texts.{statement, update_fields, voucher_fields, update_body, id_of_update}
-use Rattle.depot_model.proofs.Cast.{took, took_voucher, signed_update, signed_voucher, nine, vouch}
+use Rattle.depot_model.specs.lists.Lists.{IsIn}
+use Rattle.depot_model.specs.updates.Chains.{IsChain, HasPrev}
+use Rattle.depot_model.specs.updates.Contradictions.{contradicts, is_of_kind}
+use Rattle.depot_model.specs.worlds.Causality.{HasForests}
+use Rattle.depot_model.specs.journals.Journal.{accepted, foreign, is_convicted}
+use Rattle.depot_model.specs.texts.Texts.{statement, update_fields, voucher_fields, update_body, id_of_update}
+use Rattle.depot_model.proofs.examples.Cast.{took, took_voucher, signed_update, signed_voucher, nine, vouch}
 
 abbrev first_byte : List ℕ → ℕ
 first_byte [] = 0

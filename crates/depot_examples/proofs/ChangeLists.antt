@@ -8,10 +8,10 @@ use Rattle.depot_base.specs.declared.proof.Proof.TheVariants.{Hollow, Pair}
 use Rattle.depot_base.specs.declared.write.Write.{Write}
 use Rattle.depot_base.specs.declared.write.Wrote.{Wrote}
 use Rattle.depot_base.specs.declared.write.Wrote.TheVariants.{Gone, Put}
-use Rattle.depot_model.specs.Judgement.{is_contrary, points}
-use Rattle.depot_model.specs.Lists.{when}
-use Rattle.depot_model.specs.Own.{changes_of, values_of}
-use Rattle.depot_model.specs.Roster.{Verifies}
+use Rattle.depot_model.specs.updates.Judgement.{is_contrary, points}
+use Rattle.depot_model.specs.lists.Lists.{when}
+use Rattle.depot_model.specs.checks.Own.{changes_of, values_of}
+use Rattle.depot_model.specs.texts.Roster.{Verifies}
 use Rattle.depot_model.specs.declared.judgement.JudgeError.{JudgeError}
 use Rattle.depot_model.specs.declared.judgement.JudgeError.TheVariants as point
 

@@ -12,10 +12,10 @@ use Rattle.depot_base.specs.declared.proof.Kind.TheVariants.{SameNumber, SamePre
 use Rattle.depot_base.specs.declared.proof.Proof.{Proof}
 use Rattle.depot_base.specs.declared.proof.Proof.TheVariants.{Pair, Hollow}
 use Rattle.depot_model.specs.declared.judgement.Verdict.{Verdict}
-use Rattle.depot_model.specs.Contradictions.{contradicts, is_of_kind, is_update_text, is_hollow}
-use Rattle.depot_model.specs.Conviction.{Shows}
-use Rattle.depot_model.specs.Texts.{statement, update_body, update_fields, voucher_fields}
-use Rattle.depot_model.proofs.Cast.{is_written, mark, signed_update, signed_voucher, forged, nine, nine_other, nine_more, two, vouch}
+use Rattle.depot_model.specs.updates.Contradictions.{contradicts, is_of_kind, is_update_text, is_hollow}
+use Rattle.depot_model.specs.updates.Conviction.{Shows}
+use Rattle.depot_model.specs.texts.Texts.{statement, update_body, update_fields, voucher_fields}
+use Rattle.depot_model.proofs.examples.Cast.{is_written, mark, signed_update, signed_voucher, forged, nine, nine_other, nine_more, two, vouch}
 
 abbrev key_of_nine : PublicKey
 key_of_nine = record { root = mark 9; height = 2 }

@@ -3,7 +3,7 @@ use Rattle.std.proofs.Common.{◌≡◌, codes, refl}
 use Rattle.std.specs.Fmt.{digits}
 use Rattle.depot_answers.specs.AnswerTexts.{text_of_finding}
 use Rattle.depot_model.specs.declared.record_fault.RecordFault.TheVariants as fault
-use Rattle.depot_model.specs.Audit.{the_read, the_write, yes_found, unlawful, answer_found, circle_found, unordered_found, unseen_found, wrong_found, split_found, named_found}
+use Rattle.depot_model.specs.worlds.Audit.{the_read, the_write, yes_found, unlawful, answer_found, circle_found, unordered_found, unseen_found, wrong_found, split_found, named_found}
 
 record Printed : Type 0 where
   pub yes : text_of_finding yes_found ≡ codes "yes"

@@ -13,15 +13,15 @@ use Rattle.depot_base.specs.declared.proof.Kind.TheVariants.{SamePrev}
 use Rattle.depot_base.specs.declared.proof.Proof.TheVariants.{Pair}
 use Rattle.depot_base.specs.declared.record.Record.{Record}
 use Rattle.depot_base.specs.declared.record.Record.TheVariants.{Birth, OwnPut, Foreign, Conviction}
-use Rattle.depot_model.specs.Contents.{held_value}
-use Rattle.depot_model.specs.Contradictions.{kind_of, contradicts, is_of_kind}
-use Rattle.depot_model.specs.Journal.{first_values, has_id, holds, named}
-use Rattle.depot_model.specs.Opening.{unknown_leaf}
-use Rattle.depot_model.specs.Receipts.{no_receipt, lacks_value}
-use Rattle.depot_model.specs.Texts.{update_fields, voucher_fields, update_body, statement, id_of_update}
-use Rattle.depot_model.specs.World.{Read, Correct, World}
-use Rattle.depot_model.specs.Audit.{wrong_found, named_found, new_bodies, writes_once, operations, closed, observed, pair_of, circle, unordered, unseen, observed_writes, last_writes, is_exact, wrong, breaks_off, first_break, split_finding, named_node, finding_in}
-use Rattle.depot_model.proofs.Cast.{mark}
+use Rattle.depot_model.specs.texts.Contents.{held_value}
+use Rattle.depot_model.specs.updates.Contradictions.{kind_of, contradicts, is_of_kind}
+use Rattle.depot_model.specs.journals.Journal.{first_values, has_id, holds, named}
+use Rattle.depot_model.specs.readers.Opening.{unknown_leaf}
+use Rattle.depot_model.specs.worlds.Receipts.{no_receipt, lacks_value}
+use Rattle.depot_model.specs.texts.Texts.{update_fields, voucher_fields, update_body, statement, id_of_update}
+use Rattle.depot_model.specs.worlds.World.{Read, Correct, World}
+use Rattle.depot_model.specs.worlds.Audit.{wrong_found, named_found, new_bodies, writes_once, operations, closed, observed, pair_of, circle, unordered, unseen, observed_writes, last_writes, is_exact, wrong, breaks_off, first_break, split_finding, named_node, finding_in}
+use Rattle.depot_model.proofs.examples.Cast.{mark}
 
 -- ---- ids without their value
 

@@ -15,23 +15,23 @@ use Rattle.depot_base.specs.declared.proof.Proof.{Proof}
 use Rattle.depot_base.specs.declared.proof.Proof.TheVariants.{Hollow}
 use Rattle.depot_base.specs.declared.record.Record.{Record}
 use Rattle.depot_base.specs.declared.record.Record.TheVariants.{Conviction}
-use Rattle.depot_model.specs.Lists.{IsIn}
-use Rattle.depot_model.specs.Checks.{given_proof, proof_checks, first_failed_check, is_known, answer_to, due, added, growth}
-use Rattle.depot_model.specs.Contradictions.{is_of_kind, contradicts, is_update_text, is_hollow}
-use Rattle.depot_model.specs.Journal.{is_convicted}
-use Rattle.depot_model.specs.Judgement.{points, first_failed_point}
-use Rattle.depot_model.specs.Lawful.{IsLawful}
-use Rattle.depot_model.specs.Records.{birth, own_put, tagged, record_text}
-use Rattle.depot_model.specs.Room.{full_with, full_by, foreign_leaves}
-use Rattle.depot_model.specs.Roster.{key_of, is_signed}
-use Rattle.depot_model.specs.History.{leaves_of, put_by_id, by_id}
-use Rattle.depot_model.specs.Texts.{statement, signed, proof, roster, update_body, update_fields, voucher_body, voucher_fields, text_of_statement, hash_of_roster, IsProof}
-use Rattle.depot_model.specs.World.{Correct, World, IsCorrect, IsWorld, IsAuthentic, IsCollisionFree, hashed_texts}
-use Rattle.depot_model.specs.Causality.{IsForkJoinCausal, ConvictsNoCorrectNode}
-use Rattle.depot_laws.proofs.ForkJoin.{fork_join_causal}
-use Rattle.depot_laws.proofs.NoVerdicts.{convicts_none}
-use Rattle.depot_laws.proofs.Growing.{grown_is_lawful}
-use Rattle.depot_laws.proofs.TwoNodes.{all_verify, two_nodes, node, newborn, second_born}
+use Rattle.depot_model.specs.lists.Lists.{IsIn}
+use Rattle.depot_model.specs.checks.Checks.{given_proof, proof_checks, first_failed_check, is_known, answer_to, due, added, growth}
+use Rattle.depot_model.specs.updates.Contradictions.{is_of_kind, contradicts, is_update_text, is_hollow}
+use Rattle.depot_model.specs.journals.Journal.{is_convicted}
+use Rattle.depot_model.specs.updates.Judgement.{points, first_failed_point}
+use Rattle.depot_model.specs.journals.Lawful.{IsLawful}
+use Rattle.depot_model.specs.texts.Records.{birth, own_put, tagged, record_text}
+use Rattle.depot_model.specs.checks.Room.{full_with, full_by, foreign_leaves}
+use Rattle.depot_model.specs.texts.Roster.{key_of, is_signed}
+use Rattle.depot_model.specs.updates.History.{leaves_of, put_by_id, by_id}
+use Rattle.depot_model.specs.texts.Texts.{statement, signed, proof, roster, update_body, update_fields, voucher_body, voucher_fields, text_of_statement, hash_of_roster, IsProof}
+use Rattle.depot_model.specs.worlds.World.{Correct, World, IsCorrect, IsWorld, IsAuthentic, IsCollisionFree, hashed_texts}
+use Rattle.depot_model.specs.worlds.Causality.{IsForkJoinCausal, ConvictsNoCorrectNode}
+use Rattle.depot_laws.proofs.of_worlds.ForkJoin.{fork_join_causal}
+use Rattle.depot_laws.proofs.of_worlds.NoVerdicts.{convicts_none}
+use Rattle.depot_laws.proofs.records.Growing.{grown_is_lawful}
+use Rattle.depot_laws.proofs.of_worlds.TwoNodes.{all_verify, two_nodes, node, newborn, second_born}
 
 -- ---- what node 1 signed
 

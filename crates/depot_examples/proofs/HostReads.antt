@@ -2,13 +2,13 @@
 use Rattle.std.proofs.Common.{◌≡◌, ℕ, ◌-◌, ◌≤◌, Bool, true, false, eqb, leb, cond, List, [], ◌∷◌, ◌++◌, map, Option, Some, None, refl, sym, ap, subst, ◌∙◌, inl, inr, ◌⊎◌, codes, arith}
 use Rattle.std.proofs.lemmas.Bool.{eqb-true, eq-eqb, leb-true, leb-false, cond-false}
 use Rattle.std.proofs.lemmas.List.{append-nil}
-use Rattle.depot_model.specs.Lists.{IsIn}
-use Rattle.depot_model.specs.World.{Read}
+use Rattle.depot_model.specs.lists.Lists.{IsIn}
+use Rattle.depot_model.specs.worlds.World.{Read}
 use Rattle.depot_world.specs.Run.{PendingStop, Host, Labelled, Run, host_in, put_host, with_label, with_host}
 use Rattle.depot_requests.specs.Effects.{Effect}
 use Rattle.depot_world.specs.ScheduleStops.{EventResult, result_by, stopped_with, result_pending, journal_left, event_result}
 use Rattle.depot_world.specs.Transcript.{Done, done_by_node, done_at_node, pending_at}
-use Rattle.depot_world.proofs.GoodRuns.{numbers_of, found_is, from_put_host, same_numbers}
+use Rattle.depot_world.proofs.of_worlds.GoodRuns.{numbers_of, found_is, from_put_host, same_numbers}
 
 -- the keys of the reads of a node
 abbrev pub keys_of : Host → List (List ℕ)

@@ -1,6 +1,6 @@
 -- The latest writes of several keys are one list for each: of a history of nothing, an empty one for each key, no fewer and no more.
 use Rattle.std.proofs.Common.{ℕ, List, [], ◌∷◌}
-use Rattle.depot_model.specs.Order.{AreLatestIn}
+use Rattle.depot_model.specs.updates.Order.{AreLatestIn}
 use Rattle.depot_graph.specs.LatestOfEach.{AreLatestOfEach}
 
 none_yet : (key : List ℕ) → AreLatestIn key [] []

@@ -3,8 +3,8 @@ use Rattle.std.proofs.Common.{◌≡◌, [], ◌∷◌, true, false, refl}
 use Rattle.depot_base.specs.Zeros.{zeros}
 use Rattle.depot_base.specs.declared.update.Update.{Update}
 use Rattle.depot_base.specs.declared.write.Wrote.TheVariants.{Put}
-use Rattle.depot_model.specs.Contents.{names_value}
-use Rattle.depot_model.proofs.Cast.{mark}
+use Rattle.depot_model.specs.texts.Contents.{names_value}
+use Rattle.depot_model.proofs.examples.Cast.{mark}
 
 -- a value of one byte under the one key, and one of two bytes under the other
 abbrev two_sizes : Update

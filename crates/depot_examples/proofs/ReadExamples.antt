@@ -11,12 +11,12 @@ use Rattle.depot_base.specs.declared.write.Wrote.TheVariants.{Put, Gone}
 use Rattle.depot_base.specs.declared.statement.Statement.TheVariants as statements
 use Rattle.depot_base.specs.declared.record.Record.{Record}
 use Rattle.depot_base.specs.declared.record.Record.TheVariants.{Birth, Foreign}
-use Rattle.depot_model.specs.Lists.{IsIn}
-use Rattle.depot_model.specs.Order.{IsPath, IsLatest}
-use Rattle.depot_model.specs.Contents.{Sighting, held_value, not_held, gone, IfHeld, IsValueOf, wrote_under}
-use Rattle.depot_model.specs.World.{Shown, Read, Correct, World}
-use Rattle.depot_model.specs.Causality.{Operation, write, read_at, IsOperation, Edge, ObservedBefore, IsExact, puts_of}
-use Rattle.depot_model.proofs.Orders.{leads_one}
+use Rattle.depot_model.specs.lists.Lists.{IsIn}
+use Rattle.depot_model.specs.updates.Order.{IsPath, IsLatest}
+use Rattle.depot_model.specs.texts.Contents.{Sighting, held_value, not_held, gone, IfHeld, IsValueOf, wrote_under}
+use Rattle.depot_model.specs.worlds.World.{Shown, Read, Correct, World}
+use Rattle.depot_model.specs.worlds.Causality.{Operation, write, read_at, IsOperation, Edge, ObservedBefore, IsExact, puts_of}
+use Rattle.depot_model.proofs.of_updates.Orders.{leads_one}
 
 -- an update of node 2, which is no node of the worlds below, so that nothing is asked of what it put
 abbrev of_two : List Write → Update

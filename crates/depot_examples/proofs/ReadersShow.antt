@@ -14,24 +14,24 @@ use Rattle.depot_base.specs.declared.write.Wrote.{Wrote}
 use Rattle.depot_base.specs.declared.write.Wrote.TheVariants.{Put, Gone}
 use Rattle.depot_base.specs.Writes.{value_in, values_in}
 use Rattle.depot_base.proofs.GeneralLaws.{bytes_eq_comm}
-use Rattle.depot_model.specs.Checks.{Setting}
-use Rattle.depot_model.specs.Contents.{Sighting, held_value, not_held, names_value, wrote_under}
-use Rattle.depot_model.specs.Journal.{accepted, first_values, has_id, held, is_wanted, seen_as, seen_under, value_by, value_with}
-use Rattle.depot_model.specs.LatestList.{latest_in}
-use Rattle.depot_model.specs.Lawful.{IsLawful}
-use Rattle.depot_model.specs.Lists.{IsIn, is_among, when}
-use Rattle.depot_model.specs.Readers.{reader_of, left_of, is_named_by, seen_among, seen_by_reader, shown_by_reader}
-use Rattle.depot_model.specs.Order.{IsLatest, Precedes}
-use Rattle.depot_model.specs.ShownWrites.{shown_of}
-use Rattle.depot_model.specs.Texts.{id_of_update}
-use Rattle.depot_model.specs.Trimming.{is_trimmed, trimmed}
-use Rattle.depot_model.proofs.LatestWrites.{latest_are_listed}
-use Rattle.depot_model.proofs.Members.{among-append, any_from, from_filter, in_filter, map_same}
-use Rattle.depot_model.proofs.NamedIds.{has_id_to}
-use Rattle.depot_model.proofs.Orders.{one_of_id}
-use Rattle.depot_laws.proofs.Causes.{lawful_is_causal}
-use Rattle.depot_laws.proofs.HeldValues.{other_hash, value_with_is}
-use Rattle.depot_laws.proofs.NeverLatest.{never_latest}
+use Rattle.depot_model.specs.checks.Checks.{Setting}
+use Rattle.depot_model.specs.texts.Contents.{Sighting, held_value, not_held, names_value, wrote_under}
+use Rattle.depot_model.specs.journals.Journal.{accepted, first_values, has_id, held, is_wanted, seen_as, seen_under, value_by, value_with}
+use Rattle.depot_model.specs.updates.LatestList.{latest_in}
+use Rattle.depot_model.specs.journals.Lawful.{IsLawful}
+use Rattle.depot_model.specs.lists.Lists.{IsIn, is_among, when}
+use Rattle.depot_model.specs.readers.Readers.{reader_of, left_of, is_named_by, seen_among, seen_by_reader, shown_by_reader}
+use Rattle.depot_model.specs.updates.Order.{IsLatest, Precedes}
+use Rattle.depot_model.specs.journals.ShownWrites.{shown_of}
+use Rattle.depot_model.specs.texts.Texts.{id_of_update}
+use Rattle.depot_model.specs.readers.Trimming.{is_trimmed, trimmed}
+use Rattle.depot_model.proofs.of_updates.LatestWrites.{latest_are_listed}
+use Rattle.depot_model.proofs.lists.Members.{among-append, any_from, from_filter, in_filter, map_same}
+use Rattle.depot_model.proofs.of_updates.NamedIds.{has_id_to}
+use Rattle.depot_model.proofs.of_updates.Orders.{one_of_id}
+use Rattle.depot_laws.proofs.records.Causes.{lawful_is_causal}
+use Rattle.depot_laws.proofs.records.HeldValues.{other_hash, value_with_is}
+use Rattle.depot_laws.proofs.of_readers.NeverLatest.{never_latest}
 
 -- ---- values that pass a test
 

@@ -6,20 +6,20 @@ use Rattle.std.proofs.lemmas.List.{append-nil, map-append}
 use Rattle.depot_base.specs.Writes.{one_change}
 use Rattle.depot_base.specs.declared.proof.Proof.{Proof}
 use Rattle.depot_base.specs.declared.update.Update.{Update}
-use Rattle.depot_model.specs.Bundle.{Signs}
-use Rattle.depot_model.specs.Checks.{Setting}
-use Rattle.depot_model.specs.Items.{AreDistinct}
-use Rattle.depot_model.specs.Judgement.{first_failed_point, verdict_of}
-use Rattle.depot_model.specs.Lines.{text_of_point, text_of_verdict}
+use Rattle.depot_model.specs.exchange.Bundle.{Signs}
+use Rattle.depot_model.specs.checks.Checks.{Setting}
+use Rattle.depot_model.specs.lists.Items.{AreDistinct}
+use Rattle.depot_model.specs.updates.Judgement.{first_failed_point, verdict_of}
+use Rattle.depot_model.specs.texts.Lines.{text_of_point, text_of_verdict}
 use Rattle.depot_answers.specs.AnswerTexts.{spaced}
-use Rattle.depot_model.specs.Lists.{IsIn}
-use Rattle.depot_model.specs.ReaderFeeds.{reader_feed_of}
-use Rattle.depot_model.specs.Readers.{Reader, trim_of}
-use Rattle.depot_model.specs.Texts.{id_of_update}
-use Rattle.depot_model.specs.Vouching.{rising}
-use Rattle.depot_model.specs.World.{Correct, Read}
+use Rattle.depot_model.specs.lists.Lists.{IsIn}
+use Rattle.depot_model.specs.readers.ReaderFeeds.{reader_feed_of}
+use Rattle.depot_model.specs.readers.Readers.{Reader, trim_of}
+use Rattle.depot_model.specs.texts.Texts.{id_of_update}
+use Rattle.depot_model.specs.checks.Vouching.{rising}
+use Rattle.depot_model.specs.worlds.World.{Correct, Read}
 use Rattle.depot_model.specs.declared.judgement.JudgeError.{JudgeError}
-use Rattle.depot_model.proofs.Members.{from_map, in_map, all_at}
+use Rattle.depot_model.proofs.lists.Members.{from_map, in_map, all_at}
 use Rattle.depot_schedule.specs.Schedules.{FitsEvent, FitEvents, IsSchedule, with_event, before_events}
 use Rattle.depot_schedule.specs.declared.event.Event.{Event}
 use Rattle.depot_schedule.specs.declared.event.Event.TheVariants as event
@@ -38,8 +38,8 @@ use Rattle.depot_world.specs.Run.{Run, Host, fresh_host, run_of, world_by, host_
 use Rattle.depot_world.specs.ScheduleStops.{event_result}
 use Rattle.depot_world.specs.Setups.{Setup, setup_of, stands_on, signs_on}
 use Rattle.depot_world.specs.Transcript.{Done, done_by_node, done_at_node, pending_at, asked_at, asked_for, trimmed_with, trim_at, reader_told, tgive_by, done_by_update, judged_with, done, run_after, world_of}
-use Rattle.depot_world.proofs.GoodRuns.{numbers_of}
-use Rattle.depot_world.proofs.GoodWorlds.{schedule_makes_world}
+use Rattle.depot_world.proofs.of_worlds.GoodRuns.{numbers_of}
+use Rattle.depot_world.proofs.of_worlds.GoodWorlds.{schedule_makes_world}
 use Rattle.depot_world.proofs.ReadCounts.{request_reads}
 use Rattle.depot_examples.proofs.HostReads.{keys_of, Waits, HasRead, no_keys, no_keys_either, Follows, stays, node_follows, stop_follows}
 

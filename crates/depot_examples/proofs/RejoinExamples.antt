@@ -13,33 +13,33 @@ use Rattle.depot_base.specs.declared.statement.Signed.{Signed}
 use Rattle.depot_base.specs.declared.record.Record.{Record}
 use Rattle.depot_base.specs.Statement.{writer_of}
 use Rattle.depot_base.specs.declared.record.Record.TheVariants.{Foreign, Conviction}
-use Rattle.depot_model.specs.Bundle.{signed_with, is_covered, candidates, values_behind, candidate_parcels, parcels, fitting, sent_for, sent_foreign, unvouched, bundle_frames, bundle_of, bundle_answer}
-use Rattle.depot_model.specs.Judgement.{points}
-use Rattle.depot_model.specs.Checks.{sight, content_checks, opponent, forked, refused_as_convicted, statement_checks, proof_checks, first_failed_check, is_known, answer_to, due, named_opponent, added, growth}
-use Rattle.depot_model.specs.Contradictions.{is_of_kind, contradicts, kind_of}
-use Rattle.depot_model.specs.Conviction.{proof_of}
-use Rattle.depot_model.specs.Feeding.{Feeding, given_by, take_frame, fed_frame, fed_byte, fed, ending_of, report_of, feeding_from}
-use Rattle.depot_model.specs.Frames.{frame_at}
-use Rattle.depot_model.specs.Hello.{hello_leaf, hello, convicted_nodes, lacking, hello_of}
-use Rattle.depot_model.specs.History.{leaves_of, put_by_id, by_id, history_text, history_hash}
-use Rattle.depot_model.specs.Contents.{NamedValue, values_named}
-use Rattle.depot_model.proofs.Cast.{took, signed_update, nine, nine_other, against_nine}
-use Rattle.depot_model.specs.Journal.{held_as, accepted, first_values, has_id, named, prev_of, is_convicted, is_vouched, holds_hash, holds, is_wanted, foreign}
-use Rattle.depot_model.specs.Limits.{spent_by, tips_of, collides_by, limit_of_own, limit_of_put}
-use Rattle.depot_model.specs.Lists.{IsIn}
-use Rattle.depot_model.specs.Order.{past}
-use Rattle.depot_model.specs.Own.{precedes_named, next_entries, next_own, leaf_count}
-use Rattle.depot_model.specs.Plain.{plain_root, plain_signature, plain_verifies}
-use Rattle.depot_model.specs.Records.{birth, own_put, tagged, record_text}
-use Rattle.depot_model.specs.Room.{foreign_leaves, full_with}
-use Rattle.depot_model.specs.Roster.{key_of, is_signed}
-use Rattle.depot_model.specs.Texts.{update_fields, voucher_fields, update_body, voucher_body, statement, signed, proof, roster, id_of_update, id_of_statement, hash_of_roster}
-use Rattle.depot_model.specs.Taking.{given_as}
-use Rattle.depot_model.specs.Vouching.{put_rising, rising, groups_behind, groups_of, new_vouchers, limit_of_new, limit_of_vouchers}
+use Rattle.depot_model.specs.exchange.Bundle.{signed_with, is_covered, candidates, values_behind, candidate_parcels, parcels, fitting, sent_for, sent_foreign, unvouched, bundle_frames, bundle_of, bundle_answer}
+use Rattle.depot_model.specs.updates.Judgement.{points}
+use Rattle.depot_model.specs.checks.Checks.{sight, content_checks, opponent, forked, refused_as_convicted, statement_checks, proof_checks, first_failed_check, is_known, answer_to, due, named_opponent, added, growth}
+use Rattle.depot_model.specs.updates.Contradictions.{is_of_kind, contradicts, kind_of}
+use Rattle.depot_model.specs.updates.Conviction.{proof_of}
+use Rattle.depot_model.specs.exchange.Feeding.{Feeding, given_by, take_frame, fed_frame, fed_byte, fed, ending_of, report_of, feeding_from}
+use Rattle.depot_model.specs.texts.Frames.{frame_at}
+use Rattle.depot_model.specs.exchange.Hello.{hello_leaf, hello, convicted_nodes, lacking, hello_of}
+use Rattle.depot_model.specs.updates.History.{leaves_of, put_by_id, by_id, history_text, history_hash}
+use Rattle.depot_model.specs.texts.Contents.{NamedValue, values_named}
+use Rattle.depot_model.proofs.examples.Cast.{took, signed_update, nine, nine_other, against_nine}
+use Rattle.depot_model.specs.journals.Journal.{held_as, accepted, first_values, has_id, named, prev_of, is_convicted, is_vouched, holds_hash, holds, is_wanted, foreign}
+use Rattle.depot_model.specs.checks.Limits.{spent_by, tips_of, collides_by, limit_of_own, limit_of_put}
+use Rattle.depot_model.specs.lists.Lists.{IsIn}
+use Rattle.depot_model.specs.updates.Order.{past}
+use Rattle.depot_model.specs.checks.Own.{precedes_named, next_entries, next_own, leaf_count}
+use Rattle.depot_model.specs.texts.Plain.{plain_root, plain_signature, plain_verifies}
+use Rattle.depot_model.specs.texts.Records.{birth, own_put, tagged, record_text}
+use Rattle.depot_model.specs.checks.Room.{foreign_leaves, full_with}
+use Rattle.depot_model.specs.texts.Roster.{key_of, is_signed}
+use Rattle.depot_model.specs.texts.Texts.{update_fields, voucher_fields, update_body, voucher_body, statement, signed, proof, roster, id_of_update, id_of_statement, hash_of_roster}
+use Rattle.depot_model.specs.checks.Taking.{given_as}
+use Rattle.depot_model.specs.checks.Vouching.{put_rising, rising, groups_behind, groups_of, new_vouchers, limit_of_new, limit_of_vouchers}
 use Rattle.depot_laws.specs.Rejoin.{hello_at, updates_of, updates_sent, HasRejoined}
-use Rattle.depot_laws.proofs.OwnAgree.{not_itself}
-use Rattle.depot_laws.proofs.TwoNodes.{all_verify, newborn, u, first_journal, first_node, value}
-use Rattle.depot_laws.proofs.Newcomer.{newcomer, two_meet, sign}
+use Rattle.depot_laws.proofs.own_updates.OwnAgree.{not_itself}
+use Rattle.depot_laws.proofs.of_worlds.TwoNodes.{all_verify, newborn, u, first_journal, first_node, value}
+use Rattle.depot_laws.proofs.exchanges.Newcomer.{newcomer, two_meet, sign}
 
 -- the first node's update, as it sends it
 abbrev sent : Signed

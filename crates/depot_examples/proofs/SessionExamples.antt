@@ -7,34 +7,34 @@ use Rattle.depot_base.specs.Closed.{rest_of}
 use Rattle.depot_base.specs.Cursor.{numeral}
 use Rattle.depot_base.specs.Format.{number, bytes_of, inner, list_of}
 use Rattle.depot_base.specs.Parts.{dep, roster_entry, write, marked}
-use Rattle.depot_model.specs.Bundle.{signed_with, is_covered, candidates, records_where, values_behind, candidate_parcels, parcels, fitting, sent_for, sent_foreign, unvouched, bundle_frames, bundle_of, bundle_answer}
-use Rattle.depot_model.specs.Checks.{sight, content_checks, opponent, forked, refused_as_convicted, statement_checks, proof_checks, first_failed_check, is_known, answer_to, due, named_opponent, added, growth}
-use Rattle.depot_model.specs.Contradictions.{is_of_kind, contradicts, kind_of, is_update_text, is_hollow}
-use Rattle.depot_model.specs.Conviction.{proof_of}
-use Rattle.depot_model.specs.Feeding.{given_by, take_frame, fed_frame, fed_byte, fed, ending_of, report_of}
-use Rattle.depot_model.specs.Frames.{frame_at}
-use Rattle.depot_model.specs.Hello.{hello_leaf, hello, convicted_nodes, lacking, record_place, hello_of}
-use Rattle.depot_model.specs.History.{leaves_of, put_by_id, by_id, history_text, history_hash}
-use Rattle.depot_model.specs.Journal.{first_values, has_id, named, prev_of, is_convicted, is_vouched, holds_hash, holds, seen_under, is_wanted}
-use Rattle.depot_model.specs.Judgement.{points}
-use Rattle.depot_model.specs.Limits.{Limit, spent, spent_by, tips_of, collides_by, limit_of_own, limit_of_put}
-use Rattle.depot_model.specs.Order.{past}
-use Rattle.depot_model.specs.Own.{precedes_named, next_entries, next_own, leaf_count}
-use Rattle.depot_model.specs.Plain.{plain_root, plain_signature, plain_verifies}
-use Rattle.depot_model.specs.Records.{birth, own_put, tagged, record_text, text_of_record}
-use Rattle.depot_model.specs.Room.{foreign_leaves, full_with}
-use Rattle.depot_model.specs.Receipts.{receipt_key, put_number, numbers_rising, no_receipt}
-use Rattle.depot_model.specs.Roster.{key_of, is_signed}
-use Rattle.depot_model.specs.Taking.{given_as, answer_to_text, growth_of_text}
-use Rattle.depot_model.specs.Texts.{text_of_update, update_fields, voucher_fields, update_body, voucher_body, statement, signed, proof, roster, id_of_update, id_of_statement, hash_of_roster}
-use Rattle.depot_model.specs.Vouching.{put_rising, rising, groups_behind, groups_of, new_vouchers, limit_of_new, limit_of_vouchers}
+use Rattle.depot_model.specs.exchange.Bundle.{signed_with, is_covered, candidates, records_where, values_behind, candidate_parcels, parcels, fitting, sent_for, sent_foreign, unvouched, bundle_frames, bundle_of, bundle_answer}
+use Rattle.depot_model.specs.checks.Checks.{sight, content_checks, opponent, forked, refused_as_convicted, statement_checks, proof_checks, first_failed_check, is_known, answer_to, due, named_opponent, added, growth}
+use Rattle.depot_model.specs.updates.Contradictions.{is_of_kind, contradicts, kind_of, is_update_text, is_hollow}
+use Rattle.depot_model.specs.updates.Conviction.{proof_of}
+use Rattle.depot_model.specs.exchange.Feeding.{given_by, take_frame, fed_frame, fed_byte, fed, ending_of, report_of}
+use Rattle.depot_model.specs.texts.Frames.{frame_at}
+use Rattle.depot_model.specs.exchange.Hello.{hello_leaf, hello, convicted_nodes, lacking, record_place, hello_of}
+use Rattle.depot_model.specs.updates.History.{leaves_of, put_by_id, by_id, history_text, history_hash}
+use Rattle.depot_model.specs.journals.Journal.{first_values, has_id, named, prev_of, is_convicted, is_vouched, holds_hash, holds, seen_under, is_wanted}
+use Rattle.depot_model.specs.updates.Judgement.{points}
+use Rattle.depot_model.specs.checks.Limits.{Limit, spent, spent_by, tips_of, collides_by, limit_of_own, limit_of_put}
+use Rattle.depot_model.specs.updates.Order.{past}
+use Rattle.depot_model.specs.checks.Own.{precedes_named, next_entries, next_own, leaf_count}
+use Rattle.depot_model.specs.texts.Plain.{plain_root, plain_signature, plain_verifies}
+use Rattle.depot_model.specs.texts.Records.{birth, own_put, tagged, record_text, text_of_record}
+use Rattle.depot_model.specs.checks.Room.{foreign_leaves, full_with}
+use Rattle.depot_model.specs.worlds.Receipts.{receipt_key, put_number, numbers_rising, no_receipt}
+use Rattle.depot_model.specs.texts.Roster.{key_of, is_signed}
+use Rattle.depot_model.specs.checks.Taking.{given_as, answer_to_text, growth_of_text}
+use Rattle.depot_model.specs.texts.Texts.{text_of_update, update_fields, voucher_fields, update_body, voucher_body, statement, signed, proof, roster, id_of_update, id_of_statement, hash_of_roster}
+use Rattle.depot_model.specs.checks.Vouching.{put_rising, rising, groups_behind, groups_of, new_vouchers, limit_of_new, limit_of_vouchers}
 use Rattle.depot_schedule.specs.EventWords.{named_by}
 use Rattle.depot_answers.specs.AnswerTexts.{text_of_check, text_of_limit, text_of_report}
 use Rattle.depot_requests.specs.Replies.{closing_told}
 use Rattle.depot_requests.specs.Requests.{served}
 use Rattle.depot_world.specs.ScheduleStops.{restart_by}
-use Rattle.depot_model.specs.LatestList.{latest_in}
-use Rattle.depot_model.specs.Insertion.{insert_by, order_by}
+use Rattle.depot_model.specs.updates.LatestList.{latest_in}
+use Rattle.depot_model.specs.lists.Insertion.{insert_by, order_by}
 use Rattle.depot_traces.specs.TraceTexts.{answered_text, behind_mark, read_text, record_piece, trace_text}
 use Rattle.sha2.specs.Sha256.{sha256, first_words, schedule, rounds, compress, hash_after, digest_bytes}
 use Rattle.hex.specs.Hex.{encode_with, decode_pairs}
@@ -44,15 +44,15 @@ use Rattle.depot_base.specs.declared.check.Full.{Full}
 use Rattle.depot_base.specs.declared.record.Record.{Record}
 use Rattle.depot_base.specs.declared.write.Change.{Change}
 use Rattle.depot_base.specs.declared.record.Record.TheVariants.{Birth, OwnPut, OwnVoucher, Held}
-use Rattle.depot_model.specs.Checks.{Setting}
-use Rattle.depot_model.specs.Feeding.{out_of_room}
-use Rattle.depot_model.specs.World.{Read, IsCorrect}
-use Rattle.depot_model.specs.Bundle.{Signs}
-use Rattle.depot_model.specs.Stops.{HasRecords}
-use Rattle.depot_model.proofs.Exchanges.{here, sign, born, members, put, hello_text, bundle, bytes_in, stream}
+use Rattle.depot_model.specs.checks.Checks.{Setting}
+use Rattle.depot_model.specs.exchange.Feeding.{out_of_room}
+use Rattle.depot_model.specs.worlds.World.{Read, IsCorrect}
+use Rattle.depot_model.specs.exchange.Bundle.{Signs}
+use Rattle.depot_model.specs.journals.Stops.{HasRecords}
+use Rattle.depot_model.proofs.examples.Exchanges.{here, sign, born, members, put, hello_text, bundle, bytes_in, stream}
 use Rattle.depot_base.specs.Writes.{one_change}
 use Rattle.depot_base.specs.File.{IsFileOf}
-use Rattle.depot_laws.proofs.TwoNodes.{all_verify, node, newborn, second_born}
+use Rattle.depot_laws.proofs.of_worlds.TwoNodes.{all_verify, node, newborn, second_born}
 use Rattle.depot_outside.specs.Told.{Disks, Shelves, Sinks, Wrote}
 use Rattle.depot_script.specs.Commands.{put_form as put_command, puts_form as puts_command, get_form as get_command, hello_form as hello_command, bundle_form as bundle_command, take_form as take_command, receipt_form as receipt_command, settled_form as settled_command, export_form as export_command}
 use Rattle.depot_script.specs.declared.command.Command.{Command}

@@ -18,28 +18,28 @@ use Rattle.depot_base.specs.declared.statement.Signed.{Signed}
 use Rattle.depot_base.specs.declared.record.Record.{Record}
 use Rattle.depot_base.specs.declared.record.Record.TheVariants.{OwnPut, Foreign}
 use Rattle.depot_base.specs.declared.write.Change.{Change}
-use Rattle.depot_model.specs.Lists.{IsIn}
-use Rattle.depot_model.specs.Texts.{update_fields, update_body, signed, roster, IsSigned, id_of_update, text_of_update, hash_of_roster}
-use Rattle.depot_model.specs.Texts.{statement as statement_text}
-use Rattle.depot_model.specs.Records.{birth, own_put, tagged, record_text}
-use Rattle.depot_model.specs.Order.{past}
-use Rattle.depot_model.specs.History.{leaves_of, put_by_id, by_id, history_text, history_hash}
-use Rattle.depot_model.specs.Roster.{key_of, is_signed}
-use Rattle.depot_model.specs.Journal.{has_id, named, prev_of, holds, is_convicted, is_vouched, first_values}
-use Rattle.depot_model.specs.Own.{precedes_named, next_entries, next_own, leaf_count}
-use Rattle.depot_model.specs.Checks.{given_statement, sight, content_checks, opponent, forked, refused_as_convicted, statement_checks, first_failed_check, is_known, answer_to, added, growth}
-use Rattle.depot_model.specs.Room.{full_with, full_by, foreign_leaves}
-use Rattle.depot_model.specs.Lawful.{IsLawful}
-use Rattle.depot_model.specs.Changes.{AreChanges}
-use Rattle.depot_model.specs.Receipts.{receipt_key, receipt_of, receipt_changes, put_number, numbers_rising, receipts, no_receipt, HoldsAllOf, AreReceiptsTrue}
-use Rattle.depot_model.specs.World.{Correct, World, IsCorrect, IsWorld, IsAuthentic}
+use Rattle.depot_model.specs.lists.Lists.{IsIn}
+use Rattle.depot_model.specs.texts.Texts.{update_fields, update_body, signed, roster, IsSigned, id_of_update, text_of_update, hash_of_roster}
+use Rattle.depot_model.specs.texts.Texts.{statement as statement_text}
+use Rattle.depot_model.specs.texts.Records.{birth, own_put, tagged, record_text}
+use Rattle.depot_model.specs.updates.Order.{past}
+use Rattle.depot_model.specs.updates.History.{leaves_of, put_by_id, by_id, history_text, history_hash}
+use Rattle.depot_model.specs.texts.Roster.{key_of, is_signed}
+use Rattle.depot_model.specs.journals.Journal.{has_id, named, prev_of, holds, is_convicted, is_vouched, first_values}
+use Rattle.depot_model.specs.checks.Own.{precedes_named, next_entries, next_own, leaf_count}
+use Rattle.depot_model.specs.checks.Checks.{given_statement, sight, content_checks, opponent, forked, refused_as_convicted, statement_checks, first_failed_check, is_known, answer_to, added, growth}
+use Rattle.depot_model.specs.checks.Room.{full_with, full_by, foreign_leaves}
+use Rattle.depot_model.specs.journals.Lawful.{IsLawful}
+use Rattle.depot_model.specs.updates.Changes.{AreChanges}
+use Rattle.depot_model.specs.worlds.Receipts.{receipt_key, receipt_of, receipt_changes, put_number, numbers_rising, receipts, no_receipt, HoldsAllOf, AreReceiptsTrue}
+use Rattle.depot_model.specs.worlds.World.{Correct, World, IsCorrect, IsWorld, IsAuthentic}
 use Rattle.depot_examples.specs.Met.{HasSettledPut}
 use Rattle.depot_laws.specs.ReceiptFacts.{HaveTrueReceipts, count_incorrect}
-use Rattle.depot_laws.proofs.Growing.{grown_is_lawful}
-use Rattle.depot_laws.proofs.OwnTexts.{own_put_is_lawful}
-use Rattle.depot_laws.proofs.Settled.{settled}
-use Rattle.depot_laws.proofs.TrueReceipts.{no_receipts_yet, silent_is_true, plain_put_is_true, receipt_put_is_true}
-use Rattle.depot_laws.proofs.TwoNodes.{all_verify, two_nodes, node, newborn, u, first_journal, first_lawful}
+use Rattle.depot_laws.proofs.records.Growing.{grown_is_lawful}
+use Rattle.depot_laws.proofs.own_updates.OwnTexts.{own_put_is_lawful}
+use Rattle.depot_laws.proofs.of_audits.Settled.{settled}
+use Rattle.depot_laws.proofs.of_audits.TrueReceipts.{no_receipts_yet, silent_is_true, plain_put_is_true, receipt_put_is_true}
+use Rattle.depot_laws.proofs.of_worlds.TwoNodes.{all_verify, two_nodes, node, newborn, u, first_journal, first_lawful}
 
 -- ---- the first node put an update, and gives a receipt for it
 

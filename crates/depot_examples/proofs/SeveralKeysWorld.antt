@@ -16,32 +16,32 @@ use Rattle.depot_base.specs.declared.statement.Signed.{Signed}
 use Rattle.depot_base.specs.declared.record.Record.{Record}
 use Rattle.depot_base.specs.declared.record.Record.TheVariants.{OwnPut, Foreign}
 use Rattle.depot_base.specs.declared.write.Change.{Change}
-use Rattle.depot_model.specs.Lists.{IsIn}
-use Rattle.depot_model.specs.Texts.{update_fields, update_body, signed, roster, IsUpdate, IsSigned, id_of_update, text_of_update, hash_of_roster}
-use Rattle.depot_model.specs.Texts.{statement as statement_text}
-use Rattle.depot_model.specs.Records.{birth, own_put, tagged, record_text}
-use Rattle.depot_model.specs.Order.{past, IsCausal, Precedes, IsLatest, AreLatestIn}
-use Rattle.depot_model.specs.History.{leaves_of, put_by_id, by_id, history_text, history_hash}
-use Rattle.depot_model.specs.Roster.{key_of, is_signed}
-use Rattle.depot_model.specs.Journal.{own, has_id, named, is_convicted, is_vouched, first_values, seen_under}
-use Rattle.depot_model.specs.Own.{next_entries, next_own, IsFresh, leaf_count}
-use Rattle.depot_model.specs.Checks.{given_statement, sight, content_checks, opponent, forked, refused_as_convicted, statement_checks, first_failed_check, is_known, answer_to, added, growth}
-use Rattle.depot_model.specs.Room.{full_with, full_by, foreign_leaves}
-use Rattle.depot_model.specs.Lawful.{IsLawful}
-use Rattle.depot_model.specs.Changes.{AreChanges}
-use Rattle.depot_model.specs.Contents.{Sighting, Writes, held_value, not_held, gone}
-use Rattle.depot_model.specs.World.{Shown, Read, Correct, World, signed_met, writes_of, IsRead, IsCorrect, IsWorld, hashed_texts, IsAuthentic, IsCollisionFree}
-use Rattle.depot_model.specs.Causality.{IsForkJoinCausal}
-use Rattle.depot_model.proofs.BodyLaws.{text_of_statement-Update, IsStatement-from_update}
-use Rattle.depot_model.proofs.TextLaws.{update_body_lawful}
-use Rattle.depot_model.proofs.Orders.{precedes_irreflexive}
-use Rattle.depot_laws.proofs.Causes.{lawful_is_causal}
-use Rattle.depot_laws.proofs.ForkJoin.{fork_join_causal}
-use Rattle.depot_laws.proofs.Growing.{grown_is_lawful}
-use Rattle.depot_laws.proofs.OwnTexts.{own_fits, own_put_is_lawful}
-use Rattle.depot_laws.proofs.Splits.{lawful_front}
-use Rattle.depot_laws.proofs.TwoNodes.{all_verify, two_nodes, node, newborn, second_born}
-use Rattle.depot_laws.proofs.TwoNodes.{first_journal as other_journal, first_lawful as other_lawful}
+use Rattle.depot_model.specs.lists.Lists.{IsIn}
+use Rattle.depot_model.specs.texts.Texts.{update_fields, update_body, signed, roster, IsUpdate, IsSigned, id_of_update, text_of_update, hash_of_roster}
+use Rattle.depot_model.specs.texts.Texts.{statement as statement_text}
+use Rattle.depot_model.specs.texts.Records.{birth, own_put, tagged, record_text}
+use Rattle.depot_model.specs.updates.Order.{past, IsCausal, Precedes, IsLatest, AreLatestIn}
+use Rattle.depot_model.specs.updates.History.{leaves_of, put_by_id, by_id, history_text, history_hash}
+use Rattle.depot_model.specs.texts.Roster.{key_of, is_signed}
+use Rattle.depot_model.specs.journals.Journal.{own, has_id, named, is_convicted, is_vouched, first_values, seen_under}
+use Rattle.depot_model.specs.checks.Own.{next_entries, next_own, IsFresh, leaf_count}
+use Rattle.depot_model.specs.checks.Checks.{given_statement, sight, content_checks, opponent, forked, refused_as_convicted, statement_checks, first_failed_check, is_known, answer_to, added, growth}
+use Rattle.depot_model.specs.checks.Room.{full_with, full_by, foreign_leaves}
+use Rattle.depot_model.specs.journals.Lawful.{IsLawful}
+use Rattle.depot_model.specs.updates.Changes.{AreChanges}
+use Rattle.depot_model.specs.texts.Contents.{Sighting, Writes, held_value, not_held, gone}
+use Rattle.depot_model.specs.worlds.World.{Shown, Read, Correct, World, signed_met, writes_of, IsRead, IsCorrect, IsWorld, hashed_texts, IsAuthentic, IsCollisionFree}
+use Rattle.depot_model.specs.worlds.Causality.{IsForkJoinCausal}
+use Rattle.depot_model.proofs.of_texts.BodyLaws.{text_of_statement-Update, IsStatement-from_update}
+use Rattle.depot_model.proofs.of_texts.TextLaws.{update_body_lawful}
+use Rattle.depot_model.proofs.of_updates.Orders.{precedes_irreflexive}
+use Rattle.depot_laws.proofs.records.Causes.{lawful_is_causal}
+use Rattle.depot_laws.proofs.of_worlds.ForkJoin.{fork_join_causal}
+use Rattle.depot_laws.proofs.records.Growing.{grown_is_lawful}
+use Rattle.depot_laws.proofs.own_updates.OwnTexts.{own_fits, own_put_is_lawful}
+use Rattle.depot_laws.proofs.lists.Splits.{lawful_front}
+use Rattle.depot_laws.proofs.of_worlds.TwoNodes.{all_verify, two_nodes, node, newborn, second_born}
+use Rattle.depot_laws.proofs.of_worlds.TwoNodes.{first_journal as other_journal, first_lawful as other_lawful}
 
 -- ---- the first node gives one key a value, and deletes another
 

@@ -1,8 +1,8 @@
 -- Worked runs of scripts over a shelf: which file one that is cut short names, and what the shelf was asked for.
 use Rattle.std.proofs.Common.{◌≡◌, List, [], ◌∷◌, ◌++◌, ℕ, true, codes, Option, Some, None, refl, sym, ◌∙◌, inl, inr, arith}
-use Rattle.depot_model.specs.Bundle.{Signs}
-use Rattle.depot_model.specs.Checks.{Setting}
-use Rattle.depot_model.specs.Readers.{Reader}
+use Rattle.depot_model.specs.exchange.Bundle.{Signs}
+use Rattle.depot_model.specs.checks.Checks.{Setting}
+use Rattle.depot_model.specs.readers.Readers.{Reader}
 use Rattle.depot_outside.specs.Told.{Shelves}
 use Rattle.depot_script.specs.declared.command.Command.{Command}
 use Rattle.depot_requests.specs.Requests.{served}

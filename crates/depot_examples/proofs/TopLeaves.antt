@@ -6,7 +6,7 @@ use Rattle.std.proofs.lemmas.List.{drop_at, length-append}
 use Rattle.depot_base.specs.Cursor.{numeral}
 use Rattle.depot_base.proofs.CallLaws.{numeral_long}
 use Rattle.depot_model.specs.declared.layer.Layer.TheVariants.{Bottom, Top}
-use Rattle.depot_model.specs.Winternitz.{bottom_root, both_parts, digest_of, layer_part, root_of, winternitz_signature}
+use Rattle.depot_model.specs.texts.Winternitz.{bottom_root, both_parts, digest_of, layer_part, root_of, winternitz_signature}
 use Rattle.depot_winter.proofs.Lengths.{digest_of_digest, length-layer_part}
 
 -- what the leaf of a bottom tree's root signs, for a key whose top tree has this height

@@ -17,34 +17,34 @@ use Rattle.depot_base.specs.declared.update.Update.{Update}
 use Rattle.depot_base.specs.declared.statement.Signed.{Signed}
 use Rattle.depot_base.specs.declared.record.Record.{Record}
 use Rattle.depot_base.specs.declared.record.Record.TheVariants.{Birth, OwnPut}
-use Rattle.depot_model.specs.Lists.{IsIn}
-use Rattle.depot_model.specs.Bundle.{is_covered}
-use Rattle.depot_model.specs.Changes.{AreChanges}
-use Rattle.depot_model.specs.Checkpoints.{checkpoint, checkpoint_key, text_of_checkpoint}
-use Rattle.depot_model.specs.Checks.{Setting}
-use Rattle.depot_model.specs.Hello.{hello_leaf}
-use Rattle.depot_model.specs.History.{leaves_of, put_by_id, by_id, history_text, history_hash}
-use Rattle.depot_model.specs.Insertion.{insert_by, order_by}
-use Rattle.depot_model.specs.Journal.{accepted, own, has_id, named, prev_of}
-use Rattle.depot_model.specs.LatestList.{latest_in}
-use Rattle.depot_model.specs.Lawful.{IsLawful, is_empty}
-use Rattle.depot_model.specs.Order.{past}
-use Rattle.depot_model.specs.Own.{precedes_named, next_entries, next_own, leaf_count}
-use Rattle.depot_model.specs.Records.{birth, own_put, tagged, record_text}
-use Rattle.depot_model.specs.Room.{full_with, full_by, foreign_leaves}
-use Rattle.depot_model.specs.Roster.{Verifies, key_of}
-use Rattle.depot_model.specs.Texts.{update_fields, update_body, roster, IsRoster, id_of_update, hash_of_roster}
-use Rattle.depot_model.specs.Pruning.{below_of}
-use Rattle.depot_model.specs.Trimming.{is_signed_by, is_trimmed, trimmed}
-use Rattle.depot_model.specs.World.{Correct, World, IsCorrect, IsWorld, IsAuthentic, IsCollisionFree, writes_of, hashed_texts}
+use Rattle.depot_model.specs.lists.Lists.{IsIn}
+use Rattle.depot_model.specs.exchange.Bundle.{is_covered}
+use Rattle.depot_model.specs.updates.Changes.{AreChanges}
+use Rattle.depot_model.specs.readers.Checkpoints.{checkpoint, checkpoint_key, text_of_checkpoint}
+use Rattle.depot_model.specs.checks.Checks.{Setting}
+use Rattle.depot_model.specs.exchange.Hello.{hello_leaf}
+use Rattle.depot_model.specs.updates.History.{leaves_of, put_by_id, by_id, history_text, history_hash}
+use Rattle.depot_model.specs.lists.Insertion.{insert_by, order_by}
+use Rattle.depot_model.specs.journals.Journal.{accepted, own, has_id, named, prev_of}
+use Rattle.depot_model.specs.updates.LatestList.{latest_in}
+use Rattle.depot_model.specs.journals.Lawful.{IsLawful, is_empty}
+use Rattle.depot_model.specs.updates.Order.{past}
+use Rattle.depot_model.specs.checks.Own.{precedes_named, next_entries, next_own, leaf_count}
+use Rattle.depot_model.specs.texts.Records.{birth, own_put, tagged, record_text}
+use Rattle.depot_model.specs.checks.Room.{full_with, full_by, foreign_leaves}
+use Rattle.depot_model.specs.texts.Roster.{Verifies, key_of}
+use Rattle.depot_model.specs.texts.Texts.{update_fields, update_body, roster, IsRoster, id_of_update, hash_of_roster}
+use Rattle.depot_model.specs.readers.Pruning.{below_of}
+use Rattle.depot_model.specs.readers.Trimming.{is_signed_by, is_trimmed, trimmed}
+use Rattle.depot_model.specs.worlds.World.{Correct, World, IsCorrect, IsWorld, IsAuthentic, IsCollisionFree, writes_of, hashed_texts}
 use Rattle.depot_examples.specs.Met.{HasSignedCheckpoint}
 use Rattle.depot_laws.specs.TrimFacts.{AllSigned, NoneNamesBelow}
-use Rattle.depot_laws.proofs.Births.{born as born_lawful}
-use Rattle.depot_laws.proofs.EachPasses.{each_to}
-use Rattle.depot_laws.proofs.NeverBelow.{never_below}
-use Rattle.depot_laws.proofs.OwnTexts.{own_put_is_lawful}
-use Rattle.depot_laws.proofs.TrimLaw.{trim}
-use Rattle.depot_laws.proofs.Worlds.{one_text}
+use Rattle.depot_laws.proofs.records.Births.{born as born_lawful}
+use Rattle.depot_laws.proofs.lists.EachPasses.{each_to}
+use Rattle.depot_laws.proofs.of_readers.NeverBelow.{never_below}
+use Rattle.depot_laws.proofs.own_updates.OwnTexts.{own_put_is_lawful}
+use Rattle.depot_laws.proofs.of_readers.TrimLaw.{trim}
+use Rattle.depot_laws.proofs.of_worlds.Worlds.{one_text}
 
 -- ---- a roster of one
 

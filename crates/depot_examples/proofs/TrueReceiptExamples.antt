@@ -14,11 +14,11 @@ use Rattle.depot_base.specs.declared.update.Update.{Update}
 use Rattle.depot_base.specs.declared.statement.Statement.TheVariants as statements
 use Rattle.depot_base.specs.declared.record.Record.{Record}
 use Rattle.depot_base.specs.declared.record.Record.TheVariants.{Birth, OwnPut, Foreign, Held}
-use Rattle.depot_model.specs.Lists.{IsIn}
-use Rattle.depot_model.specs.Contents.{values_named}
-use Rattle.depot_model.specs.Journal.{first_values, holds}
-use Rattle.depot_model.specs.Texts.{update_fields, update_body, id_of_update}
-use Rattle.depot_model.specs.Receipts.{receipt_key, HoldsAllOf, AreReceiptsTrue}
+use Rattle.depot_model.specs.lists.Lists.{IsIn}
+use Rattle.depot_model.specs.texts.Contents.{values_named}
+use Rattle.depot_model.specs.journals.Journal.{first_values, holds}
+use Rattle.depot_model.specs.texts.Texts.{update_fields, update_body, id_of_update}
+use Rattle.depot_model.specs.worlds.Receipts.{receipt_key, HoldsAllOf, AreReceiptsTrue}
 
 -- node 1 writes the value "a" under the key "k"
 abbrev one : Update

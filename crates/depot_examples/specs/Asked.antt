@@ -2,7 +2,7 @@
 use Rattle.std.specs.Prelude.{ℕ, ◌==◌, List, [], ◌∷◌, ◌++◌, Some, None, Ok, Err, if◌then◌else◌}
 use Rattle.std.specs.List.{flat_map}
 use Rattle.depot_base.specs.declared.proof.Proof.{Proof}
-use Rattle.depot_model.specs.Judgement.{first_failed_point}
+use Rattle.depot_model.specs.updates.Judgement.{first_failed_point}
 use Rattle.depot_schedule.specs.declared.event.Event.{Event}
 use Rattle.depot_schedule.specs.declared.event.Event.TheVariants as event
 use Rattle.depot_world.specs.FaultySigning.{proof_in}

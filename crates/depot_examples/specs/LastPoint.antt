@@ -3,9 +3,9 @@ use Rattle.std.specs.Prelude.{◌≡◌, List, [], ◌∷◌, ◌++◌, not, Opt
 use Rattle.depot_base.specs.Shown.{kind_shown}
 use Rattle.depot_base.specs.declared.key.RosterEntry.{RosterEntry}
 use Rattle.depot_base.specs.declared.proof.Proof.{Proof}
-use Rattle.depot_model.specs.Judgement.{is_contrary, points}
-use Rattle.depot_model.specs.Lists.{when}
-use Rattle.depot_model.specs.Roster.{Verifies}
+use Rattle.depot_model.specs.updates.Judgement.{is_contrary, points}
+use Rattle.depot_model.specs.lists.Lists.{when}
+use Rattle.depot_model.specs.texts.Roster.{Verifies}
 use Rattle.depot_model.specs.declared.judgement.JudgeError.{JudgeError}
 use Rattle.depot_model.specs.declared.judgement.JudgeError.TheVariants as point
 

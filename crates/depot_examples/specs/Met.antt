@@ -1,10 +1,10 @@
 -- The conditions of laws, all of them, in one world.
 use Rattle.std.specs.Prelude.{◌≡◌, ◌<◌, ◌≤◌, ℕ, List, length}
 use Rattle.depot_base.specs.declared.update.Update.{Update}
-use Rattle.depot_model.specs.Lists.{IsIn}
-use Rattle.depot_model.specs.Receipts.{receipts}
-use Rattle.depot_model.specs.Trimming.{trimmed}
-use Rattle.depot_model.specs.World.{Correct, World, IsWorld, IsAuthentic, IsCollisionFree}
+use Rattle.depot_model.specs.lists.Lists.{IsIn}
+use Rattle.depot_model.specs.worlds.Receipts.{receipts}
+use Rattle.depot_model.specs.readers.Trimming.{trimmed}
+use Rattle.depot_model.specs.worlds.World.{Correct, World, IsWorld, IsAuthentic, IsCollisionFree}
 use Rattle.depot_laws.specs.ReceiptFacts.{HaveTrueReceipts, count_incorrect}
 use Rattle.depot_laws.specs.TrimFacts.{AllSigned}
 

@@ -6,8 +6,8 @@ ghost use Rattle.depot_base.specs.declared.proof.Proof.{Proof};
 ghost use Rattle.depot_base.specs.declared.write.Change.{Change};
 ghost use Rattle.depot_base.specs.declared.write.Write.{Write};
 ghost use Rattle.depot_examples.specs.LastPoint.{EndsContrary};
-ghost use Rattle.depot_model.specs.Own.{changes_of, values_of, write_of};
-ghost use Rattle.depot_model.specs.Roster.{Verifies};
+ghost use Rattle.depot_model.specs.checks.Own.{changes_of, values_of, write_of};
+ghost use Rattle.depot_model.specs.texts.Roster.{Verifies};
 
 /// The changes of an own update are those that its writes and its values make, in the order of the writes: they have
 /// the keys of the writes and, if there is a value for each write that is no deletion, these values. Writes and values

@@ -1,6 +1,6 @@
 //! What the leaves of a key of two layers sign.
 ghost use Rattle.std.specs.Prelude.{◌≡◌, ◌<◌, ◌/◌, ℕ, List, drop};
-ghost use Rattle.depot_model.specs.Winternitz.{winternitz_signature};
+ghost use Rattle.depot_model.specs.texts.Winternitz.{winternitz_signature};
 
 /// A leaf of a key's top tree signs only one text, the root of its bottom tree, whatever the leaves of that tree sign:
 /// after the leaf's number of 4 bytes and the bottom part of 2,400, two signatures by leaves of one bottom tree are

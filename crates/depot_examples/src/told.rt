@@ -1,9 +1,9 @@
 //! Which reads and which judged proofs the world of a schedule has, and which reads a session.
 ghost use Rattle.std.specs.Prelude.{◌≡◌, List, map};
-ghost use Rattle.depot_model.specs.Bundle.{Signs};
-ghost use Rattle.depot_model.specs.Checks.{Setting};
-ghost use Rattle.depot_model.specs.Lists.{IsIn};
-ghost use Rattle.depot_model.specs.World.{Correct};
+ghost use Rattle.depot_model.specs.exchange.Bundle.{Signs};
+ghost use Rattle.depot_model.specs.checks.Checks.{Setting};
+ghost use Rattle.depot_model.specs.lists.Lists.{IsIn};
+ghost use Rattle.depot_model.specs.worlds.World.{Correct};
 ghost use Rattle.depot_schedule.specs.Schedules.{IsSchedule};
 ghost use Rattle.depot_schedule.specs.declared.schedule.Schedule.{Schedule};
 ghost use Rattle.depot_script.specs.declared.command.Command.{Command};

@@ -1,6 +1,6 @@
 //! Worlds that meet what laws ask for.
 ghost use Rattle.std.specs.Prelude.{ℕ};
-ghost use Rattle.depot_model.specs.World.{World};
+ghost use Rattle.depot_model.specs.worlds.World.{World};
 ghost use Rattle.depot_examples.specs.Met.{HasSettledPut, HasSignedCheckpoint};
 
 /// Some world meets the conditions of the law of settled puts: in it a correct node has receipts of more nodes than

@@ -10,22 +10,22 @@ use Rattle.depot_base.specs.declared.update.Update.{Update}
 use Rattle.depot_base.specs.declared.statement.Signed.{Signed}
 use Rattle.depot_base.specs.declared.record.Record.{Record}
 use Rattle.depot_model.specs.declared.hello.Hello.{Hello}
-use Rattle.depot_model.specs.Lists.{IsIn, AreApart}
-use Rattle.depot_model.specs.Texts.{id_of_update}
-use Rattle.depot_model.specs.Order.{IsCausal}
-use Rattle.depot_model.specs.Journal.{accepted, accepted_by, update_in, is_foreign}
-use Rattle.depot_model.specs.Checks.{Setting}
-use Rattle.depot_model.specs.Lawful.{IsLawful}
-use Rattle.depot_model.specs.Vouching.{is_mine_vouched}
-use Rattle.depot_model.specs.Bundle.{Signs, Parcel, has_candidate, candidates, parcels, sent_foreign, unvouched}
-use Rattle.depot_model.proofs.Orders.{fresh, causal_behind}
-use Rattle.depot_model.proofs.Members.{in_left, in_right, in_parts, in_map, from_map, all_from, any_from, from_filter}
+use Rattle.depot_model.specs.lists.Lists.{IsIn, AreApart}
+use Rattle.depot_model.specs.texts.Texts.{id_of_update}
+use Rattle.depot_model.specs.updates.Order.{IsCausal}
+use Rattle.depot_model.specs.journals.Journal.{accepted, accepted_by, update_in, is_foreign}
+use Rattle.depot_model.specs.checks.Checks.{Setting}
+use Rattle.depot_model.specs.journals.Lawful.{IsLawful}
+use Rattle.depot_model.specs.checks.Vouching.{is_mine_vouched}
+use Rattle.depot_model.specs.exchange.Bundle.{Signs, Parcel, has_candidate, candidates, parcels, sent_foreign, unvouched}
+use Rattle.depot_model.proofs.of_updates.Orders.{fresh, causal_behind}
+use Rattle.depot_model.proofs.lists.Members.{in_left, in_right, in_parts, in_map, from_map, all_from, any_from, from_filter}
 use Rattle.depot_laws.specs.Rejoin.{updates_of}
-use Rattle.depot_laws.proofs.Splits.{given_by, flat_gives}
-use Rattle.depot_laws.proofs.Tests.{fails_from_not}
-use Rattle.depot_laws.proofs.Causes.{lawful_is_causal}
-use Rattle.depot_laws.proofs.Worlds.{giver_in}
-use Rattle.depot_laws.proofs.Parcels.{IsFront, candidates_for, told_of_parcels}
+use Rattle.depot_laws.proofs.lists.Splits.{given_by, flat_gives}
+use Rattle.depot_laws.proofs.lists.Tests.{fails_from_not}
+use Rattle.depot_laws.proofs.records.Causes.{lawful_is_causal}
+use Rattle.depot_laws.proofs.of_worlds.Worlds.{giver_in}
+use Rattle.depot_laws.proofs.exchanges.Parcels.{IsFront, candidates_for, told_of_parcels}
 
 -- ---- lists of which no element occurs twice
 

@@ -10,25 +10,25 @@ use Rattle.depot_base.specs.declared.record.Record.{Record}
 use Rattle.depot_base.specs.declared.update.Update.{Update}
 use Rattle.depot_model.specs.declared.hello.Hello.{Hello}
 use Rattle.depot_model.specs.declared.hello.HelloLeaf.{HelloLeaf}
-use Rattle.depot_model.specs.Bundle.{BundleAnswer, Parcel, Signs, bad_hello, bundle_answer, bundle_of, bytes_of_frames, fitting, frames_of, is_covered, other_roster, parcels, sent_for, sent_foreign, unvouched}
-use Rattle.depot_model.specs.Checks.{Setting}
-use Rattle.depot_model.specs.Hello.{hello, hello_of, leaves_named, named_leaf}
-use Rattle.depot_model.specs.History.{by_id, leaves_of}
-use Rattle.depot_model.specs.Items.{updates_at}
-use Rattle.depot_model.specs.Journal.{accepted, has_id}
-use Rattle.depot_model.specs.Lists.{IsIn, is_among}
-use Rattle.depot_model.specs.Order.{past}
-use Rattle.depot_model.specs.Roster.{has_node}
-use Rattle.depot_model.specs.Texts.{hash_of_roster, id_of_update}
-use Rattle.depot_model.specs.Vouching.{groups_of, new_vouchers}
-use Rattle.depot_model.proofs.Members.{among_from, any_from, from_map}
-use Rattle.depot_model.proofs.RisingUpdates.{from_by_id}
+use Rattle.depot_model.specs.exchange.Bundle.{BundleAnswer, Parcel, Signs, bad_hello, bundle_answer, bundle_of, bytes_of_frames, fitting, frames_of, is_covered, other_roster, parcels, sent_for, sent_foreign, unvouched}
+use Rattle.depot_model.specs.checks.Checks.{Setting}
+use Rattle.depot_model.specs.exchange.Hello.{hello, hello_of, leaves_named, named_leaf}
+use Rattle.depot_model.specs.updates.History.{by_id, leaves_of}
+use Rattle.depot_model.specs.lists.Items.{updates_at}
+use Rattle.depot_model.specs.journals.Journal.{accepted, has_id}
+use Rattle.depot_model.specs.lists.Lists.{IsIn, is_among}
+use Rattle.depot_model.specs.updates.Order.{past}
+use Rattle.depot_model.specs.texts.Roster.{has_node}
+use Rattle.depot_model.specs.texts.Texts.{hash_of_roster, id_of_update}
+use Rattle.depot_model.specs.checks.Vouching.{groups_of, new_vouchers}
+use Rattle.depot_model.proofs.lists.Members.{among_from, any_from, from_map}
+use Rattle.depot_model.proofs.lists.RisingUpdates.{from_by_id}
 use Rattle.depot_laws.specs.Rejoin.{updates_of}
-use Rattle.depot_laws.proofs.Causes.{leaf_is_on}
-use Rattle.depot_laws.proofs.Parcels.{candidate_is, candidates_for, told_of_parcels}
-use Rattle.depot_laws.proofs.Splits.{given_by}
-use Rattle.depot_laws.proofs.Tests.{fails_from_not}
-use Rattle.depot_laws.proofs.Worlds.{giver_in}
+use Rattle.depot_laws.proofs.records.Causes.{leaf_is_on}
+use Rattle.depot_laws.proofs.exchanges.Parcels.{candidate_is, candidates_for, told_of_parcels}
+use Rattle.depot_laws.proofs.lists.Splits.{given_by}
+use Rattle.depot_laws.proofs.lists.Tests.{fails_from_not}
+use Rattle.depot_laws.proofs.of_worlds.Worlds.{giver_in}
 use Rattle.depot_streams.specs.Sendings.{DoFit}
 use Rattle.depot_gossip.specs.Preparing.{answer_as_read, answer_with}
 use Rattle.depot_gossip.proofs.BundleAnswers.{answer_for, answered_by}

@@ -8,9 +8,9 @@ use Rattle.std.proofs.lemmas.List.Sums.{sum_by-append}
 use Rattle.std.proofs.lemmas.Grind.{flat_map-append}
 use Rattle.depot_base.specs.declared.record.Record.{Record}
 use Rattle.depot_base.proofs.GeneralLaws.{flat_push}
-use Rattle.depot_model.specs.Frames.{text_of_frame}
-use Rattle.depot_model.specs.Bundle.{Parcel, frames_of, sent_foreign, unvouched}
-use Rattle.depot_model.specs.Vouching.{is_mine_vouched}
+use Rattle.depot_model.specs.texts.Frames.{text_of_frame}
+use Rattle.depot_model.specs.exchange.Bundle.{Parcel, frames_of, sent_foreign, unvouched}
+use Rattle.depot_model.specs.checks.Vouching.{is_mine_vouched}
 use Rattle.depot_streams.specs.Sendings.{DoFit, Holds}
 use Rattle.depot_streams.specs.declared.sending.Sending.{Sending}
 use Rattle.depot_gossip.proofs.FitLaws.{bytes_push, count_push, counts_all, foreign_push, holds_short}

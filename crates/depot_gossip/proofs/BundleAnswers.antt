@@ -9,13 +9,13 @@ use Rattle.depot_base.specs.declared.fault.DecodeError.TheVariants as decode
 use Rattle.depot_base.specs.declared.record.Record.{Record}
 use Rattle.depot_base.proofs.Combined.{whole_again, whole_stops}
 use Rattle.depot_model.specs.declared.hello.Hello.{Hello}
-use Rattle.depot_model.specs.Texts.{hash_of_roster}
-use Rattle.depot_model.specs.Roster.{has_node}
-use Rattle.depot_model.specs.Checks.{Setting}
-use Rattle.depot_model.specs.Hello.{hello}
-use Rattle.depot_model.specs.Vouching.{limit_of_vouchers, is_mine_vouched}
-use Rattle.depot_model.specs.Bundle.{Signs, BundleAnswer, bad_hello, other_roster, bundled_within, bundle_of, Parcel, sent_for, sent_foreign, unvouched, answer_to_hello, bundle_answer}
-use Rattle.depot_model.proofs.HelloLaws.{hello_lawful}
+use Rattle.depot_model.specs.texts.Texts.{hash_of_roster}
+use Rattle.depot_model.specs.texts.Roster.{has_node}
+use Rattle.depot_model.specs.checks.Checks.{Setting}
+use Rattle.depot_model.specs.exchange.Hello.{hello}
+use Rattle.depot_model.specs.checks.Vouching.{limit_of_vouchers, is_mine_vouched}
+use Rattle.depot_model.specs.exchange.Bundle.{Signs, BundleAnswer, bad_hello, other_roster, bundled_within, bundle_of, Parcel, sent_for, sent_foreign, unvouched, answer_to_hello, bundle_answer}
+use Rattle.depot_model.proofs.of_texts.HelloLaws.{hello_lawful}
 use Rattle.depot_gossip.specs.declared.bundle_error.BundleError.{BundleError}
 use Rattle.depot_gossip.specs.declared.bundle_error.BundleError.TheVariants as error
 use Rattle.depot_gossip.specs.Errors.{from_decoding}

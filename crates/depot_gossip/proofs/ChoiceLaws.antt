@@ -15,24 +15,24 @@ use Rattle.depot_base.specs.declared.statement.Signed.{Signed}
 use Rattle.depot_base.specs.declared.record.Record.{Record}
 use Rattle.depot_base.specs.declared.record.Record.TheVariants.{Birth, OwnPut, OwnVoucher, Foreign, Conviction, Held}
 use Rattle.depot_model.specs.declared.hello.Hello.{Hello}
-use Rattle.depot_model.specs.Lists.{IsIn, is_among, AreTogether}
-use Rattle.depot_model.specs.Texts.{IsSigned, text_of_signed, id_of_update}
-use Rattle.depot_model.specs.Records.{IsRecord, text_of_record}
-use Rattle.depot_model.specs.Journal.{accepted, accepted_at, accepted_by, own_by, update_in, held, value_with}
-use Rattle.depot_model.specs.Contents.{values_named}
-use Rattle.depot_model.specs.Checks.{Setting}
-use Rattle.depot_model.specs.Lawful.{IsLawful}
-use Rattle.depot_model.specs.Bundle.{Signs, signed_with, signed_by, is_candidate, has_candidate, candidates, records_where, candidate_places, Parcel, values_behind, candidate_parcel, candidate_parcels, wanted_parcel, hashes_of, parcels, sent_foreign}
-use Rattle.depot_model.proofs.Elements.{get_front, in_at}
-use Rattle.depot_model.proofs.Members.{among-append, all_at}
-use Rattle.depot_model.proofs.TextLaws.{signed_is_short}
-use Rattle.depot_laws.proofs.Splits.{flat_gives, lawful_texts}
-use Rattle.depot_laws.proofs.Causes.{none_or_one}
-use Rattle.depot_laws.proofs.LawfulRecords.{IsSigned-from_record}
-use Rattle.depot_laws.proofs.OwnTexts.{own_statement_fits}
-use Rattle.depot_laws.proofs.HeldValues.{held_is_brought, value_with_is}
-use Rattle.depot_laws.proofs.WantedValues.{value_fits}
-use Rattle.depot_laws.proofs.Candidates.{signed_fits}
+use Rattle.depot_model.specs.lists.Lists.{IsIn, is_among, AreTogether}
+use Rattle.depot_model.specs.texts.Texts.{IsSigned, text_of_signed, id_of_update}
+use Rattle.depot_model.specs.texts.Records.{IsRecord, text_of_record}
+use Rattle.depot_model.specs.journals.Journal.{accepted, accepted_at, accepted_by, own_by, update_in, held, value_with}
+use Rattle.depot_model.specs.texts.Contents.{values_named}
+use Rattle.depot_model.specs.checks.Checks.{Setting}
+use Rattle.depot_model.specs.journals.Lawful.{IsLawful}
+use Rattle.depot_model.specs.exchange.Bundle.{Signs, signed_with, signed_by, is_candidate, has_candidate, candidates, records_where, candidate_places, Parcel, values_behind, candidate_parcel, candidate_parcels, wanted_parcel, hashes_of, parcels, sent_foreign}
+use Rattle.depot_model.proofs.lists.Elements.{get_front, in_at}
+use Rattle.depot_model.proofs.lists.Members.{among-append, all_at}
+use Rattle.depot_model.proofs.of_texts.TextLaws.{signed_is_short}
+use Rattle.depot_laws.proofs.lists.Splits.{flat_gives, lawful_texts}
+use Rattle.depot_laws.proofs.records.Causes.{none_or_one}
+use Rattle.depot_laws.proofs.records.LawfulRecords.{IsSigned-from_record}
+use Rattle.depot_laws.proofs.own_updates.OwnTexts.{own_statement_fits}
+use Rattle.depot_laws.proofs.records.HeldValues.{held_is_brought, value_with_is}
+use Rattle.depot_laws.proofs.records.WantedValues.{value_fits}
+use Rattle.depot_laws.proofs.exchanges.Candidates.{signed_fits}
 use Rattle.depot_base.proofs.GeneralLaws.{get_last, flat_push, or_swap, take_next}
 use Rattle.depot_streams.specs.declared.sending.Sending.{Sending}
 use Rattle.depot_gossip.specs.Choosing.{IsCutAt, HasUpdateAt, records_at, foreign_ids, Finds, AreAlike, AddsHashes, value_parcels}

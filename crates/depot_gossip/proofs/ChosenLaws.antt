@@ -4,9 +4,9 @@ use Rattle.std.specs.List.{flat_map}
 use Rattle.std.proofs.lemmas.List.{append-nil, take-append-drop}
 use Rattle.std.proofs.lemmas.Grind.{flat_map-append}
 use Rattle.depot_base.specs.declared.record.Record.{Record}
-use Rattle.depot_model.specs.Journal.{held, value_with}
-use Rattle.depot_model.specs.Lists.{is_among}
-use Rattle.depot_model.specs.Bundle.{Parcel, Signs, candidate_parcel, candidate_parcels, hashes_of, sent_foreign, unvouched, wanted_parcel}
+use Rattle.depot_model.specs.journals.Journal.{held, value_with}
+use Rattle.depot_model.specs.lists.Lists.{is_among}
+use Rattle.depot_model.specs.exchange.Bundle.{Parcel, Signs, candidate_parcel, candidate_parcels, hashes_of, sent_foreign, unvouched, wanted_parcel}
 use Rattle.depot_streams.specs.Sendings.{DoFit, Holds}
 use Rattle.depot_streams.specs.declared.sending.Sending.{Sending}
 use Rattle.depot_gossip.specs.Choosing.{AreAlike, IsCutAt, records_at}

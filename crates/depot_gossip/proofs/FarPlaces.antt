@@ -15,15 +15,15 @@ use Rattle.depot_model.specs.declared.hello.HelloLeaf.{HelloLeaf}
 use Rattle.depot_base.specs.declared.record.Record.{Record}
 use Rattle.depot_base.proofs.GeneralLaws.{flat_push, take_next}
 use Rattle.depot_model.specs.declared.hello.Hello.{Hello}
-use Rattle.depot_model.specs.Checks.{Setting}
-use Rattle.depot_model.specs.Hello.{hello_of, leaves_named, named_leaf}
-use Rattle.depot_model.specs.Journal.{accepted}
-use Rattle.depot_model.specs.Texts.{id_of_update}
-use Rattle.depot_model.specs.Items.{at, place_of_id, place_of_prev, places_of, updates_at}
-use Rattle.depot_model.specs.Lists.{IsIn}
-use Rattle.depot_model.proofs.Members.{all_at, all_from, from_take}
-use Rattle.depot_laws.proofs.Splits.{given_by}
-use Rattle.depot_laws.proofs.Worlds.{giver_in}
+use Rattle.depot_model.specs.checks.Checks.{Setting}
+use Rattle.depot_model.specs.exchange.Hello.{hello_of, leaves_named, named_leaf}
+use Rattle.depot_model.specs.journals.Journal.{accepted}
+use Rattle.depot_model.specs.texts.Texts.{id_of_update}
+use Rattle.depot_model.specs.lists.Items.{at, place_of_id, place_of_prev, places_of, updates_at}
+use Rattle.depot_model.specs.lists.Lists.{IsIn}
+use Rattle.depot_model.proofs.lists.Members.{all_at, all_from, from_take}
+use Rattle.depot_laws.proofs.lists.Splits.{given_by}
+use Rattle.depot_laws.proofs.of_worlds.Worlds.{giver_in}
 use Rattle.depot_gossip.specs.FarHellos.{back, far_behind, far_for, far_hello, far_leaves, far_places, one_back, put_leaf, put_leaves}
 
 -- ---- one step back

@@ -8,18 +8,18 @@ use Rattle.depot_base.specs.declared.record.Record.{Record}
 use Rattle.depot_base.specs.declared.update.Update.{Update}
 use Rattle.depot_base.proofs.EntryLists.{last_pushed}
 use Rattle.depot_model.specs.declared.hello.HelloLeaf.{HelloLeaf}
-use Rattle.depot_model.specs.Checks.{Setting}
-use Rattle.depot_model.specs.Hello.{IsHello, hello, hello_leaf, hello_leaf_rises, hello_of, leaves_named, named_leaf}
-use Rattle.depot_model.specs.Items.{updates_at}
-use Rattle.depot_model.specs.Journal.{accepted}
-use Rattle.depot_model.specs.Lawful.{IsLawful, is_empty}
-use Rattle.depot_model.specs.Lists.{IsIn}
-use Rattle.depot_model.specs.Texts.{IsRoster}
-use Rattle.depot_model.proofs.Elements.{in_at}
-use Rattle.depot_model.proofs.Members.{from_map}
-use Rattle.depot_laws.proofs.HelloTexts.{hello_fits}
-use Rattle.depot_laws.proofs.OwnTexts.{accepted_fit, id_is_digest, writer_fits}
-use Rattle.depot_laws.proofs.Splits.{given_by}
+use Rattle.depot_model.specs.checks.Checks.{Setting}
+use Rattle.depot_model.specs.exchange.Hello.{IsHello, hello, hello_leaf, hello_leaf_rises, hello_of, leaves_named, named_leaf}
+use Rattle.depot_model.specs.lists.Items.{updates_at}
+use Rattle.depot_model.specs.journals.Journal.{accepted}
+use Rattle.depot_model.specs.journals.Lawful.{IsLawful, is_empty}
+use Rattle.depot_model.specs.lists.Lists.{IsIn}
+use Rattle.depot_model.specs.texts.Texts.{IsRoster}
+use Rattle.depot_model.proofs.lists.Elements.{in_at}
+use Rattle.depot_model.proofs.lists.Members.{from_map}
+use Rattle.depot_laws.proofs.exchanges.HelloTexts.{hello_fits}
+use Rattle.depot_laws.proofs.own_updates.OwnTexts.{accepted_fit, id_is_digest, writer_fits}
+use Rattle.depot_laws.proofs.lists.Splits.{given_by}
 use Rattle.depot_gossip.specs.FarHellos.{far_for, far_hello, far_leaves, far_places, put_leaf, put_leaves}
 
 -- ---- leaves that follow one another

@@ -10,10 +10,10 @@ use Rattle.depot_base.specs.declared.update.Update.{Update}
 use Rattle.depot_base.specs.declared.statement.Signed.{Signed}
 use Rattle.depot_base.specs.declared.record.Record.{Record}
 use Rattle.depot_model.specs.declared.hello.Hello.{Hello}
-use Rattle.depot_model.specs.Texts.{id_of_update, text_of_signed}
-use Rattle.depot_model.specs.Journal.{update_in}
-use Rattle.depot_model.specs.Frames.{Frame, text_of_frame}
-use Rattle.depot_model.specs.Bundle.{Signs, Parcel, frames_of, bytes_of_frames, statement_frame, value_frame, fitting, parcels, sent_for, sent_foreign}
+use Rattle.depot_model.specs.texts.Texts.{id_of_update, text_of_signed}
+use Rattle.depot_model.specs.journals.Journal.{update_in}
+use Rattle.depot_model.specs.texts.Frames.{Frame, text_of_frame}
+use Rattle.depot_model.specs.exchange.Bundle.{Signs, Parcel, frames_of, bytes_of_frames, statement_frame, value_frame, fitting, parcels, sent_for, sent_foreign}
 use Rattle.depot_base.proofs.GeneralLaws.{flat_push}
 use Rattle.depot_streams.specs.declared.sending.Sending.{Sending}
 use Rattle.depot_streams.specs.Sendings.{Holds, frames_under, parcel_frames, IsShort, HasNoRoom, Adds}

@@ -14,14 +14,14 @@ use Rattle.depot_base.specs.declared.record.Record.{Record}
 use Rattle.depot_base.specs.declared.record.Record.TheVariants.{Birth, OwnPut, OwnVoucher, Foreign, Conviction, Held}
 use Rattle.depot_base.proofs.GeneralLaws.{get_last}
 use Rattle.depot_model.specs.declared.hello.Hello.{Hello}
-use Rattle.depot_model.specs.Lists.{is_among}
-use Rattle.depot_model.specs.Texts.{text_of_proof}
-use Rattle.depot_model.specs.Records.{tagged, record_text, text_of_record}
-use Rattle.depot_model.specs.Journal.{accused, proof_by}
-use Rattle.depot_model.specs.Vouching.{own_voucher_by}
-use Rattle.depot_model.specs.Frames.{Frame, text_of_frame}
-use Rattle.depot_model.specs.Bundle.{Signs, proof_frame, proofs_for, proof_places, convicts_other, records_where, vouchers_for, voucher_places, vouches_for, end_frame, voucher_frame}
-use Rattle.depot_model.proofs.Elements.{each_at, get_front}
+use Rattle.depot_model.specs.lists.Lists.{is_among}
+use Rattle.depot_model.specs.texts.Texts.{text_of_proof}
+use Rattle.depot_model.specs.texts.Records.{tagged, record_text, text_of_record}
+use Rattle.depot_model.specs.journals.Journal.{accused, proof_by}
+use Rattle.depot_model.specs.checks.Vouching.{own_voucher_by}
+use Rattle.depot_model.specs.texts.Frames.{Frame, text_of_frame}
+use Rattle.depot_model.specs.exchange.Bundle.{Signs, proof_frame, proofs_for, proof_places, convicts_other, records_where, vouchers_for, voucher_places, vouches_for, end_frame, voucher_frame}
+use Rattle.depot_model.proofs.lists.Elements.{each_at, get_front}
 use Rattle.depot_gossip.specs.Choosing.{records_at}
 use Rattle.depot_gossip.specs.declared.front.BundleFront.{BundleFront}
 use Rattle.depot_gossip.specs.declared.front.FrontFrames.{FrontFrames}

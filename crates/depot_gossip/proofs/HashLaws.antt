@@ -3,8 +3,8 @@ use Rattle.std.proofs.Common.{◌≡◌, ℕ, List, [], ◌∷◌, ◌++◌, Boo
 use Rattle.std.specs.List.{list_any}
 use Rattle.std.specs.Str.{bytes_eq}
 use Rattle.std.proofs.lemmas.Slice.Eq.{bytes_eq-Decides}
-use Rattle.depot_model.specs.Lists.{is_among, AreTogether}
-use Rattle.depot_model.proofs.Members.{among-append}
+use Rattle.depot_model.specs.lists.Lists.{is_among, AreTogether}
+use Rattle.depot_model.proofs.lists.Members.{among-append}
 use Rattle.depot_base.proofs.GeneralLaws.{or_again}
 
 -- a digest that is put in

@@ -3,7 +3,7 @@ use Rattle.std.proofs.Common.{◌≡◌, ◌∙◌, ℕ, suc, ◌+◌, Bool, tru
 use Rattle.std.specs.List.{prefix_len, insert}
 use Rattle.std.proofs.lemmas.List.Folds.{length-prefix_len}
 use Rattle.depot_model.specs.declared.hello.HelloLeaf.{HelloLeaf}
-use Rattle.depot_model.specs.Hello.{hello_leaf_rises}
+use Rattle.depot_model.specs.exchange.Hello.{hello_leaf_rises}
 use Rattle.depot_gossip.specs.FarHellos.{put_leaf}
 use Rattle.depot_gossip.specs.LeafPlaces.{is_new_at, leaf_place}
 

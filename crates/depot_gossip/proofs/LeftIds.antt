@@ -4,7 +4,7 @@ use Rattle.std.specs.List.{filter}
 use Rattle.std.proofs.lemmas.List.{append-nil}
 use Rattle.std.proofs.lemmas.List.Elements.{filter-append}
 use Rattle.depot_base.specs.declared.record.Record.{Record}
-use Rattle.depot_model.specs.Vouching.{is_mine_vouched}
+use Rattle.depot_model.specs.checks.Vouching.{is_mine_vouched}
 use Rattle.depot_base.proofs.GeneralLaws.{take_next}
 
 abbrev left_of : List Record → List (List ℕ) → List (List ℕ)

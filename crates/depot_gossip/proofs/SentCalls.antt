@@ -9,17 +9,17 @@ use Rattle.depot_gossip.specs.Bundling.{BundlesBy, IsAnswerCall, journaled_for}
 use Rattle.depot_gossip.specs.declared.bundle_error.BundleError.{BundleError}
 use Rattle.depot_gossip.specs.declared.bundle_error.BundleError.TheVariants as error
 use Rattle.depot_gossip.specs.declared.bundle_stream.Bundled.{Bundled}
-use Rattle.depot_model.specs.Bundle.{BundleAnswer, Signs, bad_hello, bundled, limited, other_roster}
-use Rattle.depot_model.specs.Checks.{Setting}
-use Rattle.depot_model.specs.Hello.{text_of_hello}
-use Rattle.depot_model.specs.JournalCalls.{IsStable}
-use Rattle.depot_model.specs.Lawful.{IsLawful}
-use Rattle.depot_model.specs.Limits.{full, spent}
-use Rattle.depot_model.specs.Replicas.{journal_of}
-use Rattle.depot_model.specs.Vouching.{records_of}
+use Rattle.depot_model.specs.exchange.Bundle.{BundleAnswer, Signs, bad_hello, bundled, limited, other_roster}
+use Rattle.depot_model.specs.checks.Checks.{Setting}
+use Rattle.depot_model.specs.exchange.Hello.{text_of_hello}
+use Rattle.depot_model.specs.journals.JournalCalls.{IsStable}
+use Rattle.depot_model.specs.journals.Lawful.{IsLawful}
+use Rattle.depot_model.specs.checks.Limits.{full, spent}
+use Rattle.depot_model.specs.journals.Replicas.{journal_of}
+use Rattle.depot_model.specs.checks.Vouching.{records_of}
 use Rattle.depot_model.specs.declared.hello.Hello.{Hello}
 use Rattle.depot_model.specs.declared.node_state.NodeState.{Ghosts}
-use Rattle.depot_model.proofs.JournalCallLaws.{idle_call}
+use Rattle.depot_model.proofs.of_journals.JournalCallLaws.{idle_call}
 use Rattle.depot_requests.specs.Requests.{Served, bundle_served}
 use Rattle.depot_requests.specs.declared.reply.Halt.{Halt}
 use Rattle.depot_requests.specs.declared.reply.Halt.TheVariants as halt

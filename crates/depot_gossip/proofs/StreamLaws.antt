@@ -7,14 +7,14 @@ use Rattle.depot_base.specs.declared.record.Record.{Record}
 use Rattle.depot_model.specs.declared.hello.Hello.{Hello}
 use Rattle.depot_model.specs.declared.bundle.VoucherError.{VoucherError}
 use Rattle.depot_model.specs.declared.bundle.VoucherError.TheVariants as refused
-use Rattle.depot_model.specs.Checks.{Setting}
-use Rattle.depot_model.specs.Frames.{Frame, text_of_frame}
-use Rattle.depot_model.specs.Lawful.{IsLawful}
-use Rattle.depot_laws.proofs.Parcels.{sent_in_front}
-use Rattle.depot_model.specs.Limits.{Limit}
-use Rattle.depot_model.proofs.JournalCallLaws.{never_stopped}
-use Rattle.depot_model.specs.Vouching.{Vouches, new_vouchers, limit_of_vouchers}
-use Rattle.depot_model.specs.Bundle.{Signs, Parcel, frames_of, proof_frame, end_frame, proofs_for, vouchers_for, sent_foreign, sent_for, unvouched, with_vouchers, Bundle, BundleAnswer, bundled_within, bundle_of, bundle_frames, bundle_answer, voucher_frame}
+use Rattle.depot_model.specs.checks.Checks.{Setting}
+use Rattle.depot_model.specs.texts.Frames.{Frame, text_of_frame}
+use Rattle.depot_model.specs.journals.Lawful.{IsLawful}
+use Rattle.depot_laws.proofs.exchanges.Parcels.{sent_in_front}
+use Rattle.depot_model.specs.checks.Limits.{Limit}
+use Rattle.depot_model.proofs.of_journals.JournalCallLaws.{never_stopped}
+use Rattle.depot_model.specs.checks.Vouching.{Vouches, new_vouchers, limit_of_vouchers}
+use Rattle.depot_model.specs.exchange.Bundle.{Signs, Parcel, frames_of, proof_frame, end_frame, proofs_for, vouchers_for, sent_foreign, sent_for, unvouched, with_vouchers, Bundle, BundleAnswer, bundled_within, bundle_of, bundle_frames, bundle_answer, voucher_frame}
 use Rattle.depot_base.proofs.GeneralLaws.{flat_push}
 use Rattle.depot_streams.specs.declared.sending.Sending.{Sending}
 use Rattle.depot_gossip.specs.declared.bundle_stream.Bundled.{Bundled}

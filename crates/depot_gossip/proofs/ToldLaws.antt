@@ -12,28 +12,28 @@ use Rattle.depot_base.specs.declared.statement.Signed.{Signed}
 use Rattle.depot_base.specs.declared.record.Record.{Record}
 use Rattle.depot_base.proofs.Combined.{prefix_free}
 use Rattle.depot_model.specs.declared.hello.Hello.{Hello}
-use Rattle.depot_model.specs.Lists.{IsIn, is_among}
-use Rattle.depot_model.specs.Texts.{signed, IsSigned, hash_of_roster}
-use Rattle.depot_model.specs.Roster.{has_node}
-use Rattle.depot_model.specs.Journal.{own, own_by, foreign, foreign_by, held, value_with}
-use Rattle.depot_model.specs.Checks.{Setting}
-use Rattle.depot_model.specs.Lawful.{IsLawful, is_empty}
-use Rattle.depot_model.specs.Limits.{Limit}
-use Rattle.depot_model.specs.Hello.{hello}
-use Rattle.depot_model.specs.Frames.{Frame}
-use Rattle.depot_model.specs.Vouching.{own_voucher_by, records_of, limit_of_vouchers}
-use Rattle.depot_model.specs.Bundle.{Signs, signed_with, signed_by, has_candidate, candidates, Parcel, candidate_parcel, candidate_parcels, wanted_parcel, hashes_of, parcels, statement_frame, value_frame, proof_frame, end_frame, frames_of, sent_for, sent_foreign, unvouched, proofs_for, vouchers_for, Bundle, bundle_frames, bundle_of, with_vouchers, bundled, bad_hello, other_roster, bundled_within, answer_to_hello, bundle_answer, voucher_frame}
-use Rattle.depot_model.proofs.Members.{in_left, in_parts, from_map, from_filter}
-use Rattle.depot_model.proofs.TextLaws.{signed_lawful}
-use Rattle.depot_laws.proofs.Splits.{given_by, flat_gives, flat_left}
-use Rattle.depot_laws.proofs.Worlds.{giver_in}
-use Rattle.depot_laws.proofs.OwnTexts.{own_statement_fits}
-use Rattle.depot_laws.proofs.Candidates.{signed_fits}
-use Rattle.depot_laws.proofs.ChainLaws.{foreign_writer}
-use Rattle.depot_laws.proofs.Contrary.{kept_is_signed}
-use Rattle.depot_laws.proofs.NewVouchers.{new_are_lawful}
-use Rattle.depot_laws.proofs.Parcels.{sent_in_front}
-use Rattle.depot_laws.proofs.Rejoining.{voucher_is_own}
+use Rattle.depot_model.specs.lists.Lists.{IsIn, is_among}
+use Rattle.depot_model.specs.texts.Texts.{signed, IsSigned, hash_of_roster}
+use Rattle.depot_model.specs.texts.Roster.{has_node}
+use Rattle.depot_model.specs.journals.Journal.{own, own_by, foreign, foreign_by, held, value_with}
+use Rattle.depot_model.specs.checks.Checks.{Setting}
+use Rattle.depot_model.specs.journals.Lawful.{IsLawful, is_empty}
+use Rattle.depot_model.specs.checks.Limits.{Limit}
+use Rattle.depot_model.specs.exchange.Hello.{hello}
+use Rattle.depot_model.specs.texts.Frames.{Frame}
+use Rattle.depot_model.specs.checks.Vouching.{own_voucher_by, records_of, limit_of_vouchers}
+use Rattle.depot_model.specs.exchange.Bundle.{Signs, signed_with, signed_by, has_candidate, candidates, Parcel, candidate_parcel, candidate_parcels, wanted_parcel, hashes_of, parcels, statement_frame, value_frame, proof_frame, end_frame, frames_of, sent_for, sent_foreign, unvouched, proofs_for, vouchers_for, Bundle, bundle_frames, bundle_of, with_vouchers, bundled, bad_hello, other_roster, bundled_within, answer_to_hello, bundle_answer, voucher_frame}
+use Rattle.depot_model.proofs.lists.Members.{in_left, in_parts, from_map, from_filter}
+use Rattle.depot_model.proofs.of_texts.TextLaws.{signed_lawful}
+use Rattle.depot_laws.proofs.lists.Splits.{given_by, flat_gives, flat_left}
+use Rattle.depot_laws.proofs.of_worlds.Worlds.{giver_in}
+use Rattle.depot_laws.proofs.own_updates.OwnTexts.{own_statement_fits}
+use Rattle.depot_laws.proofs.exchanges.Candidates.{signed_fits}
+use Rattle.depot_laws.proofs.orders.ChainLaws.{foreign_writer}
+use Rattle.depot_laws.proofs.convicting.Contrary.{kept_is_signed}
+use Rattle.depot_laws.proofs.records.NewVouchers.{new_are_lawful}
+use Rattle.depot_laws.proofs.exchanges.Parcels.{sent_in_front}
+use Rattle.depot_laws.proofs.exchanges.Rejoining.{voucher_is_own}
 use Rattle.depot_gossip.specs.OwnStatements.{SignsShort, IsSignedOwn}
 use Rattle.depot_gossip.proofs.ApartLaws.{foreign_one}
 

@@ -18,19 +18,19 @@ use Rattle.depot_base.specs.declared.statement.Signed.{Signed}
 use Rattle.depot_base.specs.declared.record.Record.{Record}
 use Rattle.depot_base.proofs.GeneralLaws.{flat_push, or_swap, take_next}
 use Rattle.depot_base.proofs.MembershipLaws.{all_from}
-use Rattle.depot_model.specs.Lists.{is_among, AreTogether}
-use Rattle.depot_model.specs.Texts.{IsStatement, IsSigned}
-use Rattle.depot_model.specs.Journal.{update_in, held_as}
-use Rattle.depot_model.specs.Contents.{values_named}
-use Rattle.depot_model.specs.Checks.{Setting}
-use Rattle.depot_model.specs.Lawful.{IsLawful}
-use Rattle.depot_model.specs.Bundle.{values_behind}
-use Rattle.depot_model.proofs.BodyLaws.{IsStatement-from_signed, IsUpdate-from_statement}
-use Rattle.depot_model.proofs.FieldFacts.{update_facts}
-use Rattle.depot_model.proofs.Members.{among-append}
-use Rattle.depot_laws.proofs.Candidates.{behind_is}
-use Rattle.depot_laws.proofs.HeldValues.{held_as_is}
-use Rattle.depot_laws.proofs.WantedValues.{value_fits}
+use Rattle.depot_model.specs.lists.Lists.{is_among, AreTogether}
+use Rattle.depot_model.specs.texts.Texts.{IsStatement, IsSigned}
+use Rattle.depot_model.specs.journals.Journal.{update_in, held_as}
+use Rattle.depot_model.specs.texts.Contents.{values_named}
+use Rattle.depot_model.specs.checks.Checks.{Setting}
+use Rattle.depot_model.specs.journals.Lawful.{IsLawful}
+use Rattle.depot_model.specs.exchange.Bundle.{values_behind}
+use Rattle.depot_model.proofs.of_texts.BodyLaws.{IsStatement-from_signed, IsUpdate-from_statement}
+use Rattle.depot_model.proofs.of_texts.FieldFacts.{update_facts}
+use Rattle.depot_model.proofs.lists.Members.{among-append}
+use Rattle.depot_laws.proofs.exchanges.Candidates.{behind_is}
+use Rattle.depot_laws.proofs.records.HeldValues.{held_as_is}
+use Rattle.depot_laws.proofs.records.WantedValues.{value_fits}
 use Rattle.depot_streams.specs.Sendings.{ArePayloads, payloads_of}
 use Rattle.depot_gossip.specs.Choosing.{AreAlike, Finds}
 

@@ -5,16 +5,16 @@ use Rattle.depot_base.specs.declared.record.Record.{Record}
 use Rattle.depot_model.specs.declared.bundle.VoucherError.{VoucherError}
 use Rattle.depot_model.specs.declared.bundle.VoucherError.TheVariants as refused
 use Rattle.depot_model.specs.declared.node_state.NodeState.{Ghosts}
-use Rattle.depot_model.specs.Checks.{Setting}
-use Rattle.depot_model.specs.JournalCalls.{JournalView, Lasts, IsJournalCall}
-use Rattle.depot_model.specs.Lawful.{IsLawful, is_empty}
-use Rattle.depot_model.specs.Limits.{Limit}
-use Rattle.depot_model.specs.Replicas.{IsVoucherCall, journal_of}
-use Rattle.depot_model.specs.Vouching.{Vouches, new_vouchers, records_of, limit_of_vouchers}
-use Rattle.depot_model.specs.Bundle.{BundleAnswer, Parcel, Signs, bundled_within, unvouched}
-use Rattle.depot_model.proofs.CallsOnDisk.{called_well}
-use Rattle.depot_model.proofs.JournalCallLaws.{never_answered, renamed_call}
-use Rattle.depot_model.proofs.StopLaws.{lasts_longer}
+use Rattle.depot_model.specs.checks.Checks.{Setting}
+use Rattle.depot_model.specs.journals.JournalCalls.{JournalView, Lasts, IsJournalCall}
+use Rattle.depot_model.specs.journals.Lawful.{IsLawful, is_empty}
+use Rattle.depot_model.specs.checks.Limits.{Limit}
+use Rattle.depot_model.specs.journals.Replicas.{IsVoucherCall, journal_of}
+use Rattle.depot_model.specs.checks.Vouching.{Vouches, new_vouchers, records_of, limit_of_vouchers}
+use Rattle.depot_model.specs.exchange.Bundle.{BundleAnswer, Parcel, Signs, bundled_within, unvouched}
+use Rattle.depot_model.proofs.of_journals.CallsOnDisk.{called_well}
+use Rattle.depot_model.proofs.of_journals.JournalCallLaws.{never_answered, renamed_call}
+use Rattle.depot_model.proofs.of_journals.StopLaws.{lasts_longer}
 use Rattle.depot_gossip.specs.declared.bundle_error.BundleError.{BundleError}
 use Rattle.depot_gossip.specs.declared.bundle_error.BundleError.TheVariants as error
 use Rattle.depot_gossip.specs.declared.bundle_stream.Bundled.{Bundled}
@@ -24,9 +24,9 @@ use Rattle.depot_gossip.specs.Bundling.{IsAnswerCall, journaled_for}
 use Rattle.depot_gossip.specs.Preparing.{IsReady, bundle_with}
 use Rattle.depot_streams.specs.Lasting.{LastsIn}
 use Rattle.depot_streams.proofs.LastingStreams.{all_of, cut_of, none_in, to_append, IsPart}
-use Rattle.depot_laws.proofs.TrueReceipts.{silent_is_true, vouchers_put_none}
+use Rattle.depot_laws.proofs.of_audits.TrueReceipts.{silent_is_true, vouchers_put_none}
 use Rattle.depot_gossip.proofs.StreamLaws.{same_fault}
-use Rattle.depot_laws.proofs.NewVouchers.{new_are_lawful}
+use Rattle.depot_laws.proofs.records.NewVouchers.{new_are_lawful}
 
 -- the journal is lawful with vouchers that meet no limit
 vouchers_are_lawful : (here : Setting) (sign : Signs) (J : List Record) (answer : BundleAnswer) (xs : List Parcel) (p : Prepared) → IsLawful here J → is_empty J ≡ false → IsReady here sign J answer xs p → limit_of_vouchers here J p.unvouched ≡ None

@@ -14,16 +14,16 @@ use Rattle.depot_base.specs.declared.record.Record.TheVariants.{Birth, OwnPut, O
 use Rattle.depot_base.specs.declared.statement.Signed.{Signed}
 use Rattle.depot_base.specs.declared.update.Update.{Update}
 use Rattle.depot_model.specs.declared.hello.Hello.{Hello}
-use Rattle.depot_model.specs.Bundle.{Parcel, Signs, candidate_parcel, candidate_parcels, candidates, parcels, sent_foreign, signed_by, signed_with, unvouched}
-use Rattle.depot_model.specs.Checks.{Setting}
-use Rattle.depot_model.specs.Journal.{accepted, accepted_by, is_foreign, own, update_in}
-use Rattle.depot_model.specs.Lawful.{IsLawful}
-use Rattle.depot_model.specs.Lists.{AreApart, IsIn}
-use Rattle.depot_model.specs.Texts.{id_of_update}
-use Rattle.depot_model.specs.Vouching.{is_mine_vouched, new_vouchers}
+use Rattle.depot_model.specs.exchange.Bundle.{Parcel, Signs, candidate_parcel, candidate_parcels, candidates, parcels, sent_foreign, signed_by, signed_with, unvouched}
+use Rattle.depot_model.specs.checks.Checks.{Setting}
+use Rattle.depot_model.specs.journals.Journal.{accepted, accepted_by, is_foreign, own, update_in}
+use Rattle.depot_model.specs.journals.Lawful.{IsLawful}
+use Rattle.depot_model.specs.lists.Lists.{AreApart, IsIn}
+use Rattle.depot_model.specs.texts.Texts.{id_of_update}
+use Rattle.depot_model.specs.checks.Vouching.{is_mine_vouched, new_vouchers}
 use Rattle.depot_laws.specs.Rejoin.{updates_of}
-use Rattle.depot_laws.proofs.Causes.{none_or_one}
-use Rattle.depot_laws.proofs.Parcels.{IsFront}
+use Rattle.depot_laws.proofs.records.Causes.{none_or_one}
+use Rattle.depot_laws.proofs.exchanges.Parcels.{IsFront}
 use Rattle.depot_decide.proofs.VoucherPlans.{length-new_vouchers, own_with}
 use Rattle.depot_streams.specs.Sendings.{Holds}
 use Rattle.depot_gossip.specs.Choosing.{HasUpdateAt, records_at}

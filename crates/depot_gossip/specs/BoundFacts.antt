@@ -5,14 +5,14 @@ use Rattle.depot_base.specs.declared.record.Record.{Record}
 use Rattle.depot_base.specs.declared.update.Update.{Update}
 use Rattle.depot_model.specs.declared.hello.Hello.{Hello}
 use Rattle.depot_model.specs.declared.hello.HelloLeaf.{HelloLeaf}
-use Rattle.depot_model.specs.Bundle.{Parcel, Signs, unvouched}
-use Rattle.depot_model.specs.Checks.{Setting}
-use Rattle.depot_model.specs.Hello.{leaves_named, named_leaf}
-use Rattle.depot_model.specs.Journal.{accepted, has_id}
-use Rattle.depot_model.specs.Lists.{IsIn}
-use Rattle.depot_model.specs.Order.{past}
-use Rattle.depot_model.specs.Texts.{id_of_update}
-use Rattle.depot_model.specs.Vouching.{new_vouchers}
+use Rattle.depot_model.specs.exchange.Bundle.{Parcel, Signs, unvouched}
+use Rattle.depot_model.specs.checks.Checks.{Setting}
+use Rattle.depot_model.specs.exchange.Hello.{leaves_named, named_leaf}
+use Rattle.depot_model.specs.journals.Journal.{accepted, has_id}
+use Rattle.depot_model.specs.lists.Lists.{IsIn}
+use Rattle.depot_model.specs.updates.Order.{past}
+use Rattle.depot_model.specs.texts.Texts.{id_of_update}
+use Rattle.depot_model.specs.checks.Vouching.{new_vouchers}
 use Rattle.depot_gossip.specs.Bounding.{bounded_sent, bytes_of_parcels, fit_a_bundle, has_few_vouchers, leaves_left, leaves_some, parcels_of}
 use Rattle.depot_gossip.specs.FarHellos.{far_hello}
 use Rattle.depot_gossip.specs.declared.bounds.Bounds.{Bounds}

@@ -4,11 +4,11 @@ use Rattle.std.specs.List.{flat_map, list_any}
 use Rattle.depot_base.specs.declared.limits.TheConstants.{MOST_BUNDLE, MOST_BUNDLE_FRAMES}
 use Rattle.depot_base.specs.declared.record.Record.{Record}
 use Rattle.depot_model.specs.declared.hello.Hello.{Hello}
-use Rattle.depot_model.specs.Bundle.{Bundle, BundleAnswer, Parcel, Signs, bytes_of_frames, candidate_parcels, candidates, frames_of, parcels, unvouched}
-use Rattle.depot_model.specs.Checks.{Setting}
-use Rattle.depot_model.specs.Journal.{accepted_by, own}
-use Rattle.depot_model.specs.Own.{leaf_count}
-use Rattle.depot_model.specs.Vouching.{new_vouchers}
+use Rattle.depot_model.specs.exchange.Bundle.{Bundle, BundleAnswer, Parcel, Signs, bytes_of_frames, candidate_parcels, candidates, frames_of, parcels, unvouched}
+use Rattle.depot_model.specs.checks.Checks.{Setting}
+use Rattle.depot_model.specs.journals.Journal.{accepted_by, own}
+use Rattle.depot_model.specs.checks.Own.{leaf_count}
+use Rattle.depot_model.specs.checks.Vouching.{new_vouchers}
 use Rattle.depot_gossip.specs.Preparing.{answer_to_bytes, answer_with, bundle_with}
 use Rattle.depot_gossip.specs.declared.bounds.Bounds.{Bounds}
 

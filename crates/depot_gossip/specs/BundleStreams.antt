@@ -3,8 +3,8 @@ use Rattle.std.specs.Prelude.{◌≡◌, List, ◌++◌, length, map}
 use Rattle.std.specs.List.{flat_map}
 use Rattle.depot_base.specs.declared.record.Record.{Record}
 use Rattle.depot_model.specs.declared.hello.Hello.{Hello}
-use Rattle.depot_model.specs.Frames.{text_of_frame}
-use Rattle.depot_model.specs.Bundle.{Signs, proof_frame, end_frame, proofs_for, vouchers_for, voucher_frame}
+use Rattle.depot_model.specs.texts.Frames.{text_of_frame}
+use Rattle.depot_model.specs.exchange.Bundle.{Signs, proof_frame, end_frame, proofs_for, vouchers_for, voucher_frame}
 use Rattle.depot_streams.specs.declared.sending.Sending.{Sending}
 use Rattle.depot_gossip.specs.declared.front.BundleFront.{BundleFront}
 use Rattle.depot_gossip.specs.declared.bundle_stream.Bundled.{Bundled}

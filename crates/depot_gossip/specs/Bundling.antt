@@ -1,11 +1,11 @@
 -- What a node answers to a hello, and what its journal is then.
 use Rattle.std.specs.Prelude.{◌≡◌, ℕ, ◌⊎◌, List, [], Bool, true, Result, Ok, Err, IsErrOf}
 use Rattle.depot_base.specs.declared.record.Record.{Record}
-use Rattle.depot_model.specs.Checks.{Setting}
-use Rattle.depot_model.specs.Texts.{hash_of_roster}
-use Rattle.depot_model.specs.Limits.{spent, full, IsCutShort}
-use Rattle.depot_model.specs.Vouching.{records_of}
-use Rattle.depot_model.specs.Bundle.{Parcel, Signs, Bundle, BundleAnswer, bundled, bad_hello, other_roster, limited, bytes_of_bundle, with_vouchers, bundle_answer}
+use Rattle.depot_model.specs.checks.Checks.{Setting}
+use Rattle.depot_model.specs.texts.Texts.{hash_of_roster}
+use Rattle.depot_model.specs.checks.Limits.{spent, full, IsCutShort}
+use Rattle.depot_model.specs.checks.Vouching.{records_of}
+use Rattle.depot_model.specs.exchange.Bundle.{Parcel, Signs, Bundle, BundleAnswer, bundled, bad_hello, other_roster, limited, bytes_of_bundle, with_vouchers, bundle_answer}
 use Rattle.depot_model.specs.declared.node_state.NodeState.{Ghosts}
 use Rattle.depot_streams.specs.Lasting.{IsLawfulCall}
 use Rattle.depot_gossip.specs.Preparing.{IsReady}

@@ -4,9 +4,9 @@ use Rattle.std.specs.List.{list_any}
 use Rattle.depot_base.specs.declared.limits.TheConstants.{MOST_IDS}
 use Rattle.depot_base.specs.declared.record.Record.{Record}
 use Rattle.depot_model.specs.declared.hello.Hello.{Hello}
-use Rattle.depot_model.specs.Bundle.{Parcel, Signs, unvouched}
-use Rattle.depot_model.specs.Checks.{Setting}
-use Rattle.depot_model.specs.Journal.{accepted_at}
+use Rattle.depot_model.specs.exchange.Bundle.{Parcel, Signs, unvouched}
+use Rattle.depot_model.specs.checks.Checks.{Setting}
+use Rattle.depot_model.specs.journals.Journal.{accepted_at}
 use Rattle.depot_streams.specs.Sendings.{Holds}
 use Rattle.depot_streams.specs.declared.sending.Sending.{Sending}
 use Rattle.depot_gossip.specs.Bounding.{bounded_sent, bytes_of_parcels, fit_a_bundle, leaves_left, leaves_some, longest_front}

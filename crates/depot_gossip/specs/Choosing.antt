@@ -7,11 +7,11 @@ use Rattle.depot_base.specs.declared.update.Update.{Update}
 use Rattle.depot_base.specs.declared.record.Record.{Record}
 use Rattle.depot_model.specs.declared.hello.Hello.{Hello}
 use Rattle.depot_model.specs.declared.node_state.NodeState.{Ghosts}
-use Rattle.depot_model.specs.Lists.{is_among, AreTogether}
-use Rattle.depot_model.specs.Texts.{id_of_update}
-use Rattle.depot_model.specs.Journal.{accepted_by}
-use Rattle.depot_model.specs.Frames.{text_of_frame}
-use Rattle.depot_model.specs.Bundle.{Parcel, Signs, candidate_parcel, candidate_parcels, hashes_of, parcels, sent_for, values_behind, wanted_parcel}
+use Rattle.depot_model.specs.lists.Lists.{is_among, AreTogether}
+use Rattle.depot_model.specs.texts.Texts.{id_of_update}
+use Rattle.depot_model.specs.journals.Journal.{accepted_by}
+use Rattle.depot_model.specs.texts.Frames.{text_of_frame}
+use Rattle.depot_model.specs.exchange.Bundle.{Parcel, Signs, candidate_parcel, candidate_parcels, hashes_of, parcels, sent_for, values_behind, wanted_parcel}
 use Rattle.depot_streams.specs.declared.sending.Sending.{Sending}
 use Rattle.depot_streams.specs.Sendings.{DoFit, Holds, parcel_frames, IsShort, HasNoRoom}
 

@@ -7,10 +7,10 @@ use Rattle.depot_base.specs.declared.update.Update.{Update}
 use Rattle.depot_graph.specs.Kept.{prev_places}
 use Rattle.depot_model.specs.declared.hello.Hello.{Hello}
 use Rattle.depot_model.specs.declared.hello.HelloLeaf.{HelloLeaf}
-use Rattle.depot_model.specs.Checks.{Setting}
-use Rattle.depot_model.specs.Hello.{hello_leaf_rises, hello_of, leaves_named, named_leaf}
-use Rattle.depot_model.specs.Items.{places_of, updates_at}
-use Rattle.depot_model.specs.Journal.{accepted}
+use Rattle.depot_model.specs.checks.Checks.{Setting}
+use Rattle.depot_model.specs.exchange.Hello.{hello_leaf_rises, hello_of, leaves_named, named_leaf}
+use Rattle.depot_model.specs.lists.Items.{places_of, updates_at}
+use Rattle.depot_model.specs.journals.Journal.{accepted}
 use Rattle.depot_gossip.specs.declared.far.TheConstants.{MOST_FAR}
 
 -- ---- chains, by the places of the updates: for each place the list has the place of its prev, if any

@@ -3,8 +3,8 @@ use Rattle.std.specs.Prelude.{◌≡◌, ◌++◌, ◌∷◌, [], ℕ, List, OnO
 use Rattle.std.specs.List.{flat_map}
 use Rattle.depot_base.specs.declared.record.Record.{Record}
 use Rattle.depot_model.specs.declared.hello.Hello.{Hello}
-use Rattle.depot_model.specs.Frames.{Frame, text_of_frame}
-use Rattle.depot_model.specs.Bundle.{Signs, proof_frame, proofs_for, vouchers_for, voucher_frame}
+use Rattle.depot_model.specs.texts.Frames.{Frame, text_of_frame}
+use Rattle.depot_model.specs.exchange.Bundle.{Signs, proof_frame, proofs_for, vouchers_for, voucher_frame}
 use Rattle.depot_gossip.specs.declared.front.BundleFront.{BundleFront}
 use Rattle.depot_gossip.specs.declared.front.FrontFrames.{FrontFrames}
 

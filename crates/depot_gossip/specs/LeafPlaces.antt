@@ -2,7 +2,7 @@
 use Rattle.std.specs.Prelude.{ℕ, List, length, Bool, true, Some, slice_get, take_while}
 use Rattle.std.specs.Option.{option_map_or}
 use Rattle.depot_model.specs.declared.hello.HelloLeaf.{HelloLeaf}
-use Rattle.depot_model.specs.Hello.{hello_leaf_rises}
+use Rattle.depot_model.specs.exchange.Hello.{hello_leaf_rises}
 
 -- the first place with a leaf that isn't lower, or the list's end
 abbrev pub leaf_place : HelloLeaf → List HelloLeaf → ℕ

@@ -4,12 +4,12 @@ use Rattle.depot_base.specs.declared.limits.TheConstants.{MOST_SIGNATURE}
 use Rattle.depot_base.specs.declared.statement.Signed.{Signed}
 use Rattle.depot_base.specs.declared.record.Record.{Record}
 use Rattle.depot_base.specs.Statement.{seq_of, writer_of}
-use Rattle.depot_model.specs.Bundle.{Bundle, Signs, bundle_answer, bundled, statement_frame}
-use Rattle.depot_model.specs.Checks.{Setting}
-use Rattle.depot_model.specs.Journal.{own}
-use Rattle.depot_model.specs.Lawful.{IsLawful, is_empty}
-use Rattle.depot_model.specs.Lists.{IsIn}
-use Rattle.depot_model.specs.Texts.{IsSigned}
+use Rattle.depot_model.specs.exchange.Bundle.{Bundle, Signs, bundle_answer, bundled, statement_frame}
+use Rattle.depot_model.specs.checks.Checks.{Setting}
+use Rattle.depot_model.specs.journals.Journal.{own}
+use Rattle.depot_model.specs.journals.Lawful.{IsLawful, is_empty}
+use Rattle.depot_model.specs.lists.Lists.{IsIn}
+use Rattle.depot_model.specs.texts.Texts.{IsSigned}
 
 -- all that the signer gives is short enough for a text
 abbrev pub SignsShort : Signs → Type 0

@@ -4,14 +4,14 @@ use Rattle.std.specs.Str.{bytes_eq}
 use Rattle.depot_base.specs.Format.{whole}
 use Rattle.depot_base.specs.declared.record.Record.{Record}
 use Rattle.depot_model.specs.declared.hello.Hello.{Hello}
-use Rattle.depot_model.specs.Checks.{Setting}
-use Rattle.depot_model.specs.Hello.{hello}
-use Rattle.depot_model.specs.Journal.{accepted, is_foreign}
-use Rattle.depot_model.specs.Lists.{AreApart, IsIn}
-use Rattle.depot_model.specs.Roster.{has_node}
-use Rattle.depot_model.specs.Texts.{hash_of_roster}
-use Rattle.depot_model.specs.Vouching.{limit_of_vouchers, new_vouchers}
-use Rattle.depot_model.specs.Bundle.{Bundle, BundleAnswer, Parcel, Signs, bad_hello, other_roster, bundle_answer, bundle_frames, bundled_within, bundle_of, counts_of, sent_for, unvouched, with_vouchers}
+use Rattle.depot_model.specs.checks.Checks.{Setting}
+use Rattle.depot_model.specs.exchange.Hello.{hello}
+use Rattle.depot_model.specs.journals.Journal.{accepted, is_foreign}
+use Rattle.depot_model.specs.lists.Lists.{AreApart, IsIn}
+use Rattle.depot_model.specs.texts.Roster.{has_node}
+use Rattle.depot_model.specs.texts.Texts.{hash_of_roster}
+use Rattle.depot_model.specs.checks.Vouching.{limit_of_vouchers, new_vouchers}
+use Rattle.depot_model.specs.exchange.Bundle.{Bundle, BundleAnswer, Parcel, Signs, bad_hello, other_roster, bundle_answer, bundle_frames, bundled_within, bundle_of, counts_of, sent_for, unvouched, with_vouchers}
 use Rattle.depot_streams.specs.Sendings.{Holds}
 use Rattle.depot_gossip.specs.Choosing.{leaves_out}
 use Rattle.depot_gossip.specs.declared.preparing.Prepared.{Prepared}

@@ -1,9 +1,9 @@
 -- What is prepared within bounds, and what is replied once it is sent.
 use Rattle.std.specs.Prelude.{◌≡◌, ℕ, List, false, Result, Ok, Err}
 use Rattle.depot_base.specs.declared.record.Record.{Record}
-use Rattle.depot_model.specs.Bundle.{Signs, bad_hello, other_roster}
-use Rattle.depot_model.specs.Checks.{Setting}
-use Rattle.depot_model.specs.Texts.{hash_of_roster}
+use Rattle.depot_model.specs.exchange.Bundle.{Signs, bad_hello, other_roster}
+use Rattle.depot_model.specs.checks.Checks.{Setting}
+use Rattle.depot_model.specs.texts.Texts.{hash_of_roster}
 use Rattle.depot_model.specs.declared.node_state.NodeState.{Ghosts}
 use Rattle.depot_gossip.specs.Bundling.{BundlesBy}
 use Rattle.depot_gossip.specs.Preparing.{IsReady}

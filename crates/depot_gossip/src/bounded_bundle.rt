@@ -1,8 +1,8 @@
 //! A bundle with bounds.
 ghost use Rattle.std.specs.Prelude.{◌≡◌, false, Err};
 ghost use Rattle.depot_gossip.specs.Bundling.{IsAnswerCall};
-ghost use Rattle.depot_model.specs.JournalCalls.{IsStable};
-ghost use Rattle.depot_model.specs.Replicas.{journal_of};
+ghost use Rattle.depot_model.specs.journals.JournalCalls.{IsStable};
+ghost use Rattle.depot_model.specs.journals.Replicas.{journal_of};
 ghost use Rattle.depot_gossip.specs.Bounding.{bounded_answer};
 ghost use Rattle.depot_gossip.specs.SendCalls.{IsSendCall, Sends};
 ghost use Rattle.depot_gossip.specs.Within.{BundlesWithin, PreparesWithin, replied};

@@ -1,8 +1,8 @@
 //! What a bundle goes by of a candidate's update.
 ghost use Rattle.std.specs.Prelude.{◌≡◌, ◌∷◌, [], false, IfOk, option_copied, option_to_list};
 ghost use Rattle.depot_base.specs.Writes.{values_in};
-ghost use Rattle.depot_model.specs.Journal.{held_as};
-ghost use Rattle.depot_model.specs.Texts.{id_of_update};
+ghost use Rattle.depot_model.specs.journals.Journal.{held_as};
+ghost use Rattle.depot_model.specs.texts.Texts.{id_of_update};
 ghost use Rattle.depot_streams.specs.Sendings.{payloads_of};
 ghost use Rattle.depot_gossip.specs.Choosing.{Finds, foreign_ids};
 

@@ -3,7 +3,7 @@ ghost use Rattle.std.specs.Prelude.{◌≡◌, ◌++◌, ◌≤◌, List, [], �
 ghost use Rattle.std.specs.List.{AllByRecursion, flat_map};
 ghost use Rattle.sha2.specs.Sha256.{sha256};
 ghost use Rattle.depot_base.specs.declared.limits.TheConstants.{MOST_PAYLOAD, MOST_WRITES};
-ghost use Rattle.depot_model.specs.Bundle.{Parcel, wanted_parcel, sent_for};
+ghost use Rattle.depot_model.specs.exchange.Bundle.{Parcel, wanted_parcel, sent_for};
 ghost use Rattle.depot_streams.specs.Sendings.{Holds, IsShort, ArePayloads, payloads_of};
 ghost use Rattle.depot_gossip.specs.Choosing.{AddsBehind, AddsFound, AddsHashes, AddsTo, AreHashesOf, ForParcelAt, HasUpdateAt, leaves_out, parcels_at, parcels_with, value_parcels};
 

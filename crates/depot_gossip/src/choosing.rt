@@ -2,7 +2,7 @@
 ghost use Rattle.std.specs.Prelude.{◌≡◌, [], ◌∷◌, false, map, IfOk};
 ghost use Rattle.std.specs.List.{AllByRecursion, filter, flat_map};
 ghost use Rattle.sha2.specs.Sha256.{sha256};
-ghost use Rattle.depot_model.specs.Bundle.{wanted_parcel};
+ghost use Rattle.depot_model.specs.exchange.Bundle.{wanted_parcel};
 ghost use Rattle.depot_gossip.specs.Choosing.{AddsHashes, AreHashesOf, ForParcelAt, HasUpdateAt, parcels_at, parcels_with};
 ghost use Rattle.depot_gossip.specs.Bounding.{parcels_of};
 ghost use Rattle.depot_gossip.specs.Choices.{ChoosesBehind, ChoosesTo, IsChosenFrom, IsChosenWithin, is_of_at};

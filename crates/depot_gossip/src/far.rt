@@ -2,10 +2,10 @@
 ghost use Rattle.std.specs.Prelude.{◌≡◌, ◌<◌, ◌++◌, [], ◌∷◌, false, length, map, take, OnOk, IfOk};
 ghost use Rattle.std.specs.List.{AllByRecursion};
 ghost use Rattle.depot_graph.specs.Kept.{prev_places};
-ghost use Rattle.depot_model.specs.Hello.{hello_leaf_rises, named_leaf};
-ghost use Rattle.depot_model.specs.Items.{updates_at};
-ghost use Rattle.depot_model.specs.JournalCalls.{IsStable};
-ghost use Rattle.depot_model.specs.Replicas.{journal_of};
+ghost use Rattle.depot_model.specs.exchange.Hello.{hello_leaf_rises, named_leaf};
+ghost use Rattle.depot_model.specs.lists.Items.{updates_at};
+ghost use Rattle.depot_model.specs.journals.JournalCalls.{IsStable};
+ghost use Rattle.depot_model.specs.journals.Replicas.{journal_of};
 ghost use Rattle.depot_gossip.specs.FarHellos.{back, far_behind, far_hello, far_leaves, far_places, put_leaf, put_leaves};
 ghost use Rattle.depot_gossip.specs.LeafPlaces.{is_new_at, leaf_place};
 ghost use Rattle.depot_gossip.specs.SendCalls.{IsSendCall, Sends};

@@ -5,8 +5,8 @@ ghost use Rattle.depot_base.specs.declared.limits.TheConstants.{MOST_PAYLOAD, MO
 ghost use Rattle.depot_base.specs.declared.record.Record.TheVariants.{OwnVoucher, Conviction};
 ghost use Rattle.depot_base.specs.declared.proof.Proof.{Proof};
 ghost use Rattle.depot_base.specs.declared.voucher.Voucher.{Voucher};
-ghost use Rattle.depot_model.specs.Bundle.{proof_frame, proofs_for, voucher_frame, vouchers_for};
-ghost use Rattle.depot_model.specs.Texts.{text_of_proof};
+ghost use Rattle.depot_model.specs.exchange.Bundle.{proof_frame, proofs_for, voucher_frame, vouchers_for};
+ghost use Rattle.depot_model.specs.texts.Texts.{text_of_proof};
 ghost use Rattle.depot_gossip.specs.Fronts.{AddsFrame, AreFrames, IsFront};
 
 use depot_base::{Bytes, FrameTag, Ids, Memory};

@@ -2,8 +2,8 @@
 ghost use Rattle.std.specs.Prelude.{List};
 ghost use Rattle.depot_base.specs.declared.record.Record.{Record};
 ghost use Rattle.depot_base.specs.declared.statement.Signed.{Signed};
-ghost use Rattle.depot_model.specs.Bundle.{Signs, Bundle, with_vouchers};
-ghost use Rattle.depot_model.specs.Checks.{Setting};
+ghost use Rattle.depot_model.specs.exchange.Bundle.{Signs, Bundle, with_vouchers};
+ghost use Rattle.depot_model.specs.checks.Checks.{Setting};
 ghost use Rattle.depot_gossip.specs.OwnStatements.{AnswersBundle, HasOwnStatement, IsSignedOwn};
 
 /// Whatever text a node is given as a hello: each own statement in the bytes of its bundle is in its journal, which

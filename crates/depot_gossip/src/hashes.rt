@@ -1,6 +1,6 @@
 //! Sets of digests.
 ghost use Rattle.std.specs.Prelude.{◌≡◌, [], ◌∷◌, OnOk};
-ghost use Rattle.depot_model.specs.Lists.{is_among, AreTogether};
+ghost use Rattle.depot_model.specs.lists.Lists.{is_among, AreTogether};
 
 use depot_base::{Hash32, Memory};
 use indexmap::IndexSet;

@@ -1,6 +1,6 @@
 //! The hello of a node: what it has.
 ghost use Rattle.std.specs.Prelude.{◌≡◌, false, IfOk};
-ghost use Rattle.depot_model.specs.Hello.{IsHello, text_of_hello, hello_of};
+ghost use Rattle.depot_model.specs.exchange.Hello.{IsHello, text_of_hello, hello_of};
 
 use depot_base::{Bytes, Memory};
 use depot_model::{Hello, Peer};

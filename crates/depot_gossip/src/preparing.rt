@@ -1,11 +1,11 @@
 //! What is chosen for the text of a hello, before any voucher is made.
 ghost use Rattle.std.specs.Prelude.{◌≡◌, ◌++◌, [], ◌∷◌, false, not, OnOk, IfOk};
 ghost use Rattle.std.specs.List.{filter};
-ghost use Rattle.depot_model.specs.Bundle.{BundleAnswer};
-ghost use Rattle.depot_model.specs.JournalCalls.{IsStable};
+ghost use Rattle.depot_model.specs.exchange.Bundle.{BundleAnswer};
+ghost use Rattle.depot_model.specs.journals.JournalCalls.{IsStable};
 ghost use Rattle.depot_model.specs.declared.hello.Hello.{Hello};
-ghost use Rattle.depot_model.specs.Replicas.{journal_of};
-ghost use Rattle.depot_model.specs.Vouching.{is_mine_vouched};
+ghost use Rattle.depot_model.specs.journals.Replicas.{journal_of};
+ghost use Rattle.depot_model.specs.checks.Vouching.{is_mine_vouched};
 ghost use Rattle.depot_gossip.specs.Preparing.{ReadsHello, Prepares};
 
 use crate::bundle_error::BundleError;

@@ -14,14 +14,14 @@ use Rattle.std.proofs.lemmas.Option.{slice_get-get_or, same_Some}
 use Rattle.indexmap.specs.IndexMap.{insert_entry}
 use Rattle.depot_base.specs.Zeros.{zeros}
 use Rattle.depot_base.specs.declared.update.Update.{Update}
-use Rattle.depot_model.specs.Lists.{IsIn, is_among}
-use Rattle.depot_model.specs.Texts.{id_of_update}
-use Rattle.depot_model.specs.Order.{parents, prevs, IsCausal}
-use Rattle.depot_model.specs.History.{is_prev_in}
-use Rattle.depot_model.specs.Items.{place_of_id, place_of_prev, places_where}
-use Rattle.depot_model.proofs.Members.{in_left, in_last, in_pushed, from_map, among_to, all_among_from}
-use Rattle.depot_model.proofs.Orders.{causal_front, parent_is_there, parents_of_last}
-use Rattle.depot_model.proofs.Elements.{in_at}
+use Rattle.depot_model.specs.lists.Lists.{IsIn, is_among}
+use Rattle.depot_model.specs.texts.Texts.{id_of_update}
+use Rattle.depot_model.specs.updates.Order.{parents, prevs, IsCausal}
+use Rattle.depot_model.specs.updates.History.{is_prev_in}
+use Rattle.depot_model.specs.lists.Items.{place_of_id, place_of_prev, places_where}
+use Rattle.depot_model.proofs.lists.Members.{in_left, in_last, in_pushed, from_map, among_to, all_among_from}
+use Rattle.depot_model.proofs.of_updates.Orders.{causal_front, parent_is_there, parents_of_last}
+use Rattle.depot_model.proofs.lists.Elements.{in_at}
 use Rattle.depot_base.proofs.GeneralLaws.{get_last, any_push}
 use Rattle.depot_graph.specs.Causal.{is_causal}
 use Rattle.depot_graph.specs.Kept.{updates_in, child_lists, leaf_places, prev_places}

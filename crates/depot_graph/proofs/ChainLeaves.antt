@@ -7,15 +7,15 @@ use Rattle.std.proofs.lemmas.List.{length-map}
 use Rattle.std.proofs.lemmas.Option.{slice_get-map, slice_get_within}
 use Rattle.depot_base.specs.Zeros.{zeros}
 use Rattle.depot_base.specs.declared.update.Update.{Update}
-use Rattle.depot_model.specs.Lists.{IsIn, is_among}
-use Rattle.depot_model.specs.Texts.{id_of_update}
-use Rattle.depot_model.specs.Order.{IsCausal, Precedes, parents, prevs}
-use Rattle.depot_model.specs.History.{is_prev_in, leaves_of}
-use Rattle.depot_model.specs.Items.{AreLeaves, places_where, place_of_id, place_of_prev, children_of, children_by}
-use Rattle.depot_model.proofs.Elements.{in_at, both_at, of_place, at_its_place}
-use Rattle.depot_model.proofs.Members.{in_left, in_pushed, in_last, any_from, any_to, among_from, among_to, chosen_cases, chosen_front, chosen_behind, from_filter, in_filter}
-use Rattle.depot_model.proofs.Orders.{first_names_none, causal_behind}
-use Rattle.depot_model.proofs.RisingLists.{HaveSame}
+use Rattle.depot_model.specs.lists.Lists.{IsIn, is_among}
+use Rattle.depot_model.specs.texts.Texts.{id_of_update}
+use Rattle.depot_model.specs.updates.Order.{IsCausal, Precedes, parents, prevs}
+use Rattle.depot_model.specs.updates.History.{is_prev_in, leaves_of}
+use Rattle.depot_model.specs.lists.Items.{AreLeaves, places_where, place_of_id, place_of_prev, children_of, children_by}
+use Rattle.depot_model.proofs.lists.Elements.{in_at, both_at, of_place, at_its_place}
+use Rattle.depot_model.proofs.lists.Members.{in_left, in_pushed, in_last, any_from, any_to, among_from, among_to, chosen_cases, chosen_front, chosen_behind, from_filter, in_filter}
+use Rattle.depot_model.proofs.of_updates.Orders.{first_names_none, causal_behind}
+use Rattle.depot_model.proofs.lists.RisingLists.{HaveSame}
 use Rattle.depot_order.specs.Spots.{IsForest, IsTip, IsSpotAt, spots, chain_count}
 use Rattle.depot_order.proofs.Placing.{all_placed, back_by, tip_is_highest}
 use Rattle.depot_graph.specs.Kept.{prev_places}

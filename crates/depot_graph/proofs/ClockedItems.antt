@@ -5,13 +5,13 @@ use Rattle.std.proofs.lemmas.List.{length-append}
 use Rattle.std.proofs.lemmas.List.Sums.{sum_by-cons}
 use Rattle.std.proofs.lemmas.Option.{slice_get_within, slice_get-get_or, same_Some}
 use Rattle.depot_base.specs.declared.update.Update.{Update}
-use Rattle.depot_model.specs.Lists.{IsIn}
-use Rattle.depot_model.specs.Texts.{id_of_update}
-use Rattle.depot_model.specs.Order.{IsPath, IsParent, Precedes, parents, IsCausal}
-use Rattle.depot_model.specs.Items.{PrecedesAt}
-use Rattle.depot_model.proofs.Elements.{in_at}
-use Rattle.depot_model.proofs.Members.{in_pushed}
-use Rattle.depot_model.proofs.Orders.{causal_front, parent_is_there, parents_of_last, leads_trans}
+use Rattle.depot_model.specs.lists.Lists.{IsIn}
+use Rattle.depot_model.specs.texts.Texts.{id_of_update}
+use Rattle.depot_model.specs.updates.Order.{IsPath, IsParent, Precedes, parents, IsCausal}
+use Rattle.depot_model.specs.lists.Items.{PrecedesAt}
+use Rattle.depot_model.proofs.lists.Elements.{in_at}
+use Rattle.depot_model.proofs.lists.Members.{in_pushed}
+use Rattle.depot_model.proofs.of_updates.Orders.{causal_front, parent_is_there, parents_of_last, leads_trans}
 use Rattle.depot_order.specs.declared.chains.Spot.{Spot}
 use Rattle.depot_order.proofs.Placing.{spot_at}
 use Rattle.depot_order.specs.Spots.{chains_of, spot_count}

@@ -8,11 +8,11 @@ use Rattle.std.proofs.lemmas.List.Quantifiers.{position-Some}
 use Rattle.std.proofs.lemmas.Option.{same_Some}
 use Rattle.depot_base.specs.Zeros.{zeros}
 use Rattle.depot_base.specs.declared.update.Update.{Update}
-use Rattle.depot_model.specs.Lists.{IsIn}
-use Rattle.depot_model.specs.Texts.{id_of_update}
-use Rattle.depot_model.specs.Order.{parents, IsCausal}
-use Rattle.depot_model.specs.Items.{place_of_id, place_of_prev, PrecedesAt}
-use Rattle.depot_model.proofs.Orders.{causal_front}
+use Rattle.depot_model.specs.lists.Lists.{IsIn}
+use Rattle.depot_model.specs.texts.Texts.{id_of_update}
+use Rattle.depot_model.specs.updates.Order.{parents, IsCausal}
+use Rattle.depot_model.specs.lists.Items.{place_of_id, place_of_prev, PrecedesAt}
+use Rattle.depot_model.proofs.of_updates.Orders.{causal_front}
 use Rattle.depot_order.specs.declared.chains.Spot.{Spot}
 use Rattle.depot_order.specs.Spots.{next_spot, spots, spots_behind, chains_of}
 use Rattle.depot_order.proofs.Placing.{spots_next}

@@ -9,15 +9,15 @@ use Rattle.std.proofs.lemmas.Option.{slice_get_within}
 use Rattle.std.proofs.lemmas.Slice.Eq.{bytes_eq-Decides}
 use Rattle.depot_base.specs.declared.update.Update.{Update}
 use Rattle.depot_base.proofs.GeneralLaws.{flat_push, at_place}
-use Rattle.depot_model.specs.Bundle.{is_covered}
-use Rattle.depot_model.specs.Items.{place_of_id, places_of, PrecedesAt}
-use Rattle.depot_model.specs.Journal.{has_id}
-use Rattle.depot_model.specs.Lists.{IsIn, is_among}
-use Rattle.depot_model.specs.Order.{IsCausal, past}
-use Rattle.depot_model.specs.Texts.{id_of_update}
-use Rattle.depot_model.proofs.Elements.{in_at}
-use Rattle.depot_model.proofs.Members.{any_from, any_to, among_from, among_to}
-use Rattle.depot_model.proofs.Pasts.{past_of_listed}
+use Rattle.depot_model.specs.exchange.Bundle.{is_covered}
+use Rattle.depot_model.specs.lists.Items.{place_of_id, places_of, PrecedesAt}
+use Rattle.depot_model.specs.journals.Journal.{has_id}
+use Rattle.depot_model.specs.lists.Lists.{IsIn, is_among}
+use Rattle.depot_model.specs.updates.Order.{IsCausal, past}
+use Rattle.depot_model.specs.texts.Texts.{id_of_update}
+use Rattle.depot_model.proofs.lists.Elements.{in_at}
+use Rattle.depot_model.proofs.lists.Members.{any_from, any_to, among_from, among_to}
+use Rattle.depot_model.proofs.of_updates.Pasts.{past_of_listed}
 use Rattle.depot_order.specs.Spots.{spots, IsSpotAt, chain_count}
 use Rattle.depot_order.proofs.Placing.{all_placed}
 use Rattle.depot_graph.specs.Kept.{prev_places}

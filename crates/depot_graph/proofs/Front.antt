@@ -3,13 +3,13 @@ use Rattle.std.proofs.Common.{◌≡◌, ℕ, List, [], ◌∷◌, ◌++◌, tru
 use Rattle.std.specs.Str.{bytes_eq}
 use Rattle.std.proofs.lemmas.Slice.Eq.{bytes_eq-Decides}
 use Rattle.depot_base.specs.declared.update.Update.{Update}
-use Rattle.depot_model.specs.Lists.{IsIn}
-use Rattle.depot_model.specs.Texts.{id_of_update}
-use Rattle.depot_model.specs.Order.{IsPath, IsParent, Precedes, past, IsCausal}
-use Rattle.depot_model.specs.Journal.{has_id}
-use Rattle.depot_model.proofs.Members.{in_right, in_parts, any_from, any_to}
-use Rattle.depot_model.proofs.Orders.{fresh, one_of_id, causal_front, parent_is_there, precedes_from}
-use Rattle.depot_model.proofs.Pasts.{past_in}
+use Rattle.depot_model.specs.lists.Lists.{IsIn}
+use Rattle.depot_model.specs.texts.Texts.{id_of_update}
+use Rattle.depot_model.specs.updates.Order.{IsPath, IsParent, Precedes, past, IsCausal}
+use Rattle.depot_model.specs.journals.Journal.{has_id}
+use Rattle.depot_model.proofs.lists.Members.{in_right, in_parts, any_from, any_to}
+use Rattle.depot_model.proofs.of_updates.Orders.{fresh, one_of_id, causal_front, parent_is_there, precedes_from}
+use Rattle.depot_model.proofs.of_updates.Pasts.{past_in}
 
 -- ---- places
 

@@ -8,11 +8,11 @@ use Rattle.std.proofs.lemmas.Option.{slice_get-get_or, slice_get_within}
 use Rattle.std.proofs.lemmas.List.Quantifiers.{position-Some}
 use Rattle.std.proofs.lemmas.Slice.Eq.{bytes_eq-Decides}
 use Rattle.depot_base.specs.declared.update.Update.{Update}
-use Rattle.depot_model.specs.Lists.{IsIn}
-use Rattle.depot_model.specs.Texts.{id_of_update}
-use Rattle.depot_model.specs.Order.{IsCausal}
-use Rattle.depot_model.specs.Items.{place_of_id, AreItemsOf}
-use Rattle.depot_model.proofs.Elements.{in_at}
+use Rattle.depot_model.specs.lists.Lists.{IsIn}
+use Rattle.depot_model.specs.texts.Texts.{id_of_update}
+use Rattle.depot_model.specs.updates.Order.{IsCausal}
+use Rattle.depot_model.specs.lists.Items.{place_of_id, AreItemsOf}
+use Rattle.depot_model.proofs.lists.Elements.{in_at}
 use Rattle.depot_graph.specs.OrderLaws.{one_place}
 
 -- ---- the first that passes a test

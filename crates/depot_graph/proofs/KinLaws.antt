@@ -6,12 +6,12 @@ use Rattle.std.specs.Str.{bytes_eq}
 use Rattle.std.proofs.lemmas.List.{length-map}
 use Rattle.std.proofs.lemmas.Option.{slice_get-map, slice_get-get_or}
 use Rattle.depot_base.specs.declared.update.Update.{Update}
-use Rattle.depot_model.specs.Lists.{IsIn, is_among}
-use Rattle.depot_model.specs.Texts.{id_of_update}
-use Rattle.depot_model.specs.Order.{prevs}
-use Rattle.depot_model.specs.History.{is_prev_in}
-use Rattle.depot_model.specs.Items.{at, place_of_id, places_where, AreDistinct, AreLeaves, children_of, children_by}
-use Rattle.depot_model.proofs.Members.{all_from, chosen_cases}
+use Rattle.depot_model.specs.lists.Lists.{IsIn, is_among}
+use Rattle.depot_model.specs.texts.Texts.{id_of_update}
+use Rattle.depot_model.specs.updates.Order.{prevs}
+use Rattle.depot_model.specs.updates.History.{is_prev_in}
+use Rattle.depot_model.specs.lists.Items.{at, place_of_id, places_where, AreDistinct, AreLeaves, children_of, children_by}
+use Rattle.depot_model.proofs.lists.Members.{all_from, chosen_cases}
 use Rattle.depot_base.proofs.GeneralLaws.{bytes_eq_comm}
 use Rattle.depot_graph.specs.Kept.{updates_in, child_lists, leaf_places}
 

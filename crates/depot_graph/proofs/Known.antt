@@ -7,13 +7,13 @@ use Rattle.std.proofs.lemmas.Slice.Eq.{bytes_eq-Decides}
 use Rattle.depot_base.specs.Zeros.{zeros}
 use Rattle.depot_base.specs.declared.update.Update.{Update}
 use Rattle.depot_base.specs.declared.update.Dep.{Dep}
-use Rattle.depot_model.specs.Lists.{IsIn}
-use Rattle.depot_model.specs.Texts.{id_of_update}
-use Rattle.depot_model.specs.Order.{prevs, IsCausal}
-use Rattle.depot_model.specs.Items.{place_of_id}
-use Rattle.depot_model.proofs.Members.{in_map, from_map, in_parts}
-use Rattle.depot_model.proofs.Orders.{causal_push}
-use Rattle.depot_model.proofs.Elements.{in_at}
+use Rattle.depot_model.specs.lists.Lists.{IsIn}
+use Rattle.depot_model.specs.texts.Texts.{id_of_update}
+use Rattle.depot_model.specs.updates.Order.{prevs, IsCausal}
+use Rattle.depot_model.specs.lists.Items.{place_of_id}
+use Rattle.depot_model.proofs.lists.Members.{in_map, from_map, in_parts}
+use Rattle.depot_model.proofs.of_updates.Orders.{causal_push}
+use Rattle.depot_model.proofs.lists.Elements.{in_at}
 use Rattle.depot_graph.proofs.ItemPlaces.{has_no_place}
 use Rattle.depot_graph.proofs.MappedFronts.{mapped_more}
 use Rattle.depot_base.proofs.GeneralLaws.{is_none}

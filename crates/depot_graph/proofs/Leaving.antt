@@ -10,20 +10,20 @@ use Rattle.std.proofs.lemmas.Option.{slice_get_within}
 use Rattle.sha2.specs.Sha256.{sha256}
 use Rattle.depot_base.specs.Zeros.{zeros}
 use Rattle.depot_base.specs.declared.update.Update.{Update}
-use Rattle.depot_model.specs.Lists.{IsIn}
-use Rattle.depot_model.specs.Texts.{id_of_update}
-use Rattle.depot_model.specs.Order.{past, IsCausal, Precedes}
-use Rattle.depot_model.specs.History.{leaves_of, by_id, leaf_text, history_text, history_hash}
-use Rattle.depot_model.specs.Items.{at, place_of_id, place_of_prev, PrecedesAt, AreLeaves, updates_at}
-use Rattle.depot_model.specs.Journal.{has_id, named, prev_of}
-use Rattle.depot_model.specs.Own.{precedes_named, next_entries, is_unseen}
-use Rattle.depot_model.proofs.Elements.{in_at, both_at, of_place, at_its_place}
-use Rattle.depot_model.proofs.Members.{in_left, in_right, in_pushed, all_push, from_filter, in_filter}
-use Rattle.depot_model.proofs.NamedIds.{named_is, named_some, has_id_from, has_id_to}
-use Rattle.depot_model.proofs.Orders.{one_of_id}
-use Rattle.depot_model.proofs.Pasts.{past_in, past_of_listed}
-use Rattle.depot_model.proofs.RisingLists.{HaveSame}
-use Rattle.depot_model.proofs.RisingUpdates.{HaveOwnIds, own_ids_from_causal, own_ids_filter, same_by_id}
+use Rattle.depot_model.specs.lists.Lists.{IsIn}
+use Rattle.depot_model.specs.texts.Texts.{id_of_update}
+use Rattle.depot_model.specs.updates.Order.{past, IsCausal, Precedes}
+use Rattle.depot_model.specs.updates.History.{leaves_of, by_id, leaf_text, history_text, history_hash}
+use Rattle.depot_model.specs.lists.Items.{at, place_of_id, place_of_prev, PrecedesAt, AreLeaves, updates_at}
+use Rattle.depot_model.specs.journals.Journal.{has_id, named, prev_of}
+use Rattle.depot_model.specs.checks.Own.{precedes_named, next_entries, is_unseen}
+use Rattle.depot_model.proofs.lists.Elements.{in_at, both_at, of_place, at_its_place}
+use Rattle.depot_model.proofs.lists.Members.{in_left, in_right, in_pushed, all_push, from_filter, in_filter}
+use Rattle.depot_model.proofs.of_updates.NamedIds.{named_is, named_some, has_id_from, has_id_to}
+use Rattle.depot_model.proofs.of_updates.Orders.{one_of_id}
+use Rattle.depot_model.proofs.of_updates.Pasts.{past_in, past_of_listed}
+use Rattle.depot_model.proofs.lists.RisingLists.{HaveSame}
+use Rattle.depot_model.proofs.lists.RisingUpdates.{HaveOwnIds, own_ids_from_causal, own_ids_filter, same_by_id}
 use Rattle.depot_graph.proofs.ClockedItems.{place_of}
 use Rattle.depot_graph.specs.Closure.{closure_of}
 use Rattle.depot_graph.specs.PastLeaves.{row_of, leaf_in, updates_at_places, IsUnseen}

@@ -4,11 +4,11 @@ use Rattle.std.specs.List.{AllByRecursion}
 use Rattle.std.specs.Option.{option_to_list}
 use Rattle.std.specs.Ordering.{is_lt}
 use Rattle.depot_base.specs.declared.update.Update.{Update}
-use Rattle.depot_model.specs.Lists.{IsIn}
-use Rattle.depot_model.specs.Contents.{Writes}
-use Rattle.depot_model.specs.Order.{RisesStrictly, listed, AreLatestIn, IsCausal}
-use Rattle.depot_model.specs.Items.{PrecedesAt, updates_at}
-use Rattle.depot_model.proofs.Elements.{in_at, of_place, at_its_place}
+use Rattle.depot_model.specs.lists.Lists.{IsIn}
+use Rattle.depot_model.specs.texts.Contents.{Writes}
+use Rattle.depot_model.specs.updates.Order.{RisesStrictly, listed, AreLatestIn, IsCausal}
+use Rattle.depot_model.specs.lists.Items.{PrecedesAt, updates_at}
+use Rattle.depot_model.proofs.lists.Elements.{in_at, of_place, at_its_place}
 use Rattle.depot_base.specs.Pairs.{AllPairsByRecursion}
 use Rattle.depot_order.specs.LatestItems.{AreLatestOf}
 use Rattle.depot_base.proofs.MembershipLaws.{from_contains, to_contains}

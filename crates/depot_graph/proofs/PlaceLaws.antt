@@ -6,14 +6,14 @@ use Rattle.std.specs.Ordering.{is_lt}
 use Rattle.std.proofs.lemmas.Option.{slice_get-get_or}
 use Rattle.std.proofs.lemmas.List.{length_push}
 use Rattle.depot_base.specs.declared.update.Update.{Update}
-use Rattle.depot_model.specs.Texts.{id_of_update}
-use Rattle.depot_model.specs.Order.{listed, past, IsCausal, AreLatestIn}
-use Rattle.depot_model.specs.Items.{updates_at}
-use Rattle.depot_model.specs.Journal.{has_id}
-use Rattle.depot_model.specs.Contents.{Writes, writes}
-use Rattle.depot_model.proofs.Elements.{get_front}
-use Rattle.depot_model.proofs.Orders.{causal_front}
-use Rattle.depot_model.proofs.ContentLaws.{writes-Decides}
+use Rattle.depot_model.specs.texts.Texts.{id_of_update}
+use Rattle.depot_model.specs.updates.Order.{listed, past, IsCausal, AreLatestIn}
+use Rattle.depot_model.specs.lists.Items.{updates_at}
+use Rattle.depot_model.specs.journals.Journal.{has_id}
+use Rattle.depot_model.specs.texts.Contents.{Writes, writes}
+use Rattle.depot_model.proofs.lists.Elements.{get_front}
+use Rattle.depot_model.proofs.of_updates.Orders.{causal_front}
+use Rattle.depot_model.proofs.of_texts.ContentLaws.{writes-Decides}
 use Rattle.depot_base.proofs.GeneralLaws.{get_last}
 use Rattle.depot_graph.specs.KeptLatest.{stands_before, put_place, is_apart, mended, latest_behind, latest_places}
 use Rattle.depot_graph.proofs.RisingLaws.{put_listed}

@@ -4,15 +4,15 @@ use Rattle.std.specs.List.{slice_get}
 use Rattle.std.specs.Option.{option_to_list}
 use Rattle.std.proofs.lemmas.Bool.{or_cases, or_left, or_right}
 use Rattle.depot_base.specs.declared.update.Update.{Update}
-use Rattle.depot_model.specs.Lists.{IsIn, is_among}
-use Rattle.depot_model.specs.Texts.{id_of_update}
-use Rattle.depot_model.specs.Order.{IsPath, IsParent, Precedes, parents, past, is_named, IsCausal}
-use Rattle.depot_model.specs.Items.{updates_at}
-use Rattle.depot_model.proofs.Elements.{in_at}
-use Rattle.depot_model.proofs.Members.{all_at, all_from, in_map, from_map, in_parts, among_from, among_to, chosen_cases, chosen_behind, chosen_front}
-use Rattle.depot_model.proofs.Orders.{parent_precedes, leads_more, first_names_none, causal_behind, one_of_id, precedes_from}
-use Rattle.depot_model.proofs.RisingUpdates.{HaveOwnIds}
-use Rattle.depot_model.proofs.Pasts.{named_by, is_named_by}
+use Rattle.depot_model.specs.lists.Lists.{IsIn, is_among}
+use Rattle.depot_model.specs.texts.Texts.{id_of_update}
+use Rattle.depot_model.specs.updates.Order.{IsPath, IsParent, Precedes, parents, past, is_named, IsCausal}
+use Rattle.depot_model.specs.lists.Items.{updates_at}
+use Rattle.depot_model.proofs.lists.Elements.{in_at}
+use Rattle.depot_model.proofs.lists.Members.{all_at, all_from, in_map, from_map, in_parts, among_from, among_to, chosen_cases, chosen_behind, chosen_front}
+use Rattle.depot_model.proofs.of_updates.Orders.{parent_precedes, leads_more, first_names_none, causal_behind, one_of_id, precedes_from}
+use Rattle.depot_model.proofs.lists.RisingUpdates.{HaveOwnIds}
+use Rattle.depot_model.proofs.of_updates.Pasts.{named_by, is_named_by}
 use Rattle.depot_graph.specs.Closure.{reached, closure_of}
 
 -- ---- the updates at places

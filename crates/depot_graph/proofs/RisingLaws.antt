@@ -3,10 +3,10 @@ use Rattle.std.proofs.Common.{◌≡◌, List, [], ◌∷◌, Bool, true, false,
 use Rattle.std.specs.List.{AllByRecursion}
 use Rattle.std.specs.Ordering.{is_lt}
 use Rattle.depot_base.specs.declared.update.Update.{Update}
-use Rattle.depot_model.specs.Lists.{IsIn}
-use Rattle.depot_model.specs.Texts.{id_of_update}
-use Rattle.depot_model.specs.Order.{listed, RisesStrictly}
-use Rattle.depot_model.proofs.LatestLaws.{listed_trans, listed_back}
+use Rattle.depot_model.specs.lists.Lists.{IsIn}
+use Rattle.depot_model.specs.texts.Texts.{id_of_update}
+use Rattle.depot_model.specs.updates.Order.{listed, RisesStrictly}
+use Rattle.depot_model.proofs.of_updates.LatestLaws.{listed_trans, listed_back}
 
 -- u put before the first before which it comes
 unfoldable pub put_listed : Update → List Update → List Update

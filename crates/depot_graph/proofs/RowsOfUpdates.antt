@@ -2,9 +2,9 @@
 use Rattle.std.proofs.Common.{◌≡◌, ℕ, zero, suc, ◌<◌, List, [], ◌∷◌, length, Some, Bool, IsTrue, Result, Ok, Err, IfOk, option_map, EachIndex, slice_index, refl, sym, ap, subst, ◌∙◌, arith, inl, inr, slice_get}
 use Rattle.std.proofs.lemmas.Option.{slice_get-map, slice_get_within}
 use Rattle.depot_base.specs.declared.update.Update.{Update}
-use Rattle.depot_model.specs.Lists.{IsIn}
-use Rattle.depot_model.specs.Order.{IsCausal, Precedes}
-use Rattle.depot_model.proofs.Elements.{both_at}
+use Rattle.depot_model.specs.lists.Lists.{IsIn}
+use Rattle.depot_model.specs.updates.Order.{IsCausal, Precedes}
+use Rattle.depot_model.proofs.lists.Elements.{both_at}
 use Rattle.depot_order.specs.declared.chains.Spot.{Spot}
 use Rattle.depot_order.specs.Spots.{spots, chains_of, IsSpotAt as SpotIsAt}
 use Rattle.depot_order.proofs.Placing.{all_placed}

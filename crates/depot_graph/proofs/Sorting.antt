@@ -10,16 +10,16 @@ use Rattle.std.specs.BTreeSet.{insert_key}
 use Rattle.std.proofs.lemmas.Cmp.{nat_cmp_total}
 use Rattle.std.proofs.lemmas.Map.Lookups.{exact_bytes}
 use Rattle.depot_base.specs.declared.update.Update.{Update}
-use Rattle.depot_model.specs.Lists.{IsIn, is_among}
-use Rattle.depot_model.specs.Texts.{id_of_update}
-use Rattle.depot_model.specs.Order.{IsCausal}
-use Rattle.depot_model.specs.History.{is_lower, put_by_id, by_id}
-use Rattle.depot_model.specs.Items.{at, place_of_id, updates_at}
-use Rattle.depot_model.proofs.Elements.{in_at, one_more}
-use Rattle.depot_model.proofs.Members.{in_parts, in_left, in_right, in_map, from_map, from_filter, in_filter, among_from, among_to, all_at, all_from}
-use Rattle.depot_model.proofs.Orders.{one_of_id}
-use Rattle.depot_model.proofs.RisingLists.{HaveSame}
-use Rattle.depot_model.proofs.RisingUpdates.{HaveOwnIds, own_ids_from_causal, own_ids_filter, Rises, rises_by_id, from_by_id, in_by_id, same_by_id}
+use Rattle.depot_model.specs.lists.Lists.{IsIn, is_among}
+use Rattle.depot_model.specs.texts.Texts.{id_of_update}
+use Rattle.depot_model.specs.updates.Order.{IsCausal}
+use Rattle.depot_model.specs.updates.History.{is_lower, put_by_id, by_id}
+use Rattle.depot_model.specs.lists.Items.{at, place_of_id, updates_at}
+use Rattle.depot_model.proofs.lists.Elements.{in_at, one_more}
+use Rattle.depot_model.proofs.lists.Members.{in_parts, in_left, in_right, in_map, from_map, from_filter, in_filter, among_from, among_to, all_at, all_from}
+use Rattle.depot_model.proofs.of_updates.Orders.{one_of_id}
+use Rattle.depot_model.proofs.lists.RisingLists.{HaveSame}
+use Rattle.depot_model.proofs.lists.RisingUpdates.{HaveOwnIds, own_ids_from_causal, own_ids_filter, Rises, rises_by_id, from_by_id, in_by_id, same_by_id}
 use Rattle.depot_graph.specs.declared.leaf.Leaf.{Leaf}
 use Rattle.depot_graph.specs.PastLeaves.{leaf_in, updates_at_places}
 use Rattle.depot_graph.proofs.ItemPlaces.{own_place}

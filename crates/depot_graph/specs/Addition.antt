@@ -1,7 +1,7 @@
 -- What an update adds to a graph.
 use Rattle.std.specs.Prelude.{◌≡◌, List, [], ◌∷◌, ◌++◌}
 use Rattle.depot_base.specs.declared.update.Update.{Update}
-use Rattle.depot_model.specs.Items.{place_of_prev}
+use Rattle.depot_model.specs.lists.Items.{place_of_prev}
 use Rattle.depot_order.specs.Spots.{next_spot, spots}
 use Rattle.depot_graph.specs.declared.addition.Addition.{Addition}
 use Rattle.depot_graph.specs.Clocked.{parent_places}

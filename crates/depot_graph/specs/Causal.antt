@@ -3,10 +3,10 @@ use Rattle.std.specs.Prelude.{◌≡◌, ℕ, List, [], ◌∷◌, Bool, true, n
 use Rattle.std.specs.List.{list_all}
 use Rattle.std.proofs.lemmas.Bool.{and_parts, not-true, both_ways}
 use Rattle.depot_base.specs.declared.update.Update.{Update}
-use Rattle.depot_model.specs.Lists.{is_among}
-use Rattle.depot_model.specs.Texts.{id_of_update}
-use Rattle.depot_model.specs.Order.{parents, IsCausal}
-use Rattle.depot_model.proofs.Members.{among_from, all_among_to}
+use Rattle.depot_model.specs.lists.Lists.{is_among}
+use Rattle.depot_model.specs.texts.Texts.{id_of_update}
+use Rattle.depot_model.specs.updates.Order.{parents, IsCausal}
+use Rattle.depot_model.proofs.lists.Members.{among_from, all_among_to}
 
 -- each parent of each update comes before it, and no id occurs twice; these ids come before them all
 abbrev pub is_causal : List (List ℕ) → List Update → Bool

@@ -2,8 +2,8 @@
 use Rattle.std.specs.Prelude.{◌≡◌, ℕ, List, [], ◌∷◌, ◌++◌, refl}
 use Rattle.std.specs.Coded.{Coded, Coded-set, code_by, coded×, coded_ℕ, coded_list}
 use Rattle.depot_base.specs.declared.update.Update.{Update}
-use Rattle.depot_model.specs.Order.{parents}
-use Rattle.depot_model.specs.Items.{place_of_prev, places_of}
+use Rattle.depot_model.specs.updates.Order.{parents}
+use Rattle.depot_model.specs.lists.Items.{place_of_prev, places_of}
 use Rattle.depot_order.specs.Spots.{next_spot, spots}
 use Rattle.depot_order.specs.ChainItems.{ChainItem}
 use Rattle.depot_graph.specs.Kept.{prev_places}

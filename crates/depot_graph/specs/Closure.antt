@@ -1,10 +1,10 @@
 -- Some updates of a list with all that precedes them.
 use Rattle.std.specs.Prelude.{◌⊎◌, ℕ, List, [], ◌∷◌, ◌||◌, map, if◌then◌else◌}
 use Rattle.depot_base.specs.declared.update.Update.{Update}
-use Rattle.depot_model.specs.Lists.{IsIn, is_among}
-use Rattle.depot_model.specs.Texts.{id_of_update}
-use Rattle.depot_model.specs.Order.{is_named, Precedes}
-use Rattle.depot_model.specs.Items.{updates_at}
+use Rattle.depot_model.specs.lists.Lists.{IsIn, is_among}
+use Rattle.depot_model.specs.texts.Texts.{id_of_update}
+use Rattle.depot_model.specs.updates.Order.{is_named, Precedes}
+use Rattle.depot_model.specs.lists.Items.{updates_at}
 
 -- what these ids name in a list, in which each parent comes before its children, and what that names in turn
 unfoldable pub reached : List (List ℕ) → List Update → List Update

@@ -1,11 +1,11 @@
 -- What a graph keeps of each item.
 use Rattle.std.specs.Prelude.{ℕ, List, map, not, Option}
 use Rattle.depot_base.specs.declared.update.Update.{Update}
-use Rattle.depot_model.specs.Lists.{is_among}
-use Rattle.depot_model.specs.Texts.{id_of_update}
-use Rattle.depot_model.specs.Order.{prevs}
-use Rattle.depot_model.specs.History.{is_prev_in}
-use Rattle.depot_model.specs.Items.{place_of_prev, places_where}
+use Rattle.depot_model.specs.lists.Lists.{is_among}
+use Rattle.depot_model.specs.texts.Texts.{id_of_update}
+use Rattle.depot_model.specs.updates.Order.{prevs}
+use Rattle.depot_model.specs.updates.History.{is_prev_in}
+use Rattle.depot_model.specs.lists.Items.{place_of_prev, places_where}
 
 -- the updates under their ids
 abbrev pub updates_in : List (List ℕ × Update) → List Update

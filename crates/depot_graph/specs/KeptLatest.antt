@@ -3,10 +3,10 @@ use Rattle.std.specs.Prelude.{ℕ, List, [], ◌∷◌, ◌++◌, length, filter
 use Rattle.std.specs.Option.{option_map_or}
 use Rattle.std.specs.Ordering.{is_lt}
 use Rattle.depot_base.specs.declared.update.Update.{Update}
-use Rattle.depot_model.specs.Contents.{writes}
-use Rattle.depot_model.specs.Order.{listed, past}
-use Rattle.depot_model.specs.Journal.{has_id}
-use Rattle.depot_model.specs.Texts.{id_of_update}
+use Rattle.depot_model.specs.texts.Contents.{writes}
+use Rattle.depot_model.specs.updates.Order.{listed, past}
+use Rattle.depot_model.specs.journals.Journal.{has_id}
+use Rattle.depot_model.specs.texts.Texts.{id_of_update}
 
 -- u comes before the update at a place, in the listed order
 abbrev pub stands_before : Update → List Update → ℕ → Bool

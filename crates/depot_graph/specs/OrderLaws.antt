@@ -3,12 +3,12 @@ use Rattle.std.proofs.Common.{◌≡◌, ℕ, zero, suc, ◌<◌, ◌⊎◌, Lis
 use Rattle.std.specs.Ordering.{is_lt}
 use Rattle.std.proofs.lemmas.Bool.{cases_order}
 use Rattle.depot_base.specs.declared.update.Update.{Update}
-use Rattle.depot_model.specs.Texts.{id_of_update}
-use Rattle.depot_model.specs.Order.{IsParent, Precedes, listed, IsCausal}
-use Rattle.depot_model.specs.Items.{PrecedesAt}
-use Rattle.depot_model.proofs.Elements.{in_at, both_at}
-use Rattle.depot_model.proofs.LatestLaws.{listed_one_way, listed_trans, listed_back}
-use Rattle.depot_model.proofs.Orders.{fresh, causal_behind, leads_trans, precedes_irreflexive}
+use Rattle.depot_model.specs.texts.Texts.{id_of_update}
+use Rattle.depot_model.specs.updates.Order.{IsParent, Precedes, listed, IsCausal}
+use Rattle.depot_model.specs.lists.Items.{PrecedesAt}
+use Rattle.depot_model.proofs.lists.Elements.{in_at, both_at}
+use Rattle.depot_model.proofs.of_updates.LatestLaws.{listed_one_way, listed_trans, listed_back}
+use Rattle.depot_model.proofs.of_updates.Orders.{fresh, causal_behind, leads_trans, precedes_irreflexive}
 use Rattle.depot_base.proofs.GeneralLaws.{at_place}
 use Rattle.std.proofs.lemmas.Option.{same_Some}
 use Rattle.depot_graph.specs.Listing.{ListedAt}

@@ -1,8 +1,8 @@
 -- The leaves of a past, by the chains of the forest by prev.
 use Rattle.std.specs.Prelude.{◌≡◌, ◌<◌, ◌≤◌, ◌⊎◌, ◌↔◌, ℕ, List, length}
 use Rattle.depot_base.specs.declared.update.Update.{Update}
-use Rattle.depot_model.specs.Lists.{IsIn}
-use Rattle.depot_model.specs.Items.{PrecedesAt, children_of}
+use Rattle.depot_model.specs.lists.Lists.{IsIn}
+use Rattle.depot_model.specs.lists.Items.{PrecedesAt, children_of}
 use Rattle.depot_order.specs.Spots.{IsSpotAt}
 use Rattle.depot_graph.specs.Kept.{prev_places}
 

@@ -3,10 +3,10 @@ use Rattle.std.specs.Prelude.{◌≡◌, ℕ, List, ◌++◌, filter, map, Optio
 use Rattle.std.specs.Int.{w16, w64}
 use Rattle.depot_base.specs.Cursor.{numeral}
 use Rattle.depot_base.specs.declared.update.Update.{Update}
-use Rattle.depot_model.specs.Lists.{is_among}
-use Rattle.depot_model.specs.Texts.{id_of_update}
-use Rattle.depot_model.specs.Items.{at, place_of_id, place_of_prev, updates_at, PrecedesAt}
-use Rattle.depot_model.specs.Own.{next_entries}
+use Rattle.depot_model.specs.lists.Lists.{is_among}
+use Rattle.depot_model.specs.texts.Texts.{id_of_update}
+use Rattle.depot_model.specs.lists.Items.{at, place_of_id, place_of_prev, updates_at, PrecedesAt}
+use Rattle.depot_model.specs.checks.Own.{next_entries}
 use Rattle.depot_graph.specs.declared.leaf.Leaf.{Leaf}
 
 -- a row of the history text: writer, clock, id

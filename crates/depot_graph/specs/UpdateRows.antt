@@ -1,8 +1,8 @@
 -- Rows of updates: for each chain of the forest by prev, how many of its items are an item or precede it.
 use Rattle.std.specs.Prelude.{◌≡◌, ◌<◌, ◌≤◌, ◌⊎◌, ℕ, List, length, slice_index}
 use Rattle.depot_base.specs.declared.update.Update.{Update}
-use Rattle.depot_model.specs.Items.{PrecedesAt}
-use Rattle.depot_model.specs.Lists.{IsIn}
+use Rattle.depot_model.specs.lists.Items.{PrecedesAt}
+use Rattle.depot_model.specs.lists.Lists.{IsIn}
 use Rattle.depot_order.specs.Spots.{spots, IsSpotAt, spot_count, chain_count}
 use Rattle.depot_graph.specs.Kept.{prev_places}
 

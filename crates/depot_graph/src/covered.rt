@@ -1,6 +1,6 @@
 //! Whether an item is one of some others, or precedes one.
 ghost use Rattle.std.specs.Prelude.{◌≡◌, ◌<◌, ◌↔◌, ℕ, List, length, IsTrue};
-ghost use Rattle.depot_model.specs.Items.{PrecedesAt};
+ghost use Rattle.depot_model.specs.lists.Items.{PrecedesAt};
 ghost use Rattle.depot_order.specs.Spots.{chain_count};
 ghost use Rattle.depot_graph.specs.Kept.{prev_places};
 ghost use Rattle.depot_graph.specs.UpdateRows.{IsJoinedRow};

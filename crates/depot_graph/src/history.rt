@@ -2,9 +2,9 @@
 ghost use Rattle.std.specs.Prelude.{◌≡◌, ◌<◌, ◌↔◌, ℕ, List, Option, length, map, IfOk, IsTrue};
 ghost use Rattle.std.specs.Option.{ForSome};
 ghost use Rattle.std.specs.List.{AllByRecursion};
-ghost use Rattle.depot_model.specs.History.{by_id, history_hash as hash_of_history};
-ghost use Rattle.depot_model.specs.Items.{at};
-ghost use Rattle.depot_model.specs.Lists.{IsIn};
+ghost use Rattle.depot_model.specs.updates.History.{by_id, history_hash as hash_of_history};
+ghost use Rattle.depot_model.specs.lists.Items.{at};
+ghost use Rattle.depot_model.specs.lists.Lists.{IsIn};
 ghost use Rattle.depot_order.specs.Spots.{chain_count};
 ghost use Rattle.depot_graph.specs.Closure.{closure_of};
 ghost use Rattle.depot_graph.specs.Kept.{prev_places};

@@ -1,10 +1,10 @@
 //! What holds of the sets that are hashed. Each law is a function with an empty body, whose contract is the law.
 ghost use Rattle.std.specs.Prelude.{◌≡◌, ◌↔◌, ℕ, List, [], map};
 ghost use Rattle.depot_base.specs.declared.update.Update.{Update};
-ghost use Rattle.depot_model.specs.Lists.{IsIn};
-ghost use Rattle.depot_model.specs.Texts.{id_of_update};
-ghost use Rattle.depot_model.specs.Order.{parents, past, IsCausal};
-ghost use Rattle.depot_model.specs.Items.{updates_at};
+ghost use Rattle.depot_model.specs.lists.Lists.{IsIn};
+ghost use Rattle.depot_model.specs.texts.Texts.{id_of_update};
+ghost use Rattle.depot_model.specs.updates.Order.{parents, past, IsCausal};
+ghost use Rattle.depot_model.specs.lists.Items.{updates_at};
 ghost use Rattle.depot_graph.specs.Closure.{closure_of, IsAtOrBefore};
 
 /// The updates at an update's parents' places, with all that precede them, are its past.

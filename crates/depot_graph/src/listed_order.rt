@@ -1,9 +1,9 @@
 //! The order of the updates of a graph.
 ghost use Rattle.std.specs.Prelude.{◌≡◌, ◌<◌, [], length, map, true};
 ghost use Rattle.std.specs.Map.{keys_of};
-ghost use Rattle.depot_model.specs.Texts.{id_of_update};
-ghost use Rattle.depot_model.specs.Order.{listed};
-ghost use Rattle.depot_model.specs.Items.{PrecedesAt};
+ghost use Rattle.depot_model.specs.texts.Texts.{id_of_update};
+ghost use Rattle.depot_model.specs.updates.Order.{listed};
+ghost use Rattle.depot_model.specs.lists.Items.{PrecedesAt};
 ghost use Rattle.depot_graph.specs.Causal.{is_causal, causal_from_test};
 ghost use Rattle.depot_graph.specs.Clocked.{clock_items, are_items-prop};
 ghost use Rattle.depot_graph.specs.Kept.{updates_in};

@@ -2,7 +2,7 @@
 use Rattle.std.proofs.Common.{◌≡◌, ℕ, Result, Ok, Err, IsOk, IfOk, rules, List, [], ◌∷◌, ◌++◌, Bool, true, false, cond, eqb, ◌||◌, refl, ap, ◌∙◌}
 use Rattle.std.specs.List.{list_any}
 use Rattle.indexmap.specs.IndexSet.{insert_key}
-use Rattle.depot_model.specs.Lists.{is_one_of}
+use Rattle.depot_model.specs.lists.Lists.{is_one_of}
 use Rattle.depot_base.proofs.GeneralLaws.{eqb_comm}
 
 turned : (ks : List ℕ) (node : ℕ) → list_any (eqb node) ks ≡ is_one_of node ks

@@ -3,9 +3,9 @@ use Rattle.std.proofs.Common.{◌≡◌, ℕ, ◌<◌, ◌≤◌, List, ◌++◌
 use Rattle.std.specs.List.{slice_get}
 use Rattle.std.proofs.lemmas.Bool.Decides.{nat_tests}
 use Rattle.depot_base.specs.declared.statement.Statement.{Statement}
-use Rattle.depot_model.specs.Lists.{IsIn}
-use Rattle.depot_model.specs.Contradictions.{kind_of}
-use Rattle.depot_model.proofs.Members.{in_parts}
+use Rattle.depot_model.specs.lists.Lists.{IsIn}
+use Rattle.depot_model.specs.updates.Contradictions.{kind_of}
+use Rattle.depot_model.proofs.lists.Members.{in_parts}
 use Rattle.depot_kept.specs.declared.seen_statements.Found.{Found}
 use Rattle.depot_kept.specs.declared.kept_statement.KeptStatement.{KeptStatement}
 use Rattle.depot_kept.specs.Firsts.{IsContradictedAt, IsBefore, IsFirstOf, earlier_kept}

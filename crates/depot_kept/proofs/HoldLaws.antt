@@ -9,9 +9,9 @@ use Rattle.depot_base.specs.Statement.{writer_of, seq_of}
 use Rattle.depot_base.specs.declared.statement.Statement.{Statement}
 use Rattle.depot_base.specs.declared.statement.Statement.TheVariants as statements
 use Rattle.depot_base.specs.declared.statement.Signed.{Signed}
-use Rattle.depot_model.specs.Lists.{IsIn}
-use Rattle.depot_model.specs.Texts.{IsStatement, text_of_statement}
-use Rattle.depot_model.proofs.BodyLaws.{IsStatement-from_signed}
+use Rattle.depot_model.specs.lists.Lists.{IsIn}
+use Rattle.depot_model.specs.texts.Texts.{IsStatement, text_of_statement}
+use Rattle.depot_model.proofs.of_texts.BodyLaws.{IsStatement-from_signed}
 use Rattle.depot_kept.specs.declared.kept_statement.KeptStatement.{KeptStatement}
 use Rattle.depot_kept.specs.declared.marks.StatementMark.{StatementMark}
 use Rattle.depot_kept.specs.declared.marks.StatementMark.TheVariants as marks
@@ -24,7 +24,7 @@ use Rattle.depot_kept.specs.Opponents.{has_body_of}
 use Rattle.depot_kept.proofs.KindLaws.{same_from_text}
 use Rattle.depot_kept.proofs.ListedPlaces.{is_next}
 use Rattle.depot_kept.proofs.KeepLaws.{entry_of, met, place_low, number_of, is_number}
-use Rattle.depot_model.proofs.Members.{in_parts}
+use Rattle.depot_model.proofs.lists.Members.{in_parts}
 
 -- ---- entries
 

@@ -15,9 +15,9 @@ use Rattle.std.proofs.lemmas.Slice.Eq.{bytes_eq-Decides}
 use Rattle.std.proofs.lemmas.Option.{slice_get-get_or}
 use Rattle.std.proofs.Math.Bool.{or_assoc}
 use Rattle.std.proofs.lemmas.Map.Lookups.{exact_bytes}
-use Rattle.depot_model.specs.Lists.{is_among, AreTogether}
-use Rattle.depot_model.proofs.Elements.{in_at}
-use Rattle.depot_model.proofs.Members.{all_at, among_from, among_to}
+use Rattle.depot_model.specs.lists.Lists.{is_among, AreTogether}
+use Rattle.depot_model.proofs.lists.Elements.{in_at}
+use Rattle.depot_model.proofs.lists.Members.{all_at, among_from, among_to}
 use Rattle.depot_base.proofs.GeneralLaws.{or_again}
 use Rattle.depot_kept.specs.VouchedView.{AreWithin}
 use Rattle.depot_kept.specs.IdSlots.{vouched_in, DoAscend}

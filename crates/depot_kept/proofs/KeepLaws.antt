@@ -8,11 +8,11 @@ use Rattle.depot_base.specs.declared.statement.Statement.TheVariants as statemen
 use Rattle.depot_base.specs.declared.statement.Signed.{Signed}
 use Rattle.depot_base.specs.declared.update.Update.{Update}
 use Rattle.depot_base.specs.declared.voucher.Voucher.{Voucher}
-use Rattle.depot_model.specs.Lists.{IsIn}
-use Rattle.depot_model.specs.Texts.{IsSigned, id_of_statement}
-use Rattle.depot_model.proofs.BodyLaws.{body_is_text}
-use Rattle.depot_model.proofs.Elements.{each_at}
-use Rattle.depot_model.proofs.Members.{all_push}
+use Rattle.depot_model.specs.lists.Lists.{IsIn}
+use Rattle.depot_model.specs.texts.Texts.{IsSigned, id_of_statement}
+use Rattle.depot_model.proofs.of_texts.BodyLaws.{body_is_text}
+use Rattle.depot_model.proofs.lists.Elements.{each_at}
+use Rattle.depot_model.proofs.lists.Members.{all_push}
 use Rattle.depot_base.proofs.GeneralLaws.{or_none}
 use Rattle.depot_kept.specs.declared.kept_statement.KeptStatement.{KeptStatement}
 use Rattle.depot_kept.specs.declared.marks.StatementMark.{StatementMark}

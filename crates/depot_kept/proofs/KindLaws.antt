@@ -11,9 +11,9 @@ use Rattle.depot_base.specs.declared.statement.Statement.{Statement}
 use Rattle.depot_base.specs.declared.statement.Statement.TheVariants as statements
 use Rattle.depot_base.specs.declared.proof.Kind.TheVariants.{SameNumber}
 use Rattle.depot_base.proofs.Combined.{prefix_free}
-use Rattle.depot_model.specs.Texts.{IsStatement, text_of_statement, id_of_statement, statement}
-use Rattle.depot_model.specs.Contradictions.{is_of_kind, contradicts, kind_of}
-use Rattle.depot_model.proofs.TextLaws.{statement_lawful}
+use Rattle.depot_model.specs.texts.Texts.{IsStatement, text_of_statement, id_of_statement, statement}
+use Rattle.depot_model.specs.updates.Contradictions.{is_of_kind, contradicts, kind_of}
+use Rattle.depot_model.proofs.of_texts.TextLaws.{statement_lawful}
 use Rattle.depot_kept.specs.Kinds.{kind_by_prev}
 
 -- two writers

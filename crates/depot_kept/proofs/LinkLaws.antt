@@ -6,7 +6,7 @@ use Rattle.std.proofs.lemmas.Option.{slice_get_within, slice_get-get_or}
 use Rattle.std.proofs.lemmas.Bool.{and_parts, eqb-true}
 use Rattle.std.proofs.lemmas.Bool.Decides.{nat_tests}
 use Rattle.std.proofs.lemmas.Slice.Eq.{bytes_eq-Decides}
-use Rattle.depot_model.proofs.Elements.{get_front}
+use Rattle.depot_model.proofs.lists.Elements.{get_front}
 use Rattle.depot_base.proofs.GeneralLaws.{get_last}
 use Rattle.depot_kept.specs.declared.marks.StatementMark.{StatementMark}
 use Rattle.depot_kept.specs.declared.marks.StatementMark.TheVariants as marks

@@ -3,7 +3,7 @@ use Rattle.std.proofs.Common.{◌≡◌, ℕ, zero, suc, ◌+◌, ◌<◌, List,
 use Rattle.std.specs.List.{slice_get, position, position_from, last_or}
 use Rattle.std.specs.Iterator.{Yields, YieldsFirst}
 use Rattle.std.proofs.lemmas.Iterator.Adapters.{position_from-zero}
-use Rattle.depot_model.specs.Lists.{IsIn}
+use Rattle.depot_model.specs.lists.Lists.{IsIn}
 use Rattle.depot_kept.specs.Keeping.{places_before}
 
 -- ---- members

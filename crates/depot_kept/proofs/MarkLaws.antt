@@ -8,10 +8,10 @@ use Rattle.depot_base.specs.declared.statement.Statement.{Statement}
 use Rattle.depot_base.specs.declared.statement.Statement.TheVariants as statements
 use Rattle.depot_base.specs.declared.update.Update.{Update}
 use Rattle.depot_base.specs.declared.proof.Kind.TheVariants.{SameNumber, SamePrev, Backward}
-use Rattle.depot_model.specs.Lists.{when, first}
-use Rattle.depot_model.specs.Texts.{id_of_statement, id_of_update}
-use Rattle.depot_model.specs.Contradictions.{goes_back, is_of_kind, contradicts, kind_of}
-use Rattle.depot_model.specs.Checks.{is_update_with}
+use Rattle.depot_model.specs.lists.Lists.{when, first}
+use Rattle.depot_model.specs.texts.Texts.{id_of_statement, id_of_update}
+use Rattle.depot_model.specs.updates.Contradictions.{goes_back, is_of_kind, contradicts, kind_of}
+use Rattle.depot_model.specs.checks.Checks.{is_update_with}
 use Rattle.std.proofs.Math.Bool.{and-false}
 use Rattle.std.proofs.lemmas.Bool.{or_from}
 use Rattle.depot_kept.specs.declared.kept_statement.KeptStatement.{KeptStatement}
@@ -19,7 +19,7 @@ use Rattle.depot_kept.specs.declared.marks.StatementMark.TheVariants as marks
 use Rattle.depot_kept.specs.StatementMarks.{has_mark, asked_of}
 use Rattle.depot_kept.specs.Entries.{IsEntry}
 use Rattle.depot_kept.specs.Keeping.{is_under}
-use Rattle.depot_model.proofs.BodyLaws.{update_id}
+use Rattle.depot_model.proofs.of_texts.BodyLaws.{update_id}
 
 -- ---- tests
 

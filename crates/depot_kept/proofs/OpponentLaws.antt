@@ -12,11 +12,11 @@ use Rattle.depot_base.specs.declared.statement.Signed.{Signed}
 use Rattle.depot_base.specs.declared.update.Update.{Update}
 use Rattle.depot_base.specs.declared.voucher.Voucher.{Voucher}
 use Rattle.depot_base.specs.declared.proof.Kind.{Kind}
-use Rattle.depot_model.specs.Lists.{IsIn}
-use Rattle.depot_model.specs.Texts.{id_of_statement}
-use Rattle.depot_model.specs.Contradictions.{kind_of}
-use Rattle.depot_model.specs.Checks.{opponent, is_update_with}
-use Rattle.depot_model.proofs.Members.{in_left, in_right}
+use Rattle.depot_model.specs.lists.Lists.{IsIn}
+use Rattle.depot_model.specs.texts.Texts.{id_of_statement}
+use Rattle.depot_model.specs.updates.Contradictions.{kind_of}
+use Rattle.depot_model.specs.checks.Checks.{opponent, is_update_with}
+use Rattle.depot_model.proofs.lists.Members.{in_left, in_right}
 use Rattle.depot_kept.specs.declared.seen_statements.Found.{Found}
 use Rattle.depot_kept.specs.declared.kept_statement.KeptStatement.{KeptStatement}
 use Rattle.depot_kept.specs.declared.marks.StatementMark.{StatementMark}

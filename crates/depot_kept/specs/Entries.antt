@@ -3,7 +3,7 @@ use Rattle.std.specs.Prelude.{◌≡◌, List}
 use Rattle.std.specs.List.{AllByRecursion}
 use Rattle.depot_base.specs.declared.statement.Signed.{Signed}
 use Rattle.depot_kept.specs.declared.kept_statement.KeptStatement.{KeptStatement}
-use Rattle.depot_model.specs.Texts.{IsSigned, text_of_statement, id_of_statement}
+use Rattle.depot_model.specs.texts.Texts.{IsSigned, text_of_statement, id_of_statement}
 
 -- the signed statement that is kept, whose body is the text of its statement
 abbrev pub kept_signed : KeptStatement → Signed

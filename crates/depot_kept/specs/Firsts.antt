@@ -2,8 +2,8 @@
 use Rattle.std.specs.Prelude.{◌≡◌, ℕ, ◌<◌, List, Option, Some, None, nat_lt, if◌then◌else◌}
 use Rattle.std.specs.List.{slice_get}
 use Rattle.depot_base.specs.declared.statement.Statement.{Statement}
-use Rattle.depot_model.specs.Lists.{IsIn}
-use Rattle.depot_model.specs.Contradictions.{kind_of}
+use Rattle.depot_model.specs.lists.Lists.{IsIn}
+use Rattle.depot_model.specs.updates.Contradictions.{kind_of}
 use Rattle.depot_kept.specs.declared.seen_statements.Found.{Found}
 use Rattle.depot_kept.specs.declared.kept_statement.KeptStatement.{KeptStatement}
 

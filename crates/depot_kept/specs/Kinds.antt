@@ -4,8 +4,8 @@ use Rattle.std.specs.Str.{bytes_eq}
 use Rattle.depot_base.specs.declared.update.Update.{Update}
 use Rattle.depot_base.specs.declared.proof.Kind.{Kind}
 use Rattle.depot_base.specs.declared.proof.Kind.TheVariants.{SamePrev, Backward}
-use Rattle.depot_model.specs.Lists.{when, first}
-use Rattle.depot_model.specs.Contradictions.{goes_back}
+use Rattle.depot_model.specs.lists.Lists.{when, first}
+use Rattle.depot_model.specs.updates.Contradictions.{goes_back}
 
 -- the first kind but that of the number
 abbrev pub kind_by_prev : Update → Update → Option Kind

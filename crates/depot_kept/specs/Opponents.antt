@@ -4,9 +4,9 @@ use Rattle.std.specs.Str.{bytes_eq}
 use Rattle.depot_base.specs.declared.statement.Statement.{Statement}
 use Rattle.depot_base.specs.declared.statement.Signed.{Signed}
 use Rattle.depot_kept.specs.declared.seen_statements.Found.{Found}
-use Rattle.depot_model.specs.Texts.{text_of_statement}
-use Rattle.depot_model.specs.Contradictions.{kind_of}
-use Rattle.depot_model.specs.Checks.{opponent}
+use Rattle.depot_model.specs.texts.Texts.{text_of_statement}
+use Rattle.depot_model.specs.updates.Contradictions.{kind_of}
+use Rattle.depot_model.specs.checks.Checks.{opponent}
 
 -- what is seen: the signed statements in the order in which they were kept, and how many more have reserved memory
 pub record KeptSigned : Type 0 where

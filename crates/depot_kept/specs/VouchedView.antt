@@ -1,6 +1,6 @@
 -- Two sets that grow: the ids that others vouched for, and the convicted nodes.
 use Rattle.std.specs.Prelude.{◌≡◌, ℕ, ◌≤◌, ◌+◌, List, [], ◌∷◌, ◌++◌, true, if◌then◌else◌}
-use Rattle.depot_model.specs.Lists.{is_among, is_one_of}
+use Rattle.depot_model.specs.lists.Lists.{is_among, is_one_of}
 
 -- What is seen: the ids, the nodes in the order of their conviction, each once, and how many nodes may be convicted.
 pub record Vouching : Type 0 where

@@ -1,6 +1,6 @@
 //! The first kept statement at some places that a statement contradicts.
 ghost use Rattle.std.specs.Prelude.{◌≡◌, ◌<◌, [], ◌∷◌, length};
-ghost use Rattle.depot_model.specs.Texts.{IsStatement, id_of_statement};
+ghost use Rattle.depot_model.specs.texts.Texts.{IsStatement, id_of_statement};
 ghost use Rattle.depot_kept.specs.Entries.{AreEntries};
 ghost use Rattle.depot_kept.specs.Keeping.{IsKeeping};
 ghost use Rattle.depot_kept.specs.Firsts.{IsFirstOf, earlier_kept};

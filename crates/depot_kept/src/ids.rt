@@ -1,7 +1,7 @@
 //! Ids that vouchers name.
 ghost use Rattle.std.specs.Prelude.{◌≡◌, [], ◌∷◌, true, IsOk, OnOk, OnErr};
 ghost use Rattle.std.specs.Map.{keys_of};
-ghost use Rattle.depot_model.specs.Lists.{is_among, AreTogether};
+ghost use Rattle.depot_model.specs.lists.Lists.{is_among, AreTogether};
 ghost use Rattle.depot_kept.specs.VouchedView.{AreWithin};
 ghost use Rattle.depot_kept.specs.IdSlots.{vouched_in, DoAscend};
 

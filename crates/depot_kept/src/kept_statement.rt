@@ -1,7 +1,7 @@
 //! A kept statement.
 ghost use Rattle.std.specs.Prelude.{◌≡◌};
-ghost use Rattle.depot_model.specs.Texts.{IsStatement, id_of_statement};
-ghost use Rattle.depot_model.specs.Contradictions.{kind_of};
+ghost use Rattle.depot_model.specs.texts.Texts.{IsStatement, id_of_statement};
+ghost use Rattle.depot_model.specs.updates.Contradictions.{kind_of};
 
 use crate::kinds::{have_one_body, kind_between};
 use depot_base::{Bytes, Hash32, Kind, Statement};

@@ -2,8 +2,8 @@
 ghost use Rattle.std.specs.Prelude.{◌≡◌, ◌↔◌, IsTrue, false};
 ghost use Rattle.std.specs.Str.{bytes_eq};
 ghost use Rattle.depot_base.specs.Statement.{writer_of, seq_of};
-ghost use Rattle.depot_model.specs.Texts.{IsStatement, text_of_statement, id_of_statement, id_of_update};
-ghost use Rattle.depot_model.specs.Contradictions.{kind_of, goes_back};
+ghost use Rattle.depot_model.specs.texts.Texts.{IsStatement, text_of_statement, id_of_statement, id_of_update};
+ghost use Rattle.depot_model.specs.updates.Contradictions.{kind_of, goes_back};
 ghost use Rattle.depot_kept.specs.Kinds.{kind_by_prev};
 
 use depot_base::{Hash32, Kind, Statement, Update};

@@ -1,9 +1,9 @@
 //! Contradictions among the signed statements that a node took from others: equivocation, and steps back.
 ghost use Rattle.std.specs.Prelude.{◌≡◌, ◌<◌, ◌≤◌, ◌+◌, ◌^◌, [], ◌∷◌, ◌++◌, length, Some, slice_get, position, OnOk, OnErr, IsOk, if◌then◌else◌};
 ghost use Rattle.std.specs.List.{list_any};
-ghost use Rattle.depot_model.specs.Texts.{IsSigned, IsStatement, id_of_statement};
-ghost use Rattle.depot_model.specs.Contradictions.{kind_of};
-ghost use Rattle.depot_model.specs.Checks.{is_update_with};
+ghost use Rattle.depot_model.specs.texts.Texts.{IsSigned, IsStatement, id_of_statement};
+ghost use Rattle.depot_model.specs.updates.Contradictions.{kind_of};
+ghost use Rattle.depot_model.specs.checks.Checks.{is_update_with};
 ghost use Rattle.depot_base.specs.declared.limits.TheConstants.{MOST_RECORDS};
 ghost use Rattle.depot_base.specs.declared.statement.Signed.{Signed};
 ghost use Rattle.depot_kept.specs.declared.marks.StatementMark.{StatementMark};

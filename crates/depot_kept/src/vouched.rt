@@ -1,7 +1,7 @@
 //! Which updates others vouched for, as the article names it, and who is convicted.
 ghost use Rattle.std.specs.Prelude.{◌≡◌, ◌<◌, ◌≤◌, ◌+◌, ◌⊎◌, [], ◌∷◌, ◌++◌, length, true, false, OnOk, OnErr, IfOk};
 ghost use Rattle.indexmap.specs.IndexSet.{spare};
-ghost use Rattle.depot_model.specs.Lists.{is_among, is_one_of, AreTogether};
+ghost use Rattle.depot_model.specs.lists.Lists.{is_among, is_one_of, AreTogether};
 ghost use Rattle.depot_kept.specs.VouchedView.{with_node};
 
 use crate::ids::VouchedIds;

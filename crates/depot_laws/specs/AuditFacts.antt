@@ -2,13 +2,13 @@
 use Rattle.std.specs.Prelude.{◌≡◌, ℕ, List, [], map, true, Some, slice_get}
 use Rattle.depot_base.specs.declared.key.RosterEntry.{RosterEntry}
 use Rattle.depot_base.specs.declared.update.Update.{Update}
-use Rattle.depot_model.specs.Lists.{IsIn}
-use Rattle.depot_model.specs.Items.{AreDistinct}
-use Rattle.depot_model.specs.Roster.{has_node}
-use Rattle.depot_model.specs.World.{Shown, Read, Correct, World, writes_of}
-use Rattle.depot_model.specs.Causality.{write, read_at, puts_of}
-use Rattle.depot_model.specs.Traces.{Trace}
-use Rattle.depot_model.specs.Audit.{observed, observed_by_read}
+use Rattle.depot_model.specs.lists.Lists.{IsIn}
+use Rattle.depot_model.specs.lists.Items.{AreDistinct}
+use Rattle.depot_model.specs.texts.Roster.{has_node}
+use Rattle.depot_model.specs.worlds.World.{Shown, Read, Correct, World, writes_of}
+use Rattle.depot_model.specs.worlds.Causality.{write, read_at, puts_of}
+use Rattle.depot_model.specs.worlds.Traces.{Trace}
+use Rattle.depot_model.specs.worlds.Audit.{observed, observed_by_read}
 
 -- each write that the read lists of a node of the world is one that this node put
 abbrev pub ListsPuts : World → Read → Type 0

@@ -6,8 +6,8 @@ use Rattle.depot_base.specs.declared.statement.Statement.TheVariants as statemen
 use Rattle.depot_base.specs.declared.statement.Signed.{Signed}
 use Rattle.depot_base.specs.declared.record.Record.{Record}
 use Rattle.depot_model.specs.declared.taken.Taken.TheVariants.{New}
-use Rattle.depot_model.specs.Texts.{IsSigned, IsProof}
-use Rattle.depot_model.specs.Checks.{Setting, Given, given_statement, given_proof, given_value, answer_to}
+use Rattle.depot_model.specs.texts.Texts.{IsSigned, IsProof}
+use Rattle.depot_model.specs.checks.Checks.{Setting, Given, given_statement, given_proof, given_value, answer_to}
 
 -- what is given has a text
 abbrev pub HasText : Given → Type 0

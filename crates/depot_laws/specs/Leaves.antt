@@ -6,12 +6,12 @@ use Rattle.depot_base.specs.declared.update.Update.{Update}
 use Rattle.depot_base.specs.declared.statement.Signed.{Signed}
 use Rattle.depot_base.specs.declared.record.Record.{Record}
 use Rattle.depot_base.specs.declared.record.Record.TheVariants.{OwnPut, Foreign}
-use Rattle.depot_model.specs.Texts.{id_of_update}
-use Rattle.depot_model.specs.History.{leaves_of}
-use Rattle.depot_model.specs.Journal.{accepted, has_id}
-use Rattle.depot_model.specs.Checks.{Setting}
-use Rattle.depot_model.specs.Own.{next_with, IsFresh}
-use Rattle.depot_model.specs.Room.{foreign_leaves}
+use Rattle.depot_model.specs.texts.Texts.{id_of_update}
+use Rattle.depot_model.specs.updates.History.{leaves_of}
+use Rattle.depot_model.specs.journals.Journal.{accepted, has_id}
+use Rattle.depot_model.specs.checks.Checks.{Setting}
+use Rattle.depot_model.specs.checks.Own.{next_with, IsFresh}
+use Rattle.depot_model.specs.checks.Room.{foreign_leaves}
 use Rattle.depot_laws.specs.Given.{IsNewUpdate}
 
 -- the prev of the update is one of the leaves: with the update added, it is none any more

@@ -5,15 +5,15 @@ use Rattle.depot_base.specs.declared.update.Update.{Update}
 use Rattle.depot_base.specs.declared.write.Change.{Change}
 use Rattle.depot_base.specs.declared.record.Record.{Record}
 use Rattle.depot_base.specs.declared.record.Record.TheVariants.{OwnPut}
-use Rattle.depot_model.specs.Lists.{IsIn}
-use Rattle.depot_model.specs.Texts.{id_of_update}
-use Rattle.depot_model.specs.Journal.{accepted, own, is_foreign}
-use Rattle.depot_model.specs.Checks.{Setting}
-use Rattle.depot_model.specs.Changes.{AreChanges}
-use Rattle.depot_model.specs.Own.{next_own, values_of, IsFresh, leaf_count}
-use Rattle.depot_model.specs.Room.{full_by}
-use Rattle.depot_model.specs.Vouching.{limit_of_vouchers}
-use Rattle.depot_model.specs.Lawful.{IsLawful, is_empty}
+use Rattle.depot_model.specs.lists.Lists.{IsIn}
+use Rattle.depot_model.specs.texts.Texts.{id_of_update}
+use Rattle.depot_model.specs.journals.Journal.{accepted, own, is_foreign}
+use Rattle.depot_model.specs.checks.Checks.{Setting}
+use Rattle.depot_model.specs.updates.Changes.{AreChanges}
+use Rattle.depot_model.specs.checks.Own.{next_own, values_of, IsFresh, leaf_count}
+use Rattle.depot_model.specs.checks.Room.{full_by}
+use Rattle.depot_model.specs.checks.Vouching.{limit_of_vouchers}
+use Rattle.depot_model.specs.journals.Lawful.{IsLawful, is_empty}
 
 -- The update is the next own one of a lawful journal that has begun, with changes in their bounds, and it hasn't too many entries.
 pub record IsNextPut (here : Setting) (J : List Record) (u : Update) (changes : List Change) : Type 0 where

@@ -2,10 +2,10 @@
 use Rattle.std.specs.Prelude.{◌≡◌, ◌≤◌, ℕ, List, length, filter, not, true, None}
 use Rattle.depot_base.specs.declared.update.Update.{Update}
 use Rattle.depot_base.specs.declared.record.Record.{Record}
-use Rattle.depot_model.specs.Lists.{IsIn}
-use Rattle.depot_model.specs.Contents.{keys_written}
-use Rattle.depot_model.specs.World.{Correct, World}
-use Rattle.depot_model.specs.Receipts.{receipt_key, receipt_of, gives_receipt, receipts, HoldsAllOf, AreReceiptsTrue, is_node}
+use Rattle.depot_model.specs.lists.Lists.{IsIn}
+use Rattle.depot_model.specs.texts.Contents.{keys_written}
+use Rattle.depot_model.specs.worlds.World.{Correct, World}
+use Rattle.depot_model.specs.worlds.Receipts.{receipt_key, receipt_of, gives_receipt, receipts, HoldsAllOf, AreReceiptsTrue, is_node}
 
 -- each receipt that the update gives is for what the journal holds
 abbrev pub GivesTrueReceipts : List Record → Update → Type 0

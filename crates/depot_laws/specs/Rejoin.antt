@@ -11,17 +11,17 @@ use Rattle.depot_base.specs.declared.record.Record.{Record}
 use Rattle.depot_base.specs.declared.check.Full.{Full}
 use Rattle.depot_model.specs.declared.hello.Hello.{Hello}
 use Rattle.depot_model.specs.declared.bundle.Ending.TheVariants as ending
-use Rattle.depot_model.specs.Lists.{IsIn}
-use Rattle.depot_model.specs.Texts.{id_of_update}
-use Rattle.depot_model.specs.Order.{parents}
-use Rattle.depot_model.specs.Contradictions.{contradicts}
-use Rattle.depot_model.specs.Roster.{is_signed}
-use Rattle.depot_model.specs.Journal.{accepted, own, foreign, update_in, is_convicted, held_as}
-use Rattle.depot_model.specs.Contents.{NamedValue, values_named}
-use Rattle.depot_model.specs.Hello.{hello_of}
-use Rattle.depot_model.specs.Bundle.{Signs, signed_with, Parcel, sent_for, statement_frame, Bundle, with_vouchers, bundle_of, bytes_of_bundle}
-use Rattle.depot_model.specs.Feeding.{Feeding, report_of, out_of_room, feeding_from}
-use Rattle.depot_model.specs.World.{World, Correct, setting_of}
+use Rattle.depot_model.specs.lists.Lists.{IsIn}
+use Rattle.depot_model.specs.texts.Texts.{id_of_update}
+use Rattle.depot_model.specs.updates.Order.{parents}
+use Rattle.depot_model.specs.updates.Contradictions.{contradicts}
+use Rattle.depot_model.specs.texts.Roster.{is_signed}
+use Rattle.depot_model.specs.journals.Journal.{accepted, own, foreign, update_in, is_convicted, held_as}
+use Rattle.depot_model.specs.texts.Contents.{NamedValue, values_named}
+use Rattle.depot_model.specs.exchange.Hello.{hello_of}
+use Rattle.depot_model.specs.exchange.Bundle.{Signs, signed_with, Parcel, sent_for, statement_frame, Bundle, with_vouchers, bundle_of, bytes_of_bundle}
+use Rattle.depot_model.specs.exchange.Feeding.{Feeding, report_of, out_of_room, feeding_from}
+use Rattle.depot_model.specs.worlds.World.{World, Correct, setting_of}
 use Rattle.depot_laws.specs.Streams.{fed_pieces}
 
 -- the updates that parcels report, in order

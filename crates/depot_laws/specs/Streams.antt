@@ -1,9 +1,9 @@
 -- Feeds of whole frames, what a feed keeps, and what is at a place of a stream.
 use Rattle.std.specs.Prelude.{◌≡◌, ℕ, ◌<◌, List, [], ◌∷◌, ◌++◌, length, false, is_some, slice_index}
-use Rattle.depot_model.specs.Checks.{Setting}
-use Rattle.depot_model.specs.Frames.{Frame, text_of_frame, IsFrame}
-use Rattle.depot_model.specs.Feeding.{Feeding, fed, fed_frame, is_over}
-use Rattle.depot_model.specs.Lawful.{IsLawful, is_empty}
+use Rattle.depot_model.specs.checks.Checks.{Setting}
+use Rattle.depot_model.specs.texts.Frames.{Frame, text_of_frame, IsFrame}
+use Rattle.depot_model.specs.exchange.Feeding.{Feeding, fed, fed_frame, is_over}
+use Rattle.depot_model.specs.journals.Lawful.{IsLawful, is_empty}
 
 -- the pieces of a stream, one after another
 abbrev pub fed_pieces : Setting → Feeding → List (List ℕ) → Feeding

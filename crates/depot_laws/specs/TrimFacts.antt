@@ -5,14 +5,14 @@ use Rattle.depot_base.specs.declared.update.Update.{Update}
 use Rattle.depot_base.specs.declared.statement.Statement.{Statement}
 use Rattle.depot_base.specs.declared.statement.Signed.{Signed}
 use Rattle.depot_base.specs.declared.record.Record.{Record}
-use Rattle.depot_model.specs.Lists.{IsIn}
-use Rattle.depot_model.specs.Order.{Precedes, IsLatest}
-use Rattle.depot_model.specs.Contents.{keys_written}
-use Rattle.depot_model.specs.Journal.{accepted, own}
-use Rattle.depot_model.specs.Checks.{Setting, given_statement, is_kept}
-use Rattle.depot_model.specs.World.{Correct, World, setting_of}
-use Rattle.depot_model.specs.Pruning.{pruned, below_of, AnswersAlike}
-use Rattle.depot_model.specs.Trimming.{below, is_signed_by, trimmed, names}
+use Rattle.depot_model.specs.lists.Lists.{IsIn}
+use Rattle.depot_model.specs.updates.Order.{Precedes, IsLatest}
+use Rattle.depot_model.specs.texts.Contents.{keys_written}
+use Rattle.depot_model.specs.journals.Journal.{accepted, own}
+use Rattle.depot_model.specs.checks.Checks.{Setting, given_statement, is_kept}
+use Rattle.depot_model.specs.worlds.World.{Correct, World, setting_of}
+use Rattle.depot_model.specs.readers.Pruning.{pruned, below_of, AnswersAlike}
+use Rattle.depot_model.specs.readers.Trimming.{below, is_signed_by, trimmed, names}
 
 -- in the journal every node of the roster has signed a checkpoint, of this text and these ids
 abbrev pub AllSigned : World → List Record → List ℕ → List (List ℕ) → Type 0

@@ -7,13 +7,13 @@ use Rattle.depot_base.specs.declared.proof.Proof.{Proof}
 use Rattle.depot_base.specs.declared.record.Record.{Record}
 use Rattle.depot_base.specs.declared.record.Record.TheVariants.{Conviction}
 use Rattle.depot_base.specs.declared.check.Check.{Check}
-use Rattle.depot_model.specs.Lists.{IsIn}
-use Rattle.depot_model.specs.Texts.{IsProof}
-use Rattle.depot_model.specs.Contradictions.{contradicts}
-use Rattle.depot_model.specs.Judgement.{first_failed_point}
-use Rattle.depot_model.specs.Journal.{foreign, accused, is_convicted}
-use Rattle.depot_model.specs.Checks.{Setting, given_statement, answer_to, growth}
-use Rattle.depot_model.specs.Room.{HasRoom}
+use Rattle.depot_model.specs.lists.Lists.{IsIn}
+use Rattle.depot_model.specs.texts.Texts.{IsProof}
+use Rattle.depot_model.specs.updates.Contradictions.{contradicts}
+use Rattle.depot_model.specs.updates.Judgement.{first_failed_point}
+use Rattle.depot_model.specs.journals.Journal.{foreign, accused, is_convicted}
+use Rattle.depot_model.specs.checks.Checks.{Setting, given_statement, answer_to, growth}
+use Rattle.depot_model.specs.checks.Room.{HasRoom}
 
 -- The proof has a text and a verdict, its accused is another node that isn't convicted yet, and there is room for its record.
 pub record IsVerdict (here : Setting) (J : List Record) (p : Proof) : Type 0 where

@@ -9,13 +9,13 @@ use Rattle.depot_base.specs.declared.proof.Proof.{Proof}
 use Rattle.depot_base.specs.declared.proof.Proof.TheVariants.{Pair}
 use Rattle.depot_base.specs.declared.record.Record.{Record}
 use Rattle.depot_base.specs.declared.record.Record.TheVariants.{OwnPut}
-use Rattle.depot_model.specs.Lists.{IsIn, first}
-use Rattle.depot_model.specs.Texts.{IsProof}
-use Rattle.depot_model.specs.Order.{Precedes}
-use Rattle.depot_model.specs.Judgement.{first_failed_point}
-use Rattle.depot_model.specs.Journal.{accepted}
-use Rattle.depot_model.specs.Checks.{content_of}
-use Rattle.depot_model.specs.World.{Correct, World, IsCorrect, proofs_of}
+use Rattle.depot_model.specs.lists.Lists.{IsIn, first}
+use Rattle.depot_model.specs.texts.Texts.{IsProof}
+use Rattle.depot_model.specs.updates.Order.{Precedes}
+use Rattle.depot_model.specs.updates.Judgement.{first_failed_point}
+use Rattle.depot_model.specs.journals.Journal.{accepted}
+use Rattle.depot_model.specs.checks.Checks.{content_of}
+use Rattle.depot_model.specs.worlds.World.{Correct, World, IsCorrect, proofs_of}
 use Rattle.depot_laws.specs.Parents.{HasParents}
 
 -- all that was accepted before an own update of the journal precedes it

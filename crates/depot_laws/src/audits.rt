@@ -1,19 +1,19 @@
 //! The audit: what it finds in a world, and when it says yes.
 ghost use Rattle.std.specs.Prelude.{◌≡◌, ℕ, List, [], Bool, true, Some, None, ◌↔◌, slice_get, find, option_map};
 ghost use Rattle.depot_base.specs.declared.update.Update.{Update};
-ghost use Rattle.depot_model.specs.Lists.{IsIn};
-ghost use Rattle.depot_model.specs.Order.{Precedes};
-ghost use Rattle.depot_model.specs.World.{Read, Correct, World, IsWorld, IsAuthentic, IsCollisionFree, writes_of};
-ghost use Rattle.depot_model.specs.Causality.{Operation, write, read_at, IsOperation, ObservedBefore, IsExact, IsForkJoinCausal, ConvictsNoCorrectNode};
+ghost use Rattle.depot_model.specs.lists.Lists.{IsIn};
+ghost use Rattle.depot_model.specs.updates.Order.{Precedes};
+ghost use Rattle.depot_model.specs.worlds.World.{Read, Correct, World, IsWorld, IsAuthentic, IsCollisionFree, writes_of};
+ghost use Rattle.depot_model.specs.worlds.Causality.{Operation, write, read_at, IsOperation, ObservedBefore, IsExact, IsForkJoinCausal, ConvictsNoCorrectNode};
 ghost use Rattle.depot_base.specs.declared.key.RosterEntry.{RosterEntry};
 ghost use Rattle.depot_base.specs.declared.record.Record.{Record};
 ghost use Rattle.depot_model.specs.declared.record_fault.RecordFault.{RecordFault};
-ghost use Rattle.depot_model.specs.Checks.{Setting};
-ghost use Rattle.depot_model.specs.RecordFaults.{IsFault};
-ghost use Rattle.depot_model.specs.Roster.{Verifies};
-ghost use Rattle.depot_model.specs.Traces.{Trace, AreTraced, IsFindingOf, IsCausalWorldOf};
+ghost use Rattle.depot_model.specs.checks.Checks.{Setting};
+ghost use Rattle.depot_model.specs.checks.RecordFaults.{IsFault};
+ghost use Rattle.depot_model.specs.texts.Roster.{Verifies};
+ghost use Rattle.depot_model.specs.worlds.Traces.{Trace, AreTraced, IsFindingOf, IsCausalWorldOf};
 ghost use Rattle.depot_laws.specs.OneText.{HaveOneText};
-ghost use Rattle.depot_model.specs.Audit.{Finding, HasPath, writes_once, closed, observed, observed_by_parents, op_of, yes_found, circle_found, circle, unordered, unseen, is_exact, split_finding, finding_in};
+ghost use Rattle.depot_model.specs.worlds.Audit.{Finding, HasPath, writes_once, closed, observed, observed_by_parents, op_of, yes_found, circle_found, circle, unordered, unseen, is_exact, split_finding, finding_in};
 ghost use Rattle.depot_laws.specs.ToReads.{IsUpToRead};
 ghost use Rattle.depot_laws.specs.AuditFacts.{ListsPuts, ReadsLookAtWrites, AreOfNodes};
 

@@ -4,14 +4,14 @@ ghost use Rattle.depot_base.specs.declared.update.Update.{Update};
 ghost use Rattle.depot_base.specs.declared.voucher.Voucher.{Voucher};
 ghost use Rattle.depot_base.specs.declared.record.Record.{Record};
 ghost use Rattle.depot_base.specs.declared.record.Record.TheVariants.{OwnPut};
-ghost use Rattle.depot_model.specs.Lists.{IsIn};
-ghost use Rattle.depot_model.specs.Contents.{NamedValue};
-ghost use Rattle.depot_model.specs.Journal.{held_as};
-ghost use Rattle.depot_model.specs.Checks.{Setting, Given, growth};
-ghost use Rattle.depot_model.specs.Vouching.{records_of};
-ghost use Rattle.depot_model.specs.Causality.{puts_of};
-ghost use Rattle.depot_model.specs.World.{World, IsWorld, IsAuthentic};
-ghost use Rattle.depot_model.specs.Receipts.{receipt_key, receipt_of, gives_receipt, HoldsAllOf, AreReceiptsTrue, no_receipt};
+ghost use Rattle.depot_model.specs.lists.Lists.{IsIn};
+ghost use Rattle.depot_model.specs.texts.Contents.{NamedValue};
+ghost use Rattle.depot_model.specs.journals.Journal.{held_as};
+ghost use Rattle.depot_model.specs.checks.Checks.{Setting, Given, growth};
+ghost use Rattle.depot_model.specs.checks.Vouching.{records_of};
+ghost use Rattle.depot_model.specs.worlds.Causality.{puts_of};
+ghost use Rattle.depot_model.specs.worlds.World.{World, IsWorld, IsAuthentic};
+ghost use Rattle.depot_model.specs.worlds.Receipts.{receipt_key, receipt_of, gives_receipt, HoldsAllOf, AreReceiptsTrue, no_receipt};
 ghost use Rattle.depot_laws.specs.ReceiptFacts.{GivesTrueReceipts, WritesNoReceipt, WritesReceipts, HaveTrueReceipts, count_incorrect, ReceiptsSettle};
 
 /// A key is a receipt's for an id exactly where it is the 8 bytes `receipt:` followed by the id's 32 bytes.

@@ -2,18 +2,18 @@
 ghost use Rattle.std.specs.Prelude.{◌↔◌, ◌≡◌, ℕ, List, ◌++◌, true};
 ghost use Rattle.depot_base.specs.declared.update.Update.{Update};
 ghost use Rattle.depot_base.specs.declared.statement.Statement.{Statement};
-ghost use Rattle.depot_model.specs.Lists.{IsIn};
-ghost use Rattle.depot_model.specs.Journal.{accepted};
-ghost use Rattle.depot_model.specs.Checks.{Setting, Given, given_proof, growth};
-ghost use Rattle.depot_model.specs.Lawful.{IsLawful};
+ghost use Rattle.depot_model.specs.lists.Lists.{IsIn};
+ghost use Rattle.depot_model.specs.journals.Journal.{accepted};
+ghost use Rattle.depot_model.specs.checks.Checks.{Setting, Given, given_proof, growth};
+ghost use Rattle.depot_model.specs.journals.Lawful.{IsLawful};
 ghost use Rattle.depot_base.specs.declared.record.Record.{Record};
-ghost use Rattle.depot_model.specs.World.{World, IsWorld, IsAuthentic, IsCollisionFree};
+ghost use Rattle.depot_model.specs.worlds.World.{World, IsWorld, IsAuthentic, IsCollisionFree};
 ghost use Rattle.depot_base.specs.declared.statement.Statement.TheVariants as statement;
 ghost use Rattle.depot_base.specs.declared.proof.Kind.{Kind};
 ghost use Rattle.depot_base.specs.declared.proof.Proof.{Proof};
-ghost use Rattle.depot_model.specs.Contradictions.{contradicts};
-ghost use Rattle.depot_model.specs.Pruning.{pruned, AnswersAlike};
-ghost use Rattle.depot_model.specs.Trimming.{trimmed};
+ghost use Rattle.depot_model.specs.updates.Contradictions.{contradicts};
+ghost use Rattle.depot_model.specs.readers.Pruning.{pruned, AnswersAlike};
+ghost use Rattle.depot_model.specs.readers.Trimming.{trimmed};
 ghost use Rattle.depot_laws.specs.TrimFacts.{NoneNamesBelow, NoneStandsBelow, IsClosedBelow, IsSuperseded, IsLatestIn, NamesOrIsKept, AreAccepted, AboveAnswersAlike};
 
 /// Let every node of the roster have signed a checkpoint of what a correct node's journal then was. Then no own

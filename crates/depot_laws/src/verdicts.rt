@@ -7,9 +7,9 @@ ghost use Rattle.depot_base.specs.declared.proof.Proof.{Proof};
 ghost use Rattle.depot_base.specs.declared.record.Record.{Record};
 ghost use Rattle.depot_base.specs.declared.record.Record.TheVariants.{Conviction};
 ghost use Rattle.depot_base.specs.declared.check.Check.TheVariants as check;
-ghost use Rattle.depot_model.specs.Checks.{Setting};
-ghost use Rattle.depot_model.specs.Lawful.{IsAllowed, IsLawful, is_empty};
-ghost use Rattle.depot_model.specs.Contradictions.{IsHollow, is_hollow};
+ghost use Rattle.depot_model.specs.checks.Checks.{Setting};
+ghost use Rattle.depot_model.specs.journals.Lawful.{IsAllowed, IsLawful, is_empty};
+ghost use Rattle.depot_model.specs.updates.Contradictions.{IsHollow, is_hollow};
 ghost use Rattle.depot_laws.specs.Streams.{AreBytes};
 ghost use Rattle.depot_laws.specs.Verdicts.{IsVerdict, RefusalConvicts};
 

@@ -14,9 +14,9 @@ use Rattle.depot_base.specs.Sized.{IsKey, IsValue}
 use Rattle.depot_base.specs.Writes.{one_change, value_in_change}
 use Rattle.depot_base.specs.declared.write.Change.{Change}
 use Rattle.depot_base.proofs.GeneralLaws.{less_is}
-use Rattle.depot_model.specs.Changes.{AreChanges}
-use Rattle.depot_model.specs.Checkpoints.{is_checkpoint_key}
-use Rattle.depot_model.specs.Receipts.{receipt_of}
+use Rattle.depot_model.specs.updates.Changes.{AreChanges}
+use Rattle.depot_model.specs.readers.Checkpoints.{is_checkpoint_key}
+use Rattle.depot_model.specs.worlds.Receipts.{receipt_of}
 use Rattle.depot_lines.specs.declared.line_fault.LineFault.{LineFault}
 use Rattle.depot_lines.specs.declared.line_fault.LineFault.TheVariants as is
 use Rattle.depot_lines.specs.declared.changes.Keys.{Keys}

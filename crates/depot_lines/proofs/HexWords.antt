@@ -8,8 +8,8 @@ use Rattle.hex.specs.Hex.{encode_lower, encode_with, lower_digits, decode_of, de
 use Rattle.hex.specs.declared.error.FromHexError.{FromHexError}
 use Rattle.hex.specs.declared.error.FromHexError.TheVariants.{OddLength}
 use Rattle.hex.proofs.HexLemmas.{decode_of-encode_lower, decode_pairs-ok, length-encode_with}
-use Rattle.depot_model.specs.Checkpoints.{is_checkpoint_key}
-use Rattle.depot_model.specs.Receipts.{receipt_of}
+use Rattle.depot_model.specs.readers.Checkpoints.{is_checkpoint_key}
+use Rattle.depot_model.specs.worlds.Receipts.{receipt_of}
 use Rattle.depot_lines.specs.declared.line_fault.LineFault.TheVariants as is
 use Rattle.depot_lines.specs.Spelling.{is_word, is_word_byte, is_within, is_lower_digit, hex_word, sized}
 use Rattle.depot_lines.specs.Vocabulary.{hex, key, put_key, value, raw_bytes, digest_word}

@@ -4,9 +4,9 @@ use Rattle.std.specs.Prelude.{codes}
 use Rattle.std.specs.Str.{bytes_eq}
 use Rattle.std.proofs.lemmas.Bool.{and_right, eq-eqb, eqb-true}
 use Rattle.depot_base.proofs.GeneralLaws.{same_test}
-use Rattle.depot_model.specs.Checkpoints.{is_checkpoint_key}
-use Rattle.depot_model.specs.Lists.{when}
-use Rattle.depot_model.specs.Receipts.{receipt_of}
+use Rattle.depot_model.specs.readers.Checkpoints.{is_checkpoint_key}
+use Rattle.depot_model.specs.lists.Lists.{when}
+use Rattle.depot_model.specs.worlds.Receipts.{receipt_of}
 
 some_when : (b : Bool) (h : List ℕ) → b ≡ is_some (when b h)
 some_when true h = refl

@@ -8,7 +8,7 @@ use Rattle.depot_base.specs.declared.limits.TheConstants.{MOST_NODES}
 use Rattle.depot_base.specs.declared.proof.Kind.{Kind}
 use Rattle.depot_base.specs.declared.proof.Kind.TheVariants.{SameNumber, SamePrev, Backward, NotUpdate}
 use Rattle.depot_base.specs.Shown.{IsPairKind}
-use Rattle.depot_model.specs.Lines.{name_of_kind}
+use Rattle.depot_model.specs.texts.Lines.{name_of_kind}
 use Rattle.depot_lines.specs.declared.line_fault.LineFault.{LineFault}
 use Rattle.depot_lines.specs.declared.line_fault.LineFault.TheVariants as is
 use Rattle.depot_lines.specs.Spelling.{is_word, is_word_byte, is_label, is_label_byte, is_letter, is_digit}

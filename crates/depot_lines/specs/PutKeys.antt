@@ -2,7 +2,7 @@
 use Rattle.std.specs.Prelude.{◌≡◌, List, None}
 use Rattle.std.specs.List.{AllByRecursion}
 use Rattle.depot_base.specs.declared.write.Change.{Change}
-use Rattle.depot_model.specs.Receipts.{receipt_of}
+use Rattle.depot_model.specs.worlds.Receipts.{receipt_of}
 
 -- no change is of a key in the form of a receipt's
 abbrev pub WriteNoReceipts : List Change → Type 0

@@ -4,7 +4,7 @@ use Rattle.std.specs.List.{list_all}
 use Rattle.std.specs.Result.{result_ok}
 use Rattle.depot_base.specs.declared.limits.TheConstants.{MOST_NAME}
 use Rattle.hex.specs.Hex.{decode_of}
-use Rattle.depot_model.specs.Lists.{when}
+use Rattle.depot_model.specs.lists.Lists.{when}
 
 -- ---- words of a line
 

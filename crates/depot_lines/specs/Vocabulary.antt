@@ -9,9 +9,9 @@ use Rattle.hex.specs.Hex.{encode_lower, IsBytes}
 use Rattle.depot_base.specs.declared.proof.Kind.{Kind}
 use Rattle.depot_base.specs.declared.proof.Kind.TheVariants.{SameNumber, SamePrev, Backward}
 use Rattle.depot_base.specs.declared.write.Change.{Change}
-use Rattle.depot_model.specs.Checkpoints.{is_checkpoint_key}
-use Rattle.depot_model.specs.Lines.{name_of_kind}
-use Rattle.depot_model.specs.Receipts.{receipt_of}
+use Rattle.depot_model.specs.readers.Checkpoints.{is_checkpoint_key}
+use Rattle.depot_model.specs.texts.Lines.{name_of_kind}
+use Rattle.depot_model.specs.worlds.Receipts.{receipt_of}
 use Rattle.depot_lines.specs.declared.line_fault.LineFault.{LineFault}
 use Rattle.depot_lines.specs.declared.line_fault.LineFault.TheVariants as is
 use Rattle.depot_lines.specs.declared.changes.Keys.{Keys}

@@ -2,7 +2,7 @@
 ghost use Rattle.std.specs.Prelude.{◌≡◌, true, false, IfOk, IsTrue};
 ghost use Rattle.std.specs.Str.{is_utf8};
 ghost use Rattle.std.specs.Option.{MatchOption};
-ghost use Rattle.depot_model.specs.Lists.{when};
+ghost use Rattle.depot_model.specs.lists.Lists.{when};
 ghost use Rattle.depot_lines.specs.FileNames.{is_file_name, file_name};
 ghost use Rattle.depot_lines.specs.Language.{nothing, next};
 ghost use Rattle.depot_lines.specs.LineReading.{TakesReading};

@@ -3,9 +3,9 @@
 ghost use Rattle.std.specs.Prelude.{◌≡◌, ◌≤◌, length, is_some, IsTrue, IfSome, IfOk};
 ghost use Rattle.std.specs.List.{list_all};
 ghost use Rattle.std.specs.Str.{bytes_eq};
-ghost use Rattle.depot_model.specs.Checkpoints.{is_checkpoint_key};
-ghost use Rattle.depot_model.specs.Lines.{name_of_kind};
-ghost use Rattle.depot_model.specs.Receipts.{receipt_of};
+ghost use Rattle.depot_model.specs.readers.Checkpoints.{is_checkpoint_key};
+ghost use Rattle.depot_model.specs.texts.Lines.{name_of_kind};
+ghost use Rattle.depot_model.specs.worlds.Receipts.{receipt_of};
 ghost use Rattle.depot_lines.specs.Spelling.{is_word_byte, is_within, is_lower_digit, is_digit, hex_word, has_no_leading_zero, is_number, value_behind, number_word, is_plain_name};
 
 use depot_base::limits::MOST_NAME;

@@ -2,7 +2,7 @@
 ghost use Rattle.std.specs.Prelude.{◌≡◌, ◌++◌, [], ◌∷◌, OnOk};
 ghost use Rattle.std.specs.Fmt.{decimal};
 ghost use Rattle.hex.specs.Hex.{encode_lower};
-ghost use Rattle.depot_model.specs.Lines.{name_of_kind};
+ghost use Rattle.depot_model.specs.texts.Lines.{name_of_kind};
 ghost use Rattle.depot_lines.specs.Language.{text_if_any};
 ghost use Rattle.depot_lines.specs.LineReading.{behind_spaces};
 

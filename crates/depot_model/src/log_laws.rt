@@ -1,8 +1,8 @@
 //! What holds of logs.
 ghost use Rattle.std.specs.Prelude.{◌≡◌, ℕ, List, [], None};
 ghost use Rattle.depot_base.specs.declared.update.Update.{Update};
-ghost use Rattle.depot_model.specs.Log.{IsLog, IsLogFault, firsts, first_orphan};
-ghost use Rattle.depot_model.specs.Order.{IsCausal};
+ghost use Rattle.depot_model.specs.texts.Log.{IsLog, IsLogFault, firsts, first_orphan};
+ghost use Rattle.depot_model.specs.updates.Order.{IsCausal};
 
 /// Bytes are read as a log in one way: they are the log of one list of updates, or have one first fault, and never both.
 pub fn logs_are_read_in_one_way()

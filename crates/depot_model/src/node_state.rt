@@ -3,8 +3,8 @@ ghost use Rattle.std.specs.Prelude.{ℕ, List, Bool};
 ghost use Rattle.depot_base.specs.Calls.{Made};
 ghost use Rattle.depot_base.specs.declared.key.PublicKey.{PublicKey};
 ghost use Rattle.depot_base.specs.declared.record.Record.{Record};
-ghost use Rattle.depot_model.specs.Bundle.{Signs};
-ghost use Rattle.depot_model.specs.Checks.{Setting};
+ghost use Rattle.depot_model.specs.exchange.Bundle.{Signs};
+ghost use Rattle.depot_model.specs.checks.Checks.{Setting};
 
 /// A node, as contracts see it: who it is, its journal, and the disk on which it keeps that.
 pub trait NodeState {

@@ -1,8 +1,8 @@
 //! What holds of the order of updates and of their latest writes.
 ghost use Rattle.std.specs.Prelude.{◌≡◌, ℕ, List, [], ◌∷◌, ◌++◌, ◌↔◌};
 ghost use Rattle.depot_base.specs.declared.update.Update.{Update};
-ghost use Rattle.depot_model.specs.Lists.{IsIn};
-ghost use Rattle.depot_model.specs.Order.{Precedes, past, IsCausal, AreLatestIn};
+ghost use Rattle.depot_model.specs.lists.Lists.{IsIn};
+ghost use Rattle.depot_model.specs.updates.Order.{Precedes, past, IsCausal, AreLatestIn};
 
 /// In a list in which each parent comes before its children and no id occurs twice, the past of an update is what
 /// precedes it. That holds of each update of the list, and of any that would follow the list.

@@ -1,9 +1,9 @@
 //! A set of accepted updates.
 ghost use Rattle.std.specs.Prelude.{◌≡◌, ◌<◌, ◌+◌, ◌↔◌, List, [], length, IsTrue, Some, slice_get};
 ghost use Rattle.depot_base.specs.declared.update.Update.{Update};
-ghost use Rattle.depot_model.specs.Texts.{id_of_update};
-ghost use Rattle.depot_model.specs.Order.{IsCausal};
-ghost use Rattle.depot_model.specs.Items.{at, place_of_id, PrecedesAt, AreLeaves, children_of};
+ghost use Rattle.depot_model.specs.texts.Texts.{id_of_update};
+ghost use Rattle.depot_model.specs.updates.Order.{IsCausal};
+ghost use Rattle.depot_model.specs.lists.Items.{at, place_of_id, PrecedesAt, AreLeaves, children_of};
 
 use depot_base::{Hash32, Steps, Update};
 use std::sync::ledger::Ledger;

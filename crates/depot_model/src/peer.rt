@@ -2,13 +2,13 @@
 ghost use Rattle.std.specs.Prelude.{◌≡◌, [], ◌∷◌, true, false, length, map, Some, IfOk, option_copied, option_to_list, slice_get};
 ghost use Rattle.std.specs.List.{AllByRecursion};
 ghost use Rattle.depot_base.specs.declared.record.Record.{Record};
-ghost use Rattle.depot_model.specs.Bundle.{signed_by, candidate_places, proof_places, voucher_places};
-ghost use Rattle.depot_model.specs.Hello.{convicted_nodes, wanted_of, leaves_named};
-ghost use Rattle.depot_model.specs.Journal.{accepted, accepted_at, held, value_with, is_foreign};
-ghost use Rattle.depot_model.specs.Lists.{AreApart};
-ghost use Rattle.depot_model.specs.Replicas.{IsVoucherCall};
-ghost use Rattle.depot_model.specs.Texts.{id_of_update, text_of_signed};
-ghost use Rattle.depot_model.specs.Vouching.{Vouches, is_mine_vouched};
+ghost use Rattle.depot_model.specs.exchange.Bundle.{signed_by, candidate_places, proof_places, voucher_places};
+ghost use Rattle.depot_model.specs.exchange.Hello.{convicted_nodes, wanted_of, leaves_named};
+ghost use Rattle.depot_model.specs.journals.Journal.{accepted, accepted_at, held, value_with, is_foreign};
+ghost use Rattle.depot_model.specs.lists.Lists.{AreApart};
+ghost use Rattle.depot_model.specs.journals.Replicas.{IsVoucherCall};
+ghost use Rattle.depot_model.specs.texts.Texts.{id_of_update, text_of_signed};
+ghost use Rattle.depot_model.specs.checks.Vouching.{Vouches, is_mine_vouched};
 
 use crate::{HelloLeaves, Replica, VoucherError};
 use depot_base::{Bytes, Hash32, Ids, Items, Memory, NodeId, Nodes, Update};

@@ -2,13 +2,13 @@
 ghost use Rattle.std.specs.Prelude.{◌≡◌, ◌<◌, ◌≤◌, ◌^◌, ◌++◌, ℕ, List, [], IsTrue, true, false, length, map, Some, slice_get};
 ghost use Rattle.depot_base.specs.Calls.{Made};
 ghost use Rattle.depot_base.specs.declared.limits.TheConstants.{MOST_SIGNATURE};
-ghost use Rattle.depot_model.specs.Lawful.{IsLawful, is_empty};
-ghost use Rattle.depot_model.specs.Records.{text_of_record};
-ghost use Rattle.depot_model.specs.Replicas.{IsTakeCall};
-ghost use Rattle.depot_model.specs.Roster.{key_of, has_node};
-ghost use Rattle.depot_model.specs.Stops.{LeavesAll};
-ghost use Rattle.depot_model.specs.Taking.{TakesStatement, TakesProof, TakesValue, as_statement, as_proof, as_value};
-ghost use Rattle.depot_model.specs.Texts.{IsRoster, hash_of_roster};
+ghost use Rattle.depot_model.specs.journals.Lawful.{IsLawful, is_empty};
+ghost use Rattle.depot_model.specs.texts.Records.{text_of_record};
+ghost use Rattle.depot_model.specs.journals.Replicas.{IsTakeCall};
+ghost use Rattle.depot_model.specs.texts.Roster.{key_of, has_node};
+ghost use Rattle.depot_model.specs.journals.Stops.{LeavesAll};
+ghost use Rattle.depot_model.specs.checks.Taking.{TakesStatement, TakesProof, TakesValue, as_statement, as_proof, as_value};
+ghost use Rattle.depot_model.specs.texts.Texts.{IsRoster, hash_of_roster};
 
 use crate::{NodeState, Scheme, TakeError, Taken};
 use depot_base::{Hash32, NodeId};

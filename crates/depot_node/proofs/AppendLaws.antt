@@ -9,20 +9,20 @@ use Rattle.depot_base.specs.File.{IsFileOf, blocks}
 use Rattle.depot_base.specs.declared.key.RosterEntry.{RosterEntry}
 use Rattle.depot_base.specs.declared.record.Record.{Record}
 use Rattle.depot_base.proofs.CallLaws.{fails_later}
-use Rattle.depot_model.specs.Checks.{Setting}
-use Rattle.depot_model.specs.JournalCalls.{IsJournalCall, Lasts}
-use Rattle.depot_model.specs.Lawful.{IsLawful}
-use Rattle.depot_model.specs.Limits.{IsCutShort}
-use Rattle.depot_model.specs.Records.{text_of_record}
-use Rattle.depot_model.specs.Stops.{HasAll, HasFront, LeavesAll, calls_to_record}
+use Rattle.depot_model.specs.checks.Checks.{Setting}
+use Rattle.depot_model.specs.journals.JournalCalls.{IsJournalCall, Lasts}
+use Rattle.depot_model.specs.journals.Lawful.{IsLawful}
+use Rattle.depot_model.specs.checks.Limits.{IsCutShort}
+use Rattle.depot_model.specs.texts.Records.{text_of_record}
+use Rattle.depot_model.specs.journals.Stops.{HasAll, HasFront, LeavesAll, calls_to_record}
 use Rattle.depot_journal.specs.JournalAnswers.{KeepsLimits, LeavesRunning, MakesCalls}
 use Rattle.depot_journal.specs.Stable as stable
 use Rattle.depot_journal.specs.JournalView.{JournalContents, HasMemoryFor}
 use Rattle.depot_journal.specs.declared.journal_error.AppendError.{AppendError}
 use Rattle.depot_journal.specs.declared.journal_error.AppendError.TheVariants as refused
 use Rattle.depot_journal.proofs.Moments as runs
-use Rattle.depot_laws.proofs.OwnTexts.{lawful_is_light, lawful_is_short}
-use Rattle.depot_laws.proofs.Splits.{lawful_front}
+use Rattle.depot_laws.proofs.own_updates.OwnTexts.{lawful_is_light, lawful_is_short}
+use Rattle.depot_laws.proofs.lists.Splits.{lawful_front}
 use Rattle.depot_outside.specs.declared.disk.Disk.{Ghosts}
 use Rattle.depot_readings.specs.NewRecords.{bytes_of_records}
 use Rattle.depot_node.specs.Holdings.{Holding, journal_on}

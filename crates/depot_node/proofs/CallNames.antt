@@ -13,12 +13,12 @@ use Rattle.depot_model.specs.declared.put_answers.PutError.TheVariants as unput
 use Rattle.depot_model.specs.declared.taken.TakeError.{TakeError}
 use Rattle.depot_model.specs.declared.taken.TakeError.TheVariants as untaken
 use Rattle.depot_model.specs.declared.taken.Taken.{Taken}
-use Rattle.depot_model.specs.Checks.{Setting}
-use Rattle.depot_model.specs.JournalCalls.{IsStable, IsJournalCall}
-use Rattle.depot_model.specs.Room.{full_by}
-use Rattle.depot_model.specs.Taking.{Form, TakesAs, growth_of_text}
-use Rattle.depot_model.proofs.JournalCallLaws.{idle_call, renamed_call}
-use Rattle.depot_model.proofs.TakeLaws.{one_answer}
+use Rattle.depot_model.specs.checks.Checks.{Setting}
+use Rattle.depot_model.specs.journals.JournalCalls.{IsStable, IsJournalCall}
+use Rattle.depot_model.specs.checks.Room.{full_by}
+use Rattle.depot_model.specs.checks.Taking.{Form, TakesAs, growth_of_text}
+use Rattle.depot_model.proofs.of_journals.JournalCallLaws.{idle_call, renamed_call}
+use Rattle.depot_model.proofs.of_journals.TakeLaws.{one_answer}
 use Rattle.depot_outside.specs.declared.disk.Disk.{Ghosts}
 use Rattle.depot_decide.specs.Deciding.{AnswersAs, IsCarriedOut}
 use Rattle.depot_node.specs.Holdings.{Holding, journal_on}

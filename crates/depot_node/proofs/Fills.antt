@@ -9,13 +9,13 @@ use Rattle.depot_base.specs.declared.record.Record.{Record}
 use Rattle.depot_journal.specs.JournalAnswers.{SaysDamaged}
 use Rattle.depot_journal.specs.declared.journal_error.JournalError.{JournalError}
 use Rattle.depot_journal.specs.declared.journal_error.JournalError.TheVariants as journal_error
-use Rattle.depot_model.specs.Checks.{Setting}
-use Rattle.depot_model.specs.JournalCalls.{IsJournalCall}
-use Rattle.depot_model.specs.RecordFaults.{AreTextsOf}
-use Rattle.depot_model.specs.Records.{text_of_record}
-use Rattle.depot_model.specs.Stops.{HasFront, LeavesAll, calls_to_record}
-use Rattle.depot_model.proofs.JournalCallLaws.{renamed_call}
-use Rattle.depot_laws.proofs.Splits.{lawful_none}
+use Rattle.depot_model.specs.checks.Checks.{Setting}
+use Rattle.depot_model.specs.journals.JournalCalls.{IsJournalCall}
+use Rattle.depot_model.specs.checks.RecordFaults.{AreTextsOf}
+use Rattle.depot_model.specs.texts.Records.{text_of_record}
+use Rattle.depot_model.specs.journals.Stops.{HasFront, LeavesAll, calls_to_record}
+use Rattle.depot_model.proofs.of_journals.JournalCallLaws.{renamed_call}
+use Rattle.depot_laws.proofs.lists.Splits.{lawful_none}
 use Rattle.depot_outside.specs.declared.disk.Disk.{Ghosts}
 use Rattle.depot_node.specs.Holdings.{Holding, IsWhole, journal_on}
 use Rattle.depot_node.specs.StartReading.{AreOther, AreWrong, IsBirthCall, IsFilled, IsNotFilled}

@@ -10,9 +10,9 @@ use Rattle.depot_base.specs.declared.statement.Signed.{Signed}
 use Rattle.depot_base.specs.declared.voucher.Voucher.{Voucher}
 use Rattle.depot_model.specs.declared.taken.Taken.{Taken}
 use Rattle.depot_model.specs.declared.taken.Taken.TheVariants.{New, Known}
-use Rattle.depot_model.specs.Checks.{Setting, given_statement, given_proof, given_value, added, due, growth, growth_by}
-use Rattle.depot_model.specs.Texts.{text_of_signed}
-use Rattle.depot_model.specs.Vouching.{records_of}
+use Rattle.depot_model.specs.checks.Checks.{Setting, given_statement, given_proof, given_value, added, due, growth, growth_by}
+use Rattle.depot_model.specs.texts.Texts.{text_of_signed}
+use Rattle.depot_model.specs.checks.Vouching.{records_of}
 use Rattle.depot_readings.specs.RecordTexts.{IsGiven}
 use Rattle.depot_decide.specs.Deciding.{DecidesProof, DecidesStatement, DecidesValue, IsDecided}
 

@@ -2,10 +2,10 @@
 use Rattle.std.proofs.Common.{◌≡◌, List, [], ◌∷◌, ◌++◌, map, refl, sym, ap, subst, ◌∙◌, append_assoc}
 use Rattle.std.specs.List.{AllByRecursion}
 use Rattle.depot_base.specs.declared.record.Record.{Record}
-use Rattle.depot_model.specs.Checks.{Setting}
-use Rattle.depot_model.specs.Lawful.{IsLawful}
-use Rattle.depot_model.specs.Records.{IsRecord, text_of_record}
-use Rattle.depot_model.proofs.RecordLaws.{record_text_lawful}
+use Rattle.depot_model.specs.checks.Checks.{Setting}
+use Rattle.depot_model.specs.journals.Lawful.{IsLawful}
+use Rattle.depot_model.specs.texts.Records.{IsRecord, text_of_record}
+use Rattle.depot_model.proofs.of_texts.RecordLaws.{record_text_lawful}
 use Rattle.depot_node.specs.JournalRecords.{listed_ok, record_of, records_in_texts}
 
 -- ---- one text

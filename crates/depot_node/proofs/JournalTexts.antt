@@ -10,10 +10,10 @@ use Rattle.depot_base.specs.declared.check.FullOf.{FullOf}
 use Rattle.depot_base.specs.declared.check.FullOf.TheVariants as full_of
 use Rattle.depot_base.specs.declared.record.Record.{Record}
 use Rattle.depot_base.proofs.CallLaws.{framed_long}
-use Rattle.depot_model.specs.Records.{IsRecord, journal_bytes, text_of_record}
-use Rattle.depot_model.specs.Stops.{HasFront, LeavesAll}
+use Rattle.depot_model.specs.texts.Records.{IsRecord, journal_bytes, text_of_record}
+use Rattle.depot_model.specs.journals.Stops.{HasFront, LeavesAll}
 use Rattle.depot_journal.specs.Stable as stable
-use Rattle.depot_laws.proofs.Counts.{bytes_more}
+use Rattle.depot_laws.proofs.records.Counts.{bytes_more}
 use Rattle.depot_base.proofs.GeneralLaws.{all_both}
 use Rattle.depot_readings.specs.NewRecords.{bytes_of_records}
 use Rattle.depot_node.specs.JournalRecords.{AreRecordTexts, AreTextsFor, records_in_texts}

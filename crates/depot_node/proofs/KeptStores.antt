@@ -1,10 +1,10 @@
 -- The store of a node after a commit.
 use Rattle.std.proofs.Common.{◌≡◌, false, List, [], ◌∷◌, ◌++◌, take, refl, sym, ap, subst, ◌∙◌}
 use Rattle.depot_base.specs.declared.record.Record.{Record}
-use Rattle.depot_model.specs.Checks.{Setting}
-use Rattle.depot_model.specs.Lawful.{IsLawful, is_empty}
-use Rattle.depot_model.specs.Limits.{IsCutShort}
-use Rattle.depot_model.specs.Roster.{Verifies}
+use Rattle.depot_model.specs.checks.Checks.{Setting}
+use Rattle.depot_model.specs.journals.Lawful.{IsLawful, is_empty}
+use Rattle.depot_model.specs.checks.Limits.{IsCutShort}
+use Rattle.depot_model.specs.texts.Roster.{Verifies}
 use Rattle.depot_node.specs.Holdings.{Holding, node_setting}
 use Rattle.depot_node.specs.StoreCalls.{IsKept}
 use Rattle.depot_node.proofs.AppendLaws.{lawful_cut}

@@ -2,12 +2,12 @@
 use Rattle.std.proofs.Common.{◌≡◌, ℕ, ◌<◌, false, List, [], ◌∷◌, ◌++◌, length, map, drop, refl, sym, ap, subst, ◌∙◌, append_assoc, arith}
 use Rattle.std.proofs.lemmas.List.{append-nil, map-append}
 use Rattle.depot_base.specs.declared.record.Record.{Record}
-use Rattle.depot_model.specs.Checks.{Setting}
-use Rattle.depot_model.specs.Lawful.{IsLawful}
-use Rattle.depot_model.specs.RecordFaults.{IsFault, AreTextsOf}
-use Rattle.depot_model.specs.Records.{text_of_record}
-use Rattle.depot_model.specs.Roster.{Verifies}
-use Rattle.depot_laws.proofs.Splits.{lawful_none}
+use Rattle.depot_model.specs.checks.Checks.{Setting}
+use Rattle.depot_model.specs.journals.Lawful.{IsLawful}
+use Rattle.depot_model.specs.checks.RecordFaults.{IsFault, AreTextsOf}
+use Rattle.depot_model.specs.texts.Records.{text_of_record}
+use Rattle.depot_model.specs.texts.Roster.{Verifies}
+use Rattle.depot_laws.proofs.lists.Splits.{lawful_none}
 use Rattle.depot_node.specs.Holdings.{Holding, node_setting, with_records}
 use Rattle.depot_decide.specs.ReadRecords.{IsReadFrom}
 use Rattle.depot_node.specs.StartReading.{IsReadOn, IsNextWrong, AreWrong}

@@ -2,9 +2,9 @@
 use Rattle.std.proofs.Common.{◌≡◌, ℕ, ◌+◌, ◌≤◌, false, List, ◌++◌, length, map, take, drop, refl, sym, ap, subst, ◌∙◌}
 use Rattle.depot_base.specs.WithRest.{with_rest}
 use Rattle.depot_base.specs.declared.record.Record.{Record}
-use Rattle.depot_model.specs.Checks.{Setting}
-use Rattle.depot_model.specs.Lawful.{IsLawful}
-use Rattle.depot_model.specs.Records.{text_of_record}
+use Rattle.depot_model.specs.checks.Checks.{Setting}
+use Rattle.depot_model.specs.journals.Lawful.{IsLawful}
+use Rattle.depot_model.specs.texts.Records.{text_of_record}
 use Rattle.depot_readings.specs.ReadingsView.{Known}
 use Rattle.depot_readings.specs.RecordTexts.{given_of}
 use Rattle.depot_node.specs.Holdings.{Holding, known, with_records, IsWhole}

@@ -8,9 +8,9 @@ use Rattle.depot_base.proofs.CallLaws.{fails_later, fails_wider, made_later}
 use Rattle.depot_journal.specs.declared.journal_error.JournalError.{JournalError}
 use Rattle.depot_journal.specs.declared.journal_error.JournalError.TheVariants as journal_error
 use Rattle.depot_journal.proofs.OneList.{one_list}
-use Rattle.depot_model.specs.Checks.{Setting}
-use Rattle.depot_model.specs.Records.{text_of_record}
-use Rattle.depot_model.specs.Stops.{calls_to_record}
+use Rattle.depot_model.specs.checks.Checks.{Setting}
+use Rattle.depot_model.specs.texts.Records.{text_of_record}
+use Rattle.depot_model.specs.journals.Stops.{calls_to_record}
 use Rattle.depot_node.specs.Starting.{birth_after, calls_to_start_node, of_journal}
 use Rattle.depot_node.specs.declared.start_error.StartError.TheVariants as refused
 

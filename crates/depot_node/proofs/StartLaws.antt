@@ -8,19 +8,19 @@ use Rattle.depot_base.specs.declared.record.Record.{Record}
 use Rattle.depot_base.specs.declared.record.Record.TheVariants.{Birth}
 use Rattle.depot_journal.proofs.OneList.{not_damaged, one_list}
 use Rattle.depot_model.specs.declared.record_fault.RecordFault.{RecordFault}
-use Rattle.depot_model.specs.Checks.{Setting}
-use Rattle.depot_model.specs.Lawful.{IsAllowed, IsLawful}
-use Rattle.depot_model.specs.RecordFaults.{IsFault, HaveFaultAt}
-use Rattle.depot_model.specs.Records.{text_of_record}
-use Rattle.depot_model.specs.Roster.{key_of, has_node}
-use Rattle.depot_model.specs.Stops.{HasRecords}
-use Rattle.depot_model.specs.Texts.{hash_of_roster}
+use Rattle.depot_model.specs.checks.Checks.{Setting}
+use Rattle.depot_model.specs.journals.Lawful.{IsAllowed, IsLawful}
+use Rattle.depot_model.specs.checks.RecordFaults.{IsFault, HaveFaultAt}
+use Rattle.depot_model.specs.texts.Records.{text_of_record}
+use Rattle.depot_model.specs.texts.Roster.{key_of, has_node}
+use Rattle.depot_model.specs.journals.Stops.{HasRecords}
+use Rattle.depot_model.specs.texts.Texts.{hash_of_roster}
 use Rattle.depot_node.specs.JournalRecords.{records_in_texts}
 use Rattle.depot_node.proofs.JournalRecordLaws.{all_fit, records_of_texts}
 use Rattle.depot_node.specs.Starting.{BeginWithBirth, IsNotStarted, IsStartedFrom, LeavesFile, OfFile, started}
 use Rattle.depot_node.specs.declared.start_error.StartError.{StartError}
 use Rattle.depot_node.specs.declared.start_error.StartError.TheVariants as refused
-use Rattle.depot_laws.proofs.FaultLaws.{one_record, no_fault}
+use Rattle.depot_laws.proofs.records.FaultLaws.{one_record, no_fault}
 
 -- ---- births
 

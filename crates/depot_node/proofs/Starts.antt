@@ -7,9 +7,9 @@ use Rattle.depot_base.specs.File as files
 use Rattle.depot_base.specs.File.{IsFileOf}
 use Rattle.depot_base.specs.declared.record.Record.{Record}
 use Rattle.depot_base.specs.declared.record.Record.TheVariants.{Birth}
-use Rattle.depot_model.specs.Checks.{Setting}
-use Rattle.depot_model.specs.Records.{IsRecord, text_of_record}
-use Rattle.depot_model.specs.RecordFaults.{AreTextsOf}
+use Rattle.depot_model.specs.checks.Checks.{Setting}
+use Rattle.depot_model.specs.texts.Records.{IsRecord, text_of_record}
+use Rattle.depot_model.specs.checks.RecordFaults.{AreTextsOf}
 use Rattle.depot_node.specs.StartReading.{AreOther, AreWrong, IsOtherBirth}
 use Rattle.depot_node.specs.Starting.{AreNotRead, AreOwn, BeginWithBirth, IsDiskFault, IsStartedFrom, LeavesFile, LeavesNew, started}
 use Rattle.depot_node.specs.declared.start_error.StartError.{StartError}

@@ -1,8 +1,8 @@
 -- The outcome of appending a growth where there is room for it.
 use Rattle.std.specs.Prelude.{◌≡◌, ◌++◌, Result, Ok, Err, ℕ, List, None}
 use Rattle.depot_base.specs.declared.record.Record.{Record}
-use Rattle.depot_model.specs.Limits.{IsCutShort}
-use Rattle.depot_model.specs.Room.{full_by}
+use Rattle.depot_model.specs.checks.Limits.{IsCutShort}
+use Rattle.depot_model.specs.checks.Room.{full_by}
 use Rattle.depot_decide.specs.Deciding.{HasGrown, HadNoRoom}
 use Rattle.depot_node.specs.declared.commit.CommitError.{CommitError}
 use Rattle.depot_node.specs.declared.commit.CommitError.TheVariants as refused

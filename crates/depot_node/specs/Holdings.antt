@@ -3,10 +3,10 @@ use Rattle.std.specs.Prelude.{◌≡◌, ℕ, List, [], Bool, false, refl}
 use Rattle.std.specs.Coded.{Coded, code_by, coded×, coded_ℕ, coded_bool, coded_list}
 use Rattle.depot_base.specs.declared.key.RosterEntry.{RosterEntry}
 use Rattle.depot_base.specs.declared.record.Record.{Record}
-use Rattle.depot_model.specs.Checks.{Setting}
-use Rattle.depot_model.specs.Codes.{coded_record, coded_roster_entry}
-use Rattle.depot_model.specs.JournalCalls.{JournalView}
-use Rattle.depot_model.specs.Roster.{Verifies}
+use Rattle.depot_model.specs.checks.Checks.{Setting}
+use Rattle.depot_model.specs.lists.Codes.{coded_record, coded_roster_entry}
+use Rattle.depot_model.specs.journals.JournalCalls.{JournalView}
+use Rattle.depot_model.specs.texts.Roster.{Verifies}
 use Rattle.depot_outside.specs.declared.disk.Disk.{Ghosts}
 use Rattle.depot_readings.specs.ReadingsView.{Known}
 

@@ -2,7 +2,7 @@
 use Rattle.std.specs.Prelude.{◌≡◌, ℕ, List, [], ◌∷◌, Result, Ok, Err, map}
 use Rattle.std.specs.List.{flat_map, AllByRecursion}
 use Rattle.depot_base.specs.declared.record.Record.{Record}
-use Rattle.depot_model.specs.Records.{record_text, IsRecord, text_of_record}
+use Rattle.depot_model.specs.texts.Records.{record_text, IsRecord, text_of_record}
 
 abbrev pub listed_ok : {V E : Type 0} → Result V E → List V
 listed_ok (Ok v) = v ∷ []

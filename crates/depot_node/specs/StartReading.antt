@@ -3,13 +3,13 @@ use Rattle.std.specs.Prelude.{◌≡◌, ◌≢◌, ℕ, List, [], ◌∷◌, �
 use Rattle.depot_base.specs.Calls.{FailsAmong, made}
 use Rattle.depot_base.specs.Disk.{LeavesOnly}
 use Rattle.depot_base.specs.declared.record.Record.{Record}
-use Rattle.depot_model.specs.Checks.{Setting}
-use Rattle.depot_model.specs.JournalCalls.{IsJournalCall}
-use Rattle.depot_model.specs.Lawful.{IsLawful}
-use Rattle.depot_model.specs.RecordFaults.{AreTextsOf, IsFault, HaveFaultAt}
-use Rattle.depot_model.specs.Records.{text_of_record}
-use Rattle.depot_model.specs.Stops.{LeavesAll, calls_to_record}
-use Rattle.depot_model.specs.Texts.{hash_of_roster}
+use Rattle.depot_model.specs.checks.Checks.{Setting}
+use Rattle.depot_model.specs.journals.JournalCalls.{IsJournalCall}
+use Rattle.depot_model.specs.journals.Lawful.{IsLawful}
+use Rattle.depot_model.specs.checks.RecordFaults.{AreTextsOf, IsFault, HaveFaultAt}
+use Rattle.depot_model.specs.texts.Records.{text_of_record}
+use Rattle.depot_model.specs.journals.Stops.{LeavesAll, calls_to_record}
+use Rattle.depot_model.specs.texts.Texts.{hash_of_roster}
 use Rattle.depot_outside.specs.declared.disk.Disk.{Ghosts}
 use Rattle.depot_node.specs.Holdings.{Holding, IsWhole, journal_on, with_records}
 use Rattle.depot_node.specs.Starting.{AreNotRead, LeavesFile, LeavesNew, StartLeaves, birth_after, started}

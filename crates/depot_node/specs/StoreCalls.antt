@@ -2,12 +2,12 @@
 use Rattle.std.specs.Prelude.{◌≡◌, ◌≢◌, ℕ, List, [], false, Result, IsErrAnd, IsErrOf}
 use Rattle.depot_base.specs.declared.record.Record.{Record}
 use Rattle.depot_base.specs.declared.write.Change.{Change}
-use Rattle.depot_model.specs.JournalCalls.{IsJournalCall}
-use Rattle.depot_model.specs.Lawful.{IsLawful, is_empty}
-use Rattle.depot_model.specs.Putting.{put_records}
-use Rattle.depot_model.specs.Roster.{Verifies}
-use Rattle.depot_model.specs.Taking.{Form, growth_of_text}
-use Rattle.depot_model.specs.Vouching.{new_vouchers, records_of}
+use Rattle.depot_model.specs.journals.JournalCalls.{IsJournalCall}
+use Rattle.depot_model.specs.journals.Lawful.{IsLawful, is_empty}
+use Rattle.depot_model.specs.checks.Putting.{put_records}
+use Rattle.depot_model.specs.texts.Roster.{Verifies}
+use Rattle.depot_model.specs.checks.Taking.{Form, growth_of_text}
+use Rattle.depot_model.specs.checks.Vouching.{new_vouchers, records_of}
 use Rattle.depot_model.specs.declared.bundle.VoucherError.{VoucherError}
 use Rattle.depot_model.specs.declared.bundle.VoucherError.TheVariants as unvouched
 use Rattle.depot_model.specs.declared.put_answers.PutDone.{PutDone}

@@ -1,9 +1,9 @@
 //! The one write path: here the journal grows.
 ghost use Rattle.std.specs.Prelude.{◌≡◌, ◌++◌, [], false, Some};
 ghost use Rattle.depot_base.specs.declared.check.Full.{Full};
-ghost use Rattle.depot_model.specs.Journal.{accepted};
-ghost use Rattle.depot_model.specs.Lawful.{IsLawful};
-ghost use Rattle.depot_model.specs.Room.{full_by};
+ghost use Rattle.depot_model.specs.journals.Journal.{accepted};
+ghost use Rattle.depot_model.specs.journals.Lawful.{IsLawful};
+ghost use Rattle.depot_model.specs.checks.Room.{full_by};
 ghost use Rattle.depot_readings.specs.NewRecords.{MayGrow};
 ghost use Rattle.depot_readings.specs.RecordTexts.{IsGiven};
 ghost use Rattle.depot_decide.specs.Deciding.{AreJoined};

@@ -1,11 +1,11 @@
 //! The node.
 ghost use Rattle.std.specs.Prelude.{◌≡◌, ◌<◌, ◌≤◌, ◌^◌, length, false, refl, Some, All, slice_get};
-ghost use Rattle.depot_model.specs.Journal.{accepted};
-ghost use Rattle.depot_model.specs.Items.{updates_at};
-ghost use Rattle.depot_model.specs.Order.{AreLatestIn};
-ghost use Rattle.depot_model.specs.Roster.{key_of};
-ghost use Rattle.depot_model.specs.TextFacts.{IsRoster-prop};
-ghost use Rattle.depot_model.specs.Texts.{IsRoster};
+ghost use Rattle.depot_model.specs.journals.Journal.{accepted};
+ghost use Rattle.depot_model.specs.lists.Items.{updates_at};
+ghost use Rattle.depot_model.specs.updates.Order.{AreLatestIn};
+ghost use Rattle.depot_model.specs.texts.Roster.{key_of};
+ghost use Rattle.depot_model.specs.texts.TextFacts.{IsRoster-prop};
+ghost use Rattle.depot_model.specs.texts.Texts.{IsRoster};
 ghost use Rattle.depot_node.specs.Holdings.{node_setting};
 ghost use Rattle.depot_node.specs.Keyed.{HasKey-prop, IsKept-prop};
 ghost use Rattle.depot_node.specs.StoreCalls.{IsKept};
@@ -215,7 +215,7 @@ impl<D: Disk, S: Scheme, G: Signer<Of = S>> LocalNode for Node<D, S, G> {
         self.store.readings().totals().own
     }
 
-    #[tactic(auto, unfolding(depot_model::specs::Own::leaf_count))]
+    #[tactic(auto, unfolding(depot_model::specs::checks::Own::leaf_count))]
     fn leaf_count(&self) -> u32 {
         match self.store.roster().key_of(self.store.me()) {
             Some(key) => leaves_of_tree(key.height),

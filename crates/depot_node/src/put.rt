@@ -4,7 +4,7 @@ ghost use Rattle.depot_base.specs.Pairs.{AllPairsByRecursion};
 ghost use Rattle.depot_base.specs.Parts.{is_below};
 ghost use Rattle.depot_base.specs.Writes.{one_change};
 ghost use Rattle.depot_base.specs.declared.limits.TheConstants.{MOST_WRITES};
-ghost use Rattle.depot_model.specs.Putting.{Puts};
+ghost use Rattle.depot_model.specs.checks.Putting.{Puts};
 ghost use Rattle.depot_node.specs.Holdings.{node_setting};
 ghost use Rattle.depot_node.specs.StoreCalls.{IsKept, IsStorePut};
 

@@ -1,8 +1,8 @@
 //! Starts a node from the journal on its disk.
 ghost use Rattle.std.specs.Prelude.{◌≡◌, [], List, true, IsTrue, Some, None, IfOk, IfErr, IfSome};
 ghost use Rattle.depot_base.specs.declared.record.Record.{Record};
-ghost use Rattle.depot_model.specs.Lawful.{IsLawful};
-ghost use Rattle.depot_model.specs.Roster.{has_node, key_of};
+ghost use Rattle.depot_model.specs.journals.Lawful.{IsLawful};
+ghost use Rattle.depot_model.specs.texts.Roster.{has_node, key_of};
 ghost use Rattle.depot_accept.specs.StateView.{IsStateOf, setting};
 ghost use Rattle.depot_node.specs.Holdings.{node_setting, IsWhole};
 ghost use Rattle.depot_node.specs.Starting.{IsDiskFault, IsDiskThen, IsHandedBack, IsKeyFault, IsNodeAt, IsNotStarted, IsStartedOn, disk_left, of_journal, placed, started};

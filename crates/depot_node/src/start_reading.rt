@@ -1,10 +1,10 @@
 //! Reads the records of a journal one by one, checking each as if it came now.
 ghost use Rattle.std.specs.Prelude.{◌≡◌, ◌∷◌, [], ℕ, List, true, false, IsTrue, OnOk, OnErr, IfOk, IfErr, IsErrOf};
-ghost use Rattle.depot_model.specs.JournalCalls.{KeepsDisk};
-ghost use Rattle.depot_model.specs.RecordFaults.{AreTextsOf};
-ghost use Rattle.depot_model.specs.Roster.{has_node};
-ghost use Rattle.depot_model.specs.Stops.{LeavesAll};
-ghost use Rattle.depot_model.specs.Texts.{hash_of_roster};
+ghost use Rattle.depot_model.specs.journals.JournalCalls.{KeepsDisk};
+ghost use Rattle.depot_model.specs.checks.RecordFaults.{AreTextsOf};
+ghost use Rattle.depot_model.specs.texts.Roster.{has_node};
+ghost use Rattle.depot_model.specs.journals.Stops.{LeavesAll};
+ghost use Rattle.depot_model.specs.texts.Texts.{hash_of_roster};
 ghost use Rattle.depot_node.specs.Holdings.{IsWhole, journal_on, node_setting};
 ghost use Rattle.depot_node.specs.Starting.{AreOwn, LeavesFile, birth_after, started};
 ghost use Rattle.depot_node.specs.StartReading.{IsBirthCall, IsDiskFilled, IsFilled, IsNotFilled, IsReadOn, IsNextWrong, AreWrong, IsOtherBirth, AreOther};

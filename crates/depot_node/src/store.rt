@@ -1,9 +1,9 @@
 //! A journal on a disk, with what was read off it.
 ghost use Rattle.std.specs.Prelude.{◌≡◌, ◌<◌, ◌++◌, List, ℕ, [], ◌∷◌, false, IsTrue, Some, None, drop, length, option_copied, map, slice_get, OnOk, OnErr};
-ghost use Rattle.depot_model.specs.Journal.{accepted};
-ghost use Rattle.depot_model.specs.Lawful.{IsLawful};
-ghost use Rattle.depot_model.specs.Records.{text_of_record};
-ghost use Rattle.depot_model.specs.Stops.{LeavesAll};
+ghost use Rattle.depot_model.specs.journals.Journal.{accepted};
+ghost use Rattle.depot_model.specs.journals.Lawful.{IsLawful};
+ghost use Rattle.depot_model.specs.texts.Records.{text_of_record};
+ghost use Rattle.depot_model.specs.journals.Stops.{LeavesAll};
 ghost use Rattle.depot_accept.specs.StateView.{IsStateOf};
 ghost use Rattle.depot_decide.specs.Deciding.{AreJoined};
 ghost use Rattle.depot_node.specs.Holdings.{known, node_setting, with_records};

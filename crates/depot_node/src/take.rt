@@ -1,9 +1,9 @@
 //! What a node takes: decides over what was read, and carries the decision out. A stopped node takes nothing.
 ghost use Rattle.std.specs.Prelude.{◌≡◌, false, Some};
 ghost use Rattle.depot_base.specs.declared.check.Full.{Full};
-ghost use Rattle.depot_model.specs.Journal.{accepted};
-ghost use Rattle.depot_model.specs.Room.{full_by};
-ghost use Rattle.depot_model.specs.Taking.{TakesStatement, TakesProof, TakesValue, as_statement, as_proof, as_value};
+ghost use Rattle.depot_model.specs.journals.Journal.{accepted};
+ghost use Rattle.depot_model.specs.checks.Room.{full_by};
+ghost use Rattle.depot_model.specs.checks.Taking.{TakesStatement, TakesProof, TakesValue, as_statement, as_proof, as_value};
 ghost use Rattle.depot_readings.specs.NewRecords.{MayGrow};
 ghost use Rattle.depot_readings.specs.RecordTexts.{IsGiven};
 ghost use Rattle.depot_decide.specs.Deciding.{AreJoined, IsCarriedOut};

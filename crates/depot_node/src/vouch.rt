@@ -1,9 +1,9 @@
 //! The vouchers that a node makes for what it took from others: decides on them, and carries the decision out.
 ghost use Rattle.std.specs.Prelude.{◌≡◌, true, false};
 ghost use Rattle.std.specs.List.{AllByRecursion};
-ghost use Rattle.depot_model.specs.Journal.{accepted, is_foreign};
-ghost use Rattle.depot_model.specs.Lists.{AreApart};
-ghost use Rattle.depot_model.specs.Vouching.{Vouches, is_mine_vouched};
+ghost use Rattle.depot_model.specs.journals.Journal.{accepted, is_foreign};
+ghost use Rattle.depot_model.specs.lists.Lists.{AreApart};
+ghost use Rattle.depot_model.specs.checks.Vouching.{Vouches, is_mine_vouched};
 ghost use Rattle.depot_node.specs.Holdings.{node_setting};
 ghost use Rattle.depot_node.specs.StoreCalls.{IsKept, IsStoreVouch};
 

@@ -5,11 +5,11 @@ use Rattle.std.specs.List.{list_any}
 use Rattle.std.proofs.lemmas.List.{append-nil, drop_all}
 use Rattle.depot_base.specs.declared.record.Record.{Record}
 use Rattle.depot_base.specs.declared.update.Update.{Update}
-use Rattle.depot_model.specs.Items.{places_of}
-use Rattle.depot_model.specs.Bundle.{records_where, is_candidate, candidate_places}
-use Rattle.depot_model.specs.Journal.{accepted, accepted_by}
-use Rattle.depot_model.proofs.Elements.{from_place}
-use Rattle.depot_laws.proofs.Causes.{none_or_one}
+use Rattle.depot_model.specs.lists.Items.{places_of}
+use Rattle.depot_model.specs.exchange.Bundle.{records_where, is_candidate, candidate_places}
+use Rattle.depot_model.specs.journals.Journal.{accepted, accepted_by}
+use Rattle.depot_model.proofs.lists.Elements.{from_place}
+use Rattle.depot_laws.proofs.records.Causes.{none_or_one}
 use Rattle.depot_readings.specs.Places.{accepts, accept_places}
 use Rattle.depot_graph.specs.UpdateRows.{IsJoinedRow}
 use Rattle.depot_queries.specs.ItemPlaces.{beside}

@@ -5,8 +5,8 @@ use Rattle.std.proofs.Math.Seq.{take-append_seam}
 use Rattle.std.proofs.lemmas.List.{map-append}
 use Rattle.std.proofs.lemmas.List.Elements.{filter-append}
 use Rattle.depot_base.specs.declared.update.Update.{Update}
-use Rattle.depot_model.specs.Lists.{is_among}
-use Rattle.depot_model.specs.Receipts.{put_number, numbers_rising, gives_receipt, holders_in}
+use Rattle.depot_model.specs.lists.Lists.{is_among}
+use Rattle.depot_model.specs.worlds.Receipts.{put_number, numbers_rising, gives_receipt, holders_in}
 use Rattle.depot_queries.specs.GivenReceipts.{ids_given}
 use Rattle.depot_queries.specs.HolderLists.{holders_of}
 use Rattle.depot_queries.specs.Books.{IsBookOf}

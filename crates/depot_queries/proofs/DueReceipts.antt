@@ -11,17 +11,17 @@ use Rattle.depot_base.specs.declared.record.Record.{Record}
 use Rattle.depot_base.specs.declared.update.Update.{Update}
 use Rattle.depot_base.specs.declared.write.Write.{Write}
 use Rattle.depot_base.proofs.GeneralLaws.{same_test, take_next, parts_at, flat_push}
-use Rattle.depot_model.specs.Contents.{NamedValue, values_named}
-use Rattle.depot_model.specs.Items.{place_of_id}
-use Rattle.depot_model.specs.Journal.{accepted, has_id, holds}
-use Rattle.depot_model.specs.Lists.{IsIn}
-use Rattle.depot_model.specs.Order.{IsCausal}
-use Rattle.depot_model.specs.Receipts.{lacks_one, no_receipt, unknown, lacks_value}
-use Rattle.depot_model.specs.Texts.{id_of_update}
-use Rattle.depot_model.proofs.Elements.{in_at}
-use Rattle.depot_model.proofs.Members.{any_from, any_to, all-append}
-use Rattle.depot_model.proofs.NamedIds.{has_id_from, has_id_to}
-use Rattle.depot_model.proofs.Orders.{one_of_id}
+use Rattle.depot_model.specs.texts.Contents.{NamedValue, values_named}
+use Rattle.depot_model.specs.lists.Items.{place_of_id}
+use Rattle.depot_model.specs.journals.Journal.{accepted, has_id, holds}
+use Rattle.depot_model.specs.lists.Lists.{IsIn}
+use Rattle.depot_model.specs.updates.Order.{IsCausal}
+use Rattle.depot_model.specs.worlds.Receipts.{lacks_one, no_receipt, unknown, lacks_value}
+use Rattle.depot_model.specs.texts.Texts.{id_of_update}
+use Rattle.depot_model.proofs.lists.Elements.{in_at}
+use Rattle.depot_model.proofs.lists.Members.{any_from, any_to, all-append}
+use Rattle.depot_model.proofs.of_updates.NamedIds.{has_id_from, has_id_to}
+use Rattle.depot_model.proofs.of_updates.Orders.{one_of_id}
 use Rattle.depot_graph.proofs.ItemPlaces.{has_place, has_no_place}
 
 -- ---- the first that is found

@@ -17,12 +17,12 @@ use Rattle.depot_base.specs.declared.record.Record.TheVariants.{Birth, OwnPut, O
 use Rattle.depot_base.specs.declared.voucher.Voucher.{Voucher}
 use Rattle.depot_base.proofs.GeneralLaws.{or_none, take_next}
 use Rattle.depot_base.proofs.MembershipLaws.{from_contains, to_contains}
-use Rattle.depot_model.specs.Bundle.{records_where, convicts_other, proof_places, vouches_for, voucher_places}
-use Rattle.depot_model.specs.Journal.{accused}
-use Rattle.depot_model.specs.Lists.{IsIn, is_among}
-use Rattle.depot_model.specs.Vouching.{own_voucher_by}
-use Rattle.depot_model.proofs.Members.{all_from, among_from, among_to, any_from, any_to, chosen_behind, chosen_cases, chosen_front, in_last, in_left, in_parts, in_permuted}
-use Rattle.depot_model.proofs.RisingLists.{RisesByTest, one_rising}
+use Rattle.depot_model.specs.exchange.Bundle.{records_where, convicts_other, proof_places, vouches_for, voucher_places}
+use Rattle.depot_model.specs.journals.Journal.{accused}
+use Rattle.depot_model.specs.lists.Lists.{IsIn, is_among}
+use Rattle.depot_model.specs.checks.Vouching.{own_voucher_by}
+use Rattle.depot_model.proofs.lists.Members.{all_from, among_from, among_to, any_from, any_to, chosen_behind, chosen_cases, chosen_front, in_last, in_left, in_parts, in_permuted}
+use Rattle.depot_model.proofs.lists.RisingLists.{RisesByTest, one_rising}
 use Rattle.depot_readings.specs.FrontPlaces.{AddsPlaces, convictions_from, vouches, vouches_at}
 use Rattle.depot_readings.specs.declared.front_places.ConvictedAt.{ConvictedAt}
 use Rattle.depot_readings.proofs.FrontPlaceLaws.{at_passing, passing_at}

@@ -3,18 +3,18 @@ use Rattle.std.proofs.Common.{◌≡◌, ◌≢◌, ◌↔◌, ◌∙◌, ℕ, L
 use Rattle.std.proofs.lemmas.List.{take-append-drop}
 use Rattle.depot_base.specs.declared.record.Record.{Record}
 use Rattle.depot_base.specs.declared.write.Change.{Change}
-use Rattle.depot_model.specs.Putting.{Puts, IsPutCall}
+use Rattle.depot_model.specs.checks.Putting.{Puts, IsPutCall}
 use Rattle.depot_model.specs.declared.node_state.NodeState.{Ghosts}
-use Rattle.depot_model.proofs.JournalCallLaws.{renamed_call}
+use Rattle.depot_model.proofs.of_journals.JournalCallLaws.{renamed_call}
 use Rattle.depot_model.specs.declared.put_answers.PutDone.{PutDone}
 use Rattle.depot_model.specs.declared.put_answers.PutError.{PutError}
 use Rattle.depot_model.specs.declared.put_answers.PutError.TheVariants as put
-use Rattle.depot_model.specs.Checks.{Setting}
-use Rattle.depot_model.specs.Limits.{IsCutShort}
-use Rattle.depot_model.specs.Lists.{IsIn}
-use Rattle.depot_model.specs.Own.{next_own, write_of, values_of}
-use Rattle.depot_model.specs.Receipts.{receipt_key, AreReceiptsTrue, no_receipt, receipt_changes}
-use Rattle.depot_laws.proofs.TrueReceipts.{front_is_true, receipt_put_is_true}
+use Rattle.depot_model.specs.checks.Checks.{Setting}
+use Rattle.depot_model.specs.checks.Limits.{IsCutShort}
+use Rattle.depot_model.specs.lists.Lists.{IsIn}
+use Rattle.depot_model.specs.checks.Own.{next_own, write_of, values_of}
+use Rattle.depot_model.specs.worlds.Receipts.{receipt_key, AreReceiptsTrue, no_receipt, receipt_changes}
+use Rattle.depot_laws.proofs.of_audits.TrueReceipts.{front_is_true, receipt_put_is_true}
 use Rattle.depot_queries.specs.Giving.{AreReceiptsDue, IsReceiptCall, as_give, receipt_records}
 use Rattle.depot_queries.specs.declared.give_error.GiveError.{GiveError}
 use Rattle.depot_queries.specs.declared.give_error.GiveError.TheVariants as give

@@ -5,13 +5,13 @@ use Rattle.std.specs.Option.{option_to_list}
 use Rattle.depot_base.specs.declared.update.Update.{Update}
 use Rattle.depot_base.specs.declared.write.Write.{Write}
 use Rattle.depot_base.proofs.GeneralLaws.{same_test}
-use Rattle.depot_model.specs.Lists.{IsIn, is_among, when}
-use Rattle.depot_model.specs.ReadTests.{value_written}
-use Rattle.depot_model.specs.Receipts.{receipt_key, receipt_of, gives_receipt}
-use Rattle.depot_model.proofs.Members.{among_from, among_to, from_map}
-use Rattle.depot_laws.proofs.ReadTestLaws.{written_key}
-use Rattle.depot_laws.proofs.Splits.{flat_gives, given_by}
-use Rattle.depot_laws.proofs.TrueReceipts.{key_read, key_is}
+use Rattle.depot_model.specs.lists.Lists.{IsIn, is_among, when}
+use Rattle.depot_model.specs.worlds.ReadTests.{value_written}
+use Rattle.depot_model.specs.worlds.Receipts.{receipt_key, receipt_of, gives_receipt}
+use Rattle.depot_model.proofs.lists.Members.{among_from, among_to, from_map}
+use Rattle.depot_laws.proofs.of_audits.ReadTestLaws.{written_key}
+use Rattle.depot_laws.proofs.lists.Splits.{flat_gives, given_by}
+use Rattle.depot_laws.proofs.of_audits.TrueReceipts.{key_read, key_is}
 use Rattle.depot_queries.specs.GivenReceipts.{id_given, ids_given}
 
 one_listed : (o : Option (List ℕ)) (h : List ℕ) → IsIn h (option_to_list o) → o ≡ Some h

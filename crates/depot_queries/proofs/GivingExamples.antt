@@ -13,19 +13,19 @@ use Rattle.depot_base.specs.declared.statement.Statement.TheVariants as statemen
 use Rattle.depot_base.specs.declared.update.Update.{Update}
 use Rattle.depot_base.specs.declared.write.Write.{Write}
 use Rattle.depot_base.specs.declared.write.Wrote.TheVariants.{Put, Gone}
-use Rattle.depot_model.specs.Putting.{put_done_of}
+use Rattle.depot_model.specs.checks.Putting.{put_done_of}
 use Rattle.depot_model.specs.declared.put_answers.PutDone.{PutDone}
-use Rattle.depot_model.specs.Checks.{Setting}
-use Rattle.depot_model.specs.History.{leaves_of, put_by_id, by_id, history_text, history_hash}
-use Rattle.depot_model.specs.Journal.{has_id, holds, first_values, prev_of, named}
-use Rattle.depot_model.specs.Limits.{spent_by, tips_of, collides_by, limit_of_own, limit_of_put}
-use Rattle.depot_model.specs.Order.{past}
-use Rattle.depot_model.specs.Own.{precedes_named, next_entries, next_own, leaf_count}
-use Rattle.depot_model.specs.Receipts.{receipt_key, receipt_of, put_number, numbers_rising, no_receipt, lacks_value, receipt_changes}
-use Rattle.depot_model.specs.Records.{birth, own_put, tagged, record_text}
-use Rattle.depot_model.specs.Room.{foreign_leaves, full_with}
-use Rattle.depot_model.specs.Roster.{key_of}
-use Rattle.depot_model.specs.Texts.{update_fields, voucher_fields, update_body, voucher_body, statement, signed, id_of_update}
+use Rattle.depot_model.specs.checks.Checks.{Setting}
+use Rattle.depot_model.specs.updates.History.{leaves_of, put_by_id, by_id, history_text, history_hash}
+use Rattle.depot_model.specs.journals.Journal.{has_id, holds, first_values, prev_of, named}
+use Rattle.depot_model.specs.checks.Limits.{spent_by, tips_of, collides_by, limit_of_own, limit_of_put}
+use Rattle.depot_model.specs.updates.Order.{past}
+use Rattle.depot_model.specs.checks.Own.{precedes_named, next_entries, next_own, leaf_count}
+use Rattle.depot_model.specs.worlds.Receipts.{receipt_key, receipt_of, put_number, numbers_rising, no_receipt, lacks_value, receipt_changes}
+use Rattle.depot_model.specs.texts.Records.{birth, own_put, tagged, record_text}
+use Rattle.depot_model.specs.checks.Room.{foreign_leaves, full_with}
+use Rattle.depot_model.specs.texts.Roster.{key_of}
+use Rattle.depot_model.specs.texts.Texts.{update_fields, voucher_fields, update_body, voucher_body, statement, signed, id_of_update}
 use Rattle.depot_queries.specs.Books.{IsBookOf}
 use Rattle.depot_queries.specs.GivenReceipts.{ids_given}
 use Rattle.depot_queries.specs.Giving.{GivesReceipts, receipt_records}

@@ -4,8 +4,8 @@ use Rattle.std.proofs.lemmas.Bool.{eq-eqb, ne_eqb}
 use Rattle.std.specs.Prelude.{option_and_then}
 use Rattle.depot_base.specs.declared.record.Record.{Record}
 use Rattle.depot_base.specs.declared.update.NamedValue.{NamedValue}
-use Rattle.depot_model.specs.Journal.{held, value_with, held_as}
-use Rattle.depot_model.specs.Lists.{when}
+use Rattle.depot_model.specs.journals.Journal.{held, value_with, held_as}
+use Rattle.depot_model.specs.lists.Lists.{when}
 
 -- a value of the hash and of the length is that of the name
 pub held_is : (J : List Record) (n : NamedValue) (v : List ℕ) → Some v ≡ value_with n.hash (held J) → length v ≡ n.size → Some v ≡ held_as J n

@@ -11,8 +11,8 @@ use Rattle.std.proofs.lemmas.Bool.{lt-ltb, or_right}
 use Rattle.std.proofs.lemmas.Map.Text.{is_eq-slice_cmp}
 use Rattle.std.proofs.lemmas.Slice.Eq.{bytes_eq-Decides}
 use Rattle.depot_base.proofs.GeneralLaws.{bytes_eq_comm, take_next, any_push}
-use Rattle.depot_model.specs.Lists.{is_among}
-use Rattle.depot_model.specs.Receipts.{put_number}
+use Rattle.depot_model.specs.lists.Lists.{is_among}
+use Rattle.depot_model.specs.worlds.Receipts.{put_number}
 use Rattle.depot_queries.proofs.RisingPuts.{put_again}
 use Rattle.depot_queries.specs.RisingPlaces.{has_place_in, stands_in}
 

@@ -4,8 +4,8 @@ use Rattle.std.specs.Option.{SomeIff}
 use Rattle.std.specs.Prelude.{codes}
 use Rattle.std.specs.Str.{bytes_eq}
 use Rattle.std.proofs.lemmas.Bool.{and_left, and_right, eq-eqb, ne_eqb}
-use Rattle.depot_model.specs.Lists.{when}
-use Rattle.depot_model.specs.Receipts.{receipt_of}
+use Rattle.depot_model.specs.lists.Lists.{when}
+use Rattle.depot_model.specs.worlds.Receipts.{receipt_of}
 
 -- a key with another prefix is for no id
 pub other_front : (key : List ℕ) → bytes_eq (take 8 key) (codes "receipt:") ≡ false → None ≡ receipt_of key

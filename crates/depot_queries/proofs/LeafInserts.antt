@@ -13,24 +13,24 @@ use Rattle.std.proofs.lemmas.Map.Lookups.{exact_bytes}
 use Rattle.std.proofs.lemmas.Option.{slice_get-get_or}
 use Rattle.depot_base.specs.declared.record.Record.{Record}
 use Rattle.depot_base.specs.declared.update.Update.{Update}
-use Rattle.depot_model.specs.Bundle.{records_where}
+use Rattle.depot_model.specs.exchange.Bundle.{records_where}
 use Rattle.depot_model.specs.declared.hello.HelloLeaf.{HelloLeaf}
-use Rattle.depot_model.specs.Hello.{record_place, named_leaf, leaves_named}
-use Rattle.depot_model.specs.History.{is_lower, put_by_id, by_id, leaves_of}
-use Rattle.depot_model.specs.Items.{AreDistinct, AreLeaves, updates_at}
-use Rattle.depot_model.specs.Journal.{accepted, accepted_by, has_id}
-use Rattle.depot_model.specs.Lists.{IsIn, is_among}
-use Rattle.depot_model.specs.Order.{IsCausal}
-use Rattle.depot_model.specs.Texts.{id_of_update}
-use Rattle.depot_model.proofs.Elements.{in_at, of_place, one_more}
-use Rattle.depot_model.proofs.Members.{all_at, all_from, in_left, in_parts, in_right}
-use Rattle.depot_model.proofs.Orders.{fresh, causal_behind}
-use Rattle.depot_model.proofs.RisingLists.{HaveSame}
+use Rattle.depot_model.specs.exchange.Hello.{record_place, named_leaf, leaves_named}
+use Rattle.depot_model.specs.updates.History.{is_lower, put_by_id, by_id, leaves_of}
+use Rattle.depot_model.specs.lists.Items.{AreDistinct, AreLeaves, updates_at}
+use Rattle.depot_model.specs.journals.Journal.{accepted, accepted_by, has_id}
+use Rattle.depot_model.specs.lists.Lists.{IsIn, is_among}
+use Rattle.depot_model.specs.updates.Order.{IsCausal}
+use Rattle.depot_model.specs.texts.Texts.{id_of_update}
+use Rattle.depot_model.proofs.lists.Elements.{in_at, of_place, one_more}
+use Rattle.depot_model.proofs.lists.Members.{all_at, all_from, in_left, in_parts, in_right}
+use Rattle.depot_model.proofs.of_updates.Orders.{fresh, causal_behind}
+use Rattle.depot_model.proofs.lists.RisingLists.{HaveSame}
 use Rattle.depot_base.proofs.MembershipLaws.{in_read}
 use Rattle.depot_graph.specs.OrderLaws.{one_place}
-use Rattle.depot_laws.proofs.Causes.{none_or_one}
-use Rattle.depot_model.proofs.RisingUpdates.{HaveOwnIds, from_by_id, own_ids_filter, own_ids_from_causal, same_by_id}
-use Rattle.depot_model.proofs.NamedIds.{has_id_from, has_id_to}
+use Rattle.depot_laws.proofs.records.Causes.{none_or_one}
+use Rattle.depot_model.proofs.lists.RisingUpdates.{HaveOwnIds, from_by_id, own_ids_filter, own_ids_from_causal, same_by_id}
+use Rattle.depot_model.proofs.of_updates.NamedIds.{has_id_from, has_id_to}
 use Rattle.depot_readings.specs.Places.{accepts, accept_places}
 use Rattle.depot_graph.specs.PastLeaves.{updates_at_places}
 use Rattle.depot_graph.proofs.ChainLeaves.{leaf_within, leaves_stand}

@@ -7,11 +7,11 @@ use Rattle.depot_base.specs.Format.{number}
 use Rattle.depot_base.specs.declared.statement.Statement.TheVariants as statements
 use Rattle.depot_base.specs.declared.record.Record.{Record}
 use Rattle.depot_base.specs.declared.record.Record.TheVariants.{Birth, OwnPut, OwnVoucher, Foreign, Conviction, Held}
-use Rattle.depot_model.specs.Journal.{own_by}
-use Rattle.depot_model.specs.Records.{tagged, record_text, tag_of, text_of_record, IsTextOf}
-use Rattle.depot_model.specs.Texts.{text_of_statement}
-use Rattle.depot_model.proofs.BodyLaws.{text_of_statement-Update}
-use Rattle.depot_model.proofs.RecordLaws.{length_in_own_put, body_in_own_put, long_own_put, own_voucher_text}
+use Rattle.depot_model.specs.journals.Journal.{own_by}
+use Rattle.depot_model.specs.texts.Records.{tagged, record_text, tag_of, text_of_record, IsTextOf}
+use Rattle.depot_model.specs.texts.Texts.{text_of_statement}
+use Rattle.depot_model.proofs.of_texts.BodyLaws.{text_of_statement-Update}
+use Rattle.depot_model.proofs.of_texts.RecordLaws.{length_in_own_put, body_in_own_put, long_own_put, own_voucher_text}
 
 -- the text of a record is its tag and what follows
 record HasTag (r : Record) : Type 0 where

@@ -4,9 +4,9 @@ use Rattle.std.specs.Prelude.{slice_get}
 use Rattle.depot_base.specs.Writes.{wrote_under}
 use Rattle.depot_base.specs.declared.record.Record.{Record}
 use Rattle.depot_base.specs.declared.update.Update.{Update}
-use Rattle.depot_model.specs.Contents.{Writes}
-use Rattle.depot_model.specs.Journal.{accepted}
-use Rattle.depot_model.proofs.ContentLaws.{wrote_there}
+use Rattle.depot_model.specs.texts.Contents.{Writes}
+use Rattle.depot_model.specs.journals.Journal.{accepted}
+use Rattle.depot_model.proofs.of_texts.ContentLaws.{wrote_there}
 
 -- an update that writes the key says something of it
 pub says_nothing : (J : List Record) (key : List ℕ) (t : Update) (item : ℕ) → slice_get (accepted J) item ≡ Some t → ((u : Update) → slice_get (accepted J) item ≡ Some u → Writes key u) → None ≡ wrote_under key t.writes → ⊥

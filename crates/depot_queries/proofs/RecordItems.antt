@@ -10,9 +10,9 @@ use Rattle.std.proofs.lemmas.List.Sorted.{searched}
 use Rattle.std.proofs.lemmas.Option.{slice_get-get_or, slice_get_within}
 use Rattle.depot_base.specs.declared.record.Record.{Record}
 use Rattle.depot_base.specs.declared.update.Update.{Update}
-use Rattle.depot_model.specs.Bundle.{records_where}
-use Rattle.depot_model.specs.Journal.{accepted, accepted_at, accepted_by}
-use Rattle.depot_laws.proofs.Causes.{none_or_one}
+use Rattle.depot_model.specs.exchange.Bundle.{records_where}
+use Rattle.depot_model.specs.journals.Journal.{accepted, accepted_at, accepted_by}
+use Rattle.depot_laws.proofs.records.Causes.{none_or_one}
 use Rattle.depot_readings.specs.Places.{accepts, accept_places}
 use Rattle.depot_queries.specs.ItemPlaces.{IsItemAt}
 

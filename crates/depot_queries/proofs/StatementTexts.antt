@@ -14,22 +14,22 @@ use Rattle.depot_base.specs.declared.statement.Statement.TheVariants as statemen
 use Rattle.depot_base.specs.declared.statement.Signed.{Signed}
 use Rattle.depot_base.specs.declared.record.Record.{Record}
 use Rattle.depot_base.specs.declared.record.Record.TheVariants.{Birth, OwnPut, OwnVoucher, Foreign, Conviction, Held}
-use Rattle.depot_model.specs.Bundle.{Signs, signed_by, signed_with}
-use Rattle.depot_model.specs.Checks.{Setting}
-use Rattle.depot_model.specs.Journal.{own, own_by}
-use Rattle.depot_model.specs.Lawful.{MayFollow, IsLawful}
-use Rattle.depot_model.specs.Lists.{IsIn}
-use Rattle.depot_model.specs.Own.{leaf_count}
+use Rattle.depot_model.specs.exchange.Bundle.{Signs, signed_by, signed_with}
+use Rattle.depot_model.specs.checks.Checks.{Setting}
+use Rattle.depot_model.specs.journals.Journal.{own, own_by}
+use Rattle.depot_model.specs.journals.Lawful.{MayFollow, IsLawful}
+use Rattle.depot_model.specs.lists.Lists.{IsIn}
+use Rattle.depot_model.specs.checks.Own.{leaf_count}
 use Rattle.depot_base.specs.Cursor.{numeral}
 use Rattle.depot_base.specs.Format.{number}
-use Rattle.depot_model.specs.Records.{record_text, tagged, text_of_record, IsTextOf}
-use Rattle.depot_model.specs.Roster.{key_of}
-use Rattle.depot_model.specs.Texts.{statement, update_fields, voucher_fields, IsStatement, text_of_statement, text_of_signed}
-use Rattle.depot_model.proofs.Elements.{in_at}
-use Rattle.depot_model.proofs.LogLaws.{told-numeral}
-use Rattle.depot_laws.proofs.Nexts.{next_of}
-use Rattle.depot_laws.proofs.OwnTexts.{own_statement_fits}
-use Rattle.depot_laws.proofs.Splits.{flat_gives, lawful_texts}
+use Rattle.depot_model.specs.texts.Records.{record_text, tagged, text_of_record, IsTextOf}
+use Rattle.depot_model.specs.texts.Roster.{key_of}
+use Rattle.depot_model.specs.texts.Texts.{statement, update_fields, voucher_fields, IsStatement, text_of_statement, text_of_signed}
+use Rattle.depot_model.proofs.lists.Elements.{in_at}
+use Rattle.depot_model.proofs.of_texts.LogLaws.{told-numeral}
+use Rattle.depot_laws.proofs.own_updates.Nexts.{next_of}
+use Rattle.depot_laws.proofs.own_updates.OwnTexts.{own_statement_fits}
+use Rattle.depot_laws.proofs.lists.Splits.{flat_gives, lawful_texts}
 use Rattle.depot_queries.specs.SignedRecords.{IsLeafText, IsSignable, IsSignedTextOf}
 use Rattle.depot_base.proofs.CallLaws.{numeral_long}
 use Rattle.depot_base.proofs.GeneralLaws.{parts_at}

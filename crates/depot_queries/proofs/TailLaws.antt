@@ -8,11 +8,11 @@ use Rattle.std.proofs.lemmas.Option.{slice_get-get_or, slice_get_within}
 use Rattle.depot_base.specs.declared.update.Update.{Update}
 use Rattle.depot_base.proofs.GeneralLaws.{at_place}
 use Rattle.depot_base.proofs.MembershipLaws.{to_contains}
-use Rattle.depot_model.specs.Bundle.{is_candidate, is_covered}
-use Rattle.depot_model.specs.Items.{place_of_prev, places_of}
-use Rattle.depot_model.specs.Lists.{IsIn}
-use Rattle.depot_model.specs.Order.{IsCausal}
-use Rattle.depot_model.proofs.Members.{all_push, in_last, in_left}
+use Rattle.depot_model.specs.exchange.Bundle.{is_candidate, is_covered}
+use Rattle.depot_model.specs.lists.Items.{place_of_prev, places_of}
+use Rattle.depot_model.specs.lists.Lists.{IsIn}
+use Rattle.depot_model.specs.updates.Order.{IsCausal}
+use Rattle.depot_model.proofs.lists.Members.{all_push, in_last, in_left}
 use Rattle.depot_order.specs.declared.chains.Spot.{Spot}
 use Rattle.depot_order.specs.Spots.{IsSpotAt, IsTip, spots}
 use Rattle.depot_order.proofs.Placing.{all_placed, tip_is_highest}

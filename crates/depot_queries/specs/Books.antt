@@ -1,7 +1,7 @@
 -- What a book has read, and what it knows.
 use Rattle.std.specs.Prelude.{◌≡◌, ℕ, List, length}
 use Rattle.depot_base.specs.declared.update.Update.{Update}
-use Rattle.depot_model.specs.Receipts.{holders_in}
+use Rattle.depot_model.specs.worlds.Receipts.{holders_in}
 use Rattle.depot_queries.specs.HolderLists.{holders_of}
 use Rattle.depot_queries.specs.declared.book.Book.{Book}
 

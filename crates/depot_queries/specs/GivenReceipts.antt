@@ -3,9 +3,9 @@ use Rattle.std.specs.Prelude.{List, ℕ, Option, option_and_then, is_some}
 use Rattle.std.specs.List.{flat_map}
 use Rattle.std.specs.Option.{option_to_list}
 use Rattle.depot_base.specs.declared.update.Update.{Update}
-use Rattle.depot_model.specs.Lists.{when}
-use Rattle.depot_model.specs.ReadTests.{value_written}
-use Rattle.depot_model.specs.Receipts.{receipt_of}
+use Rattle.depot_model.specs.lists.Lists.{when}
+use Rattle.depot_model.specs.worlds.ReadTests.{value_written}
+use Rattle.depot_model.specs.worlds.Receipts.{receipt_of}
 
 -- the id for which an update gives a receipt under this key, where it does
 abbrev pub id_given : Update → List ℕ → Option (List ℕ)

@@ -2,10 +2,10 @@
 use Rattle.std.specs.Prelude.{◌≡◌, ◌≢◌, List, ℕ, Some, None, Result, Ok, Err, IsErrOf, IsErrAnd}
 use Rattle.depot_base.specs.declared.write.Change.{Change}
 use Rattle.depot_base.specs.declared.record.Record.{Record}
-use Rattle.depot_model.specs.Checks.{Setting}
-use Rattle.depot_model.specs.Receipts.{receipt_changes, no_receipt, unknown, lacks_value}
-use Rattle.depot_model.specs.Putting.{Puts, put_records}
-use Rattle.depot_model.specs.Replicas.{IsNodeCall}
+use Rattle.depot_model.specs.checks.Checks.{Setting}
+use Rattle.depot_model.specs.worlds.Receipts.{receipt_changes, no_receipt, unknown, lacks_value}
+use Rattle.depot_model.specs.checks.Putting.{Puts, put_records}
+use Rattle.depot_model.specs.journals.Replicas.{IsNodeCall}
 use Rattle.depot_model.specs.declared.node_state.NodeState.{Ghosts}
 use Rattle.depot_model.specs.declared.put_answers.PutDone.{PutDone}
 use Rattle.depot_model.specs.declared.put_answers.PutError.{PutError}

@@ -1,7 +1,7 @@
 -- The own vouchers that name some of a list of ids, by place.
 use Rattle.std.specs.Prelude.{◌≡◌, ℕ, List, true}
 use Rattle.depot_base.specs.declared.record.Record.{Record}
-use Rattle.depot_model.specs.Lists.{IsIn}
+use Rattle.depot_model.specs.lists.Lists.{IsIn}
 use Rattle.depot_readings.specs.FrontPlaces.{vouches_at}
 
 -- These are the places of the own vouchers that name one of these ids.

@@ -4,9 +4,9 @@ use Rattle.std.specs.Prelude.{◌≡◌, ℕ, List, [], ◌∷◌, Bool, Option,
 use Rattle.depot_base.specs.declared.record.Record.{Record}
 use Rattle.depot_base.specs.declared.update.Update.{Update}
 use Rattle.depot_model.specs.declared.hello.HelloLeaf.{HelloLeaf}
-use Rattle.depot_model.specs.Hello.{record_place}
-use Rattle.depot_model.specs.Journal.{accepted, accepted_at}
-use Rattle.depot_model.specs.Texts.{id_of_update}
+use Rattle.depot_model.specs.exchange.Hello.{record_place}
+use Rattle.depot_model.specs.journals.Journal.{accepted, accepted_at}
+use Rattle.depot_model.specs.texts.Texts.{id_of_update}
 use Rattle.depot_queries.specs.declared.leaf_order.OrderedLeaf.{OrderedLeaf}
 
 -- the numbers that belong to the updates that pass a test

@@ -2,8 +2,8 @@
 use Rattle.std.specs.Prelude.{◌≡◌, ℕ, List, Option, Some, None, slice_get}
 use Rattle.depot_base.specs.declared.record.Record.{Record}
 use Rattle.depot_base.specs.declared.update.Update.{Update}
-use Rattle.depot_model.specs.Contents.{Sighting, held_value, not_held, gone}
-use Rattle.depot_model.specs.Journal.{accepted, seen_under}
+use Rattle.depot_model.specs.texts.Contents.{Sighting, held_value, not_held, gone}
+use Rattle.depot_model.specs.journals.Journal.{accepted, seen_under}
 
 -- the held value; none of a deletion, and none where it isn't held
 abbrev pub value_seen : Sighting → Option (List ℕ)

@@ -4,11 +4,11 @@ use Rattle.depot_base.specs.Statement.{seq_of}
 use Rattle.depot_base.specs.declared.key.PublicKey.{PublicKey}
 use Rattle.depot_base.specs.declared.record.Record.{Record}
 use Rattle.depot_base.specs.declared.statement.Statement.{Statement}
-use Rattle.depot_model.specs.Bundle.{Signs, signed_by}
-use Rattle.depot_model.specs.Lists.{IsIn}
-use Rattle.depot_model.specs.Journal.{own_by}
-use Rattle.depot_model.specs.Texts.{IsStatement, text_of_statement, text_of_signed}
-use Rattle.depot_model.specs.Records.{IsTextOf}
+use Rattle.depot_model.specs.exchange.Bundle.{Signs, signed_by}
+use Rattle.depot_model.specs.lists.Lists.{IsIn}
+use Rattle.depot_model.specs.journals.Journal.{own_by}
+use Rattle.depot_model.specs.texts.Texts.{IsStatement, text_of_statement, text_of_signed}
+use Rattle.depot_model.specs.texts.Records.{IsTextOf}
 
 -- The text is the body of this statement, and one of the key's leaves signs it.
 pub record IsLeafText (key : PublicKey) (s : Statement) (text : List ℕ) : Type 0 where

@@ -2,9 +2,9 @@
 use Rattle.std.specs.Prelude.{◌≡◌, ℕ, List, ◌<◌, ◌≤◌, Bool, Some, length, slice_get, slice_index}
 use Rattle.std.specs.List.{AllByRecursion}
 use Rattle.depot_base.specs.declared.update.Update.{Update}
-use Rattle.depot_model.specs.Bundle.{is_candidate}
-use Rattle.depot_model.specs.Items.{places_of}
-use Rattle.depot_model.specs.Lists.{IsIn}
+use Rattle.depot_model.specs.exchange.Bundle.{is_candidate}
+use Rattle.depot_model.specs.lists.Items.{places_of}
+use Rattle.depot_model.specs.lists.Lists.{IsIn}
 use Rattle.depot_order.specs.Spots.{IsSpotAt}
 use Rattle.depot_graph.specs.Kept.{prev_places}
 use Rattle.depot_graph.specs.UpdateRows.{IsJoinedRow}

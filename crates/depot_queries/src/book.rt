@@ -1,7 +1,7 @@
 //! Who gave receipts for which update, among the updates of a graph.
 ghost use Rattle.std.specs.Prelude.{◌≡◌, ◌≤◌, ◌<◌, ◌↔◌, List, [], ◌∷◌, ◌++◌, length, take, IsTrue, OnOk, OnErr};
 ghost use Rattle.depot_base.specs.declared.update.Update.{Update};
-ghost use Rattle.depot_model.specs.Receipts.{holders_in};
+ghost use Rattle.depot_model.specs.worlds.Receipts.{holders_in};
 
 use crate::given::ids_given;
 use crate::holders::Holders;

@@ -2,8 +2,8 @@
 ghost use Rattle.std.specs.Prelude.{◌≡◌, ◌<◌, length, IfOk};
 ghost use Rattle.std.specs.List.{AllByRecursion};
 ghost use Rattle.std.specs.List.Sorted.{IsNonDecreasing};
-ghost use Rattle.depot_model.specs.Items.{places_of};
-ghost use Rattle.depot_model.specs.Bundle.{candidate_places};
+ghost use Rattle.depot_model.specs.lists.Items.{places_of};
+ghost use Rattle.depot_model.specs.exchange.Bundle.{candidate_places};
 ghost use Rattle.depot_order.specs.Spots.{chain_count};
 ghost use Rattle.depot_graph.specs.Kept.{prev_places};
 ghost use Rattle.depot_queries.specs.Tails.{ArePlacesLacked, HoldsBehind, IsLackedAt};

@@ -1,6 +1,6 @@
 //! The nodes that a node has convicted.
 ghost use Rattle.std.specs.Prelude.{◌≡◌, IfOk};
-ghost use Rattle.depot_model.specs.Hello.{convicted_nodes};
+ghost use Rattle.depot_model.specs.exchange.Hello.{convicted_nodes};
 ghost use Rattle.depot_readings.specs.ReadingsView.{standing};
 
 use depot_base::{Memory, Nodes};

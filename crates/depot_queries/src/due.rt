@@ -2,8 +2,8 @@
 ghost use Rattle.std.specs.Prelude.{◌≡◌, IfOk, false, not, find};
 ghost use Rattle.std.specs.List.{list_all};
 ghost use Rattle.depot_base.specs.Writes.{value_in, values_in};
-ghost use Rattle.depot_model.specs.Journal.{accepted, has_id, holds};
-ghost use Rattle.depot_model.specs.Receipts.{lacks_one, receipt_changes};
+ghost use Rattle.depot_model.specs.journals.Journal.{accepted, has_id, holds};
+ghost use Rattle.depot_model.specs.worlds.Receipts.{lacks_one, receipt_changes};
 ghost use Rattle.depot_queries.specs.Giving.{AreReceiptsDue};
 
 use crate::give_error::GiveError;

@@ -1,6 +1,6 @@
 //! The receipts that an update gives.
 ghost use Rattle.std.specs.Prelude.{◌≡◌, IfOk, true, is_some};
-ghost use Rattle.depot_model.specs.ReadTests.{value_written};
+ghost use Rattle.depot_model.specs.worlds.ReadTests.{value_written};
 ghost use Rattle.depot_queries.specs.GivenReceipts.{id_given, ids_given};
 
 use crate::keys::receipt_of;

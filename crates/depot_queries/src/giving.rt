@@ -3,7 +3,7 @@ ghost use Rattle.std.specs.Prelude.{◌≡◌, ◌≤◌, length, true};
 ghost use Rattle.depot_base.specs.Pairs.{AllPairsByRecursion};
 ghost use Rattle.depot_base.specs.Parts.{is_below};
 ghost use Rattle.depot_base.specs.declared.limits.TheConstants.{MOST_WRITES};
-ghost use Rattle.depot_model.specs.Receipts.{AreReceiptsTrue};
+ghost use Rattle.depot_model.specs.worlds.Receipts.{AreReceiptsTrue};
 ghost use Rattle.depot_queries.specs.Giving.{GivesReceipts, IsReceiptCall, as_give, as_give_error};
 
 use crate::LocalNode;

@@ -1,6 +1,6 @@
 //! Held values by the names that writes give them.
 ghost use Rattle.std.specs.Prelude.{◌≡◌, option_copied};
-ghost use Rattle.depot_model.specs.Journal.{held_as};
+ghost use Rattle.depot_model.specs.journals.Journal.{held_as};
 
 use depot_base::NamedValue;
 use depot_model::Scheme;

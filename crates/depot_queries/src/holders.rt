@@ -2,8 +2,8 @@
 ghost use Rattle.std.specs.Prelude.{◌≡◌, ℕ, List, [], true, false, OnOk, if◌then◌else◌};
 ghost use Rattle.std.specs.List.{AllByRecursion};
 ghost use Rattle.std.specs.Str.{bytes_eq};
-ghost use Rattle.depot_model.specs.Lists.{is_among};
-ghost use Rattle.depot_model.specs.Receipts.{put_number};
+ghost use Rattle.depot_model.specs.lists.Lists.{is_among};
+ghost use Rattle.depot_model.specs.worlds.Receipts.{put_number};
 
 use crate::rising::{put_among, stands_in};
 use depot_base::{Hash32, Memory, NodeId};

@@ -1,7 +1,7 @@
 //! The records that a bundle begins with: proofs, and own vouchers for what it sends.
 ghost use Rattle.std.specs.Prelude.{◌≡◌, ◌==◌, IfOk};
 ghost use Rattle.std.specs.List.{list_any};
-ghost use Rattle.depot_model.specs.Bundle.{proof_places, voucher_places};
+ghost use Rattle.depot_model.specs.exchange.Bundle.{proof_places, voucher_places};
 ghost use Rattle.depot_queries.specs.InFront.{AreVoucherPlaces};
 
 use depot_base::{Hash32, Ids, Items, Memory, NodeId, Nodes};

@@ -1,6 +1,6 @@
 //! The keys of receipts.
 ghost use Rattle.std.specs.Prelude.{◌≡◌, IfOk};
-ghost use Rattle.depot_model.specs.Receipts.{receipt_key, receipt_of};
+ghost use Rattle.depot_model.specs.worlds.Receipts.{receipt_key, receipt_of};
 
 use depot_base::{Bytes, Hash32, Key, Memory};
 use std::alloc::Global;
@@ -9,7 +9,7 @@ use std::alloc::Global;
 const FRONT: &[u8; 8] = b"receipt:";
 
 /// Returns the key of a receipt for an id: the 8 bytes `receipt:`, then the 32 bytes of the id.
-#[tactic(auto, unfolding(depot_model::specs::Receipts::receipt_key))]
+#[tactic(auto, unfolding(depot_model::specs::worlds::Receipts::receipt_key))]
 pub fn receipt_key(alloc: Global, id: &Hash32) -> Result<Key, Memory>
     ensures { IfOk result (λ key. key ≡ receipt_key id.now) }
 {

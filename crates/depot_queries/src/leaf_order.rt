@@ -1,10 +1,10 @@
 //! The leaves of what a node accepted.
 ghost use Rattle.std.specs.Prelude.{◌≡◌, ◌<◌, length, map, IfOk};
-ghost use Rattle.depot_model.specs.Hello.{leaves_named};
-ghost use Rattle.depot_model.specs.History.{by_id, leaves_of};
-ghost use Rattle.depot_model.specs.Items.{at};
-ghost use Rattle.depot_model.specs.Texts.{id_of_update};
-ghost use Rattle.depot_model.specs.Journal.{accepted};
+ghost use Rattle.depot_model.specs.exchange.Hello.{leaves_named};
+ghost use Rattle.depot_model.specs.updates.History.{by_id, leaves_of};
+ghost use Rattle.depot_model.specs.lists.Items.{at};
+ghost use Rattle.depot_model.specs.texts.Texts.{id_of_update};
+ghost use Rattle.depot_model.specs.journals.Journal.{accepted};
 ghost use Rattle.depot_queries.specs.ItemPlaces.{leaf_with_place, name_of};
 
 use depot_base::{Hash32, Memory, NodeId};

@@ -5,10 +5,10 @@ ghost use Rattle.depot_base.specs.Parts.{is_below};
 ghost use Rattle.depot_base.specs.Writes.{one_change};
 ghost use Rattle.depot_base.specs.declared.update.Update.{Update};
 ghost use Rattle.depot_base.specs.declared.limits.TheConstants.{MOST_WRITES};
-ghost use Rattle.depot_model.specs.Contents.{Writes};
-ghost use Rattle.depot_model.specs.Journal.{accepted, held_as, own};
-ghost use Rattle.depot_model.specs.Own.{leaf_count};
-ghost use Rattle.depot_model.specs.Putting.{IsPutCall, Puts};
+ghost use Rattle.depot_model.specs.texts.Contents.{Writes};
+ghost use Rattle.depot_model.specs.journals.Journal.{accepted, held_as, own};
+ghost use Rattle.depot_model.specs.checks.Own.{leaf_count};
+ghost use Rattle.depot_model.specs.checks.Putting.{IsPutCall, Puts};
 ghost use Rattle.depot_readings.specs.Counts.{AreCountsOf};
 ghost use Rattle.depot_queries.specs.ShownValues.{IsWrittenAt};
 

@@ -1,7 +1,7 @@
 //! The update that the record of a place accepts.
 ghost use Rattle.std.specs.Prelude.{◌≡◌, map, option_copied, option_to_list};
-ghost use Rattle.depot_model.specs.Journal.{accepted_at};
-ghost use Rattle.depot_model.specs.Texts.{id_of_update};
+ghost use Rattle.depot_model.specs.journals.Journal.{accepted_at};
+ghost use Rattle.depot_model.specs.texts.Texts.{id_of_update};
 ghost use Rattle.depot_queries.specs.ItemPlaces.{IsItemAt};
 
 use depot_base::{Hash32, Update};

@@ -4,10 +4,10 @@ ghost use Rattle.std.specs.Int.{w32, from_be_bytes};
 ghost use Rattle.depot_base.specs.declared.limits.TheConstants.{MOST_BODY, MOST_SIGNATURE};
 ghost use Rattle.depot_base.specs.declared.record.Record.{Record};
 ghost use Rattle.depot_base.specs.declared.statement.Statement.{Statement};
-ghost use Rattle.depot_model.specs.Bundle.{signed_with};
-ghost use Rattle.depot_model.specs.Journal.{own_by};
-ghost use Rattle.depot_model.specs.Texts.{IsStatement, text_of_statement, text_of_signed};
-ghost use Rattle.depot_model.specs.Records.{IsTextOf};
+ghost use Rattle.depot_model.specs.exchange.Bundle.{signed_with};
+ghost use Rattle.depot_model.specs.journals.Journal.{own_by};
+ghost use Rattle.depot_model.specs.texts.Texts.{IsStatement, text_of_statement, text_of_signed};
+ghost use Rattle.depot_model.specs.texts.Records.{IsTextOf};
 ghost use Rattle.depot_queries.specs.SignedRecords.{IsLeafText, IsSignable, IsSignedTextOf};
 
 use depot_base::{Bytes, Memory, RecordTag};
@@ -74,7 +74,7 @@ fn seq_in(body: &[u8]) -> u32
 
 /// The text of the signed statement with this body and this signature, each after its length. Its memory is reserved
 /// first.
-#[tactic(auto, using(depot_base::proofs::Writing::texts), unfolding(depot_model::specs::Texts::signed, depot_base::specs::Format::number, depot_base::specs::Format::bytes_of))]
+#[tactic(auto, using(depot_base::proofs::Writing::texts), unfolding(depot_model::specs::texts::Texts::signed, depot_base::specs::Format::number, depot_base::specs::Format::bytes_of))]
 fn write_signed(alloc: Global, body: &[u8], signature: &[u8]) -> Result<Bytes, Memory>
     requires body { length body.now ≤ MOST_BODY }
     requires signature { length signature.now ≤ MOST_SIGNATURE }

@@ -12,12 +12,12 @@ use Rattle.std.specs.Str.{bytes_eq}
 use Rattle.std.specs.declared.cmp.Ordering.{Ordering}
 use Rattle.std.specs.declared.cmp.Ordering.TheVariants.{Less, Equal, Greater}
 use Rattle.depot_base.specs.Parts.{is_below}
-use Rattle.depot_model.specs.Vouching.{put_rising, rising}
+use Rattle.depot_model.specs.checks.Vouching.{put_rising, rising}
 use Rattle.depot_base.specs.declared.update.Update.{Update}
 use Rattle.depot_base.specs.declared.write.Write.{Write}
-use Rattle.depot_model.specs.Contents.{keys_written}
-use Rattle.depot_model.proofs.Elements.{from_place}
-use Rattle.depot_model.proofs.RisingIds.{insert_put}
+use Rattle.depot_model.specs.texts.Contents.{keys_written}
+use Rattle.depot_model.proofs.lists.Elements.{from_place}
+use Rattle.depot_model.proofs.lists.RisingIds.{insert_put}
 use Rattle.depot_questions.specs.Answers.{is_key_above, key_page}
 use Rattle.depot_questions.specs.LeastKeys.{least_of}
 use Rattle.depot_questions.proofs.ToldUpdates.{same_below}

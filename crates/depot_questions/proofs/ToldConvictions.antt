@@ -15,13 +15,13 @@ use Rattle.depot_base.specs.declared.record.Record.TheVariants.{Birth, OwnPut, O
 use Rattle.depot_base.specs.Cursor.{numeral}
 use Rattle.depot_base.specs.Format.{number}
 use Rattle.depot_base.proofs.GeneralLaws.{parts_at}
-use Rattle.depot_laws.proofs.LawfulRecords.{IsProof-from_record}
-use Rattle.depot_model.specs.Bundle.{convicts_other, records_where}
-use Rattle.depot_model.specs.Checks.{Setting}
-use Rattle.depot_model.specs.Contents.{accused}
-use Rattle.depot_model.specs.Lawful.{IsLawful}
-use Rattle.depot_model.specs.Records.{IsRecord, record_text, tagged, text_of_record}
-use Rattle.depot_model.specs.Texts.{IsProof, text_of_proof}
+use Rattle.depot_laws.proofs.records.LawfulRecords.{IsProof-from_record}
+use Rattle.depot_model.specs.exchange.Bundle.{convicts_other, records_where}
+use Rattle.depot_model.specs.checks.Checks.{Setting}
+use Rattle.depot_model.specs.texts.Contents.{accused}
+use Rattle.depot_model.specs.journals.Lawful.{IsLawful}
+use Rattle.depot_model.specs.texts.Records.{IsRecord, record_text, tagged, text_of_record}
+use Rattle.depot_model.specs.texts.Texts.{IsProof, text_of_proof}
 use Rattle.depot_questions.specs.AddedConvictions.{AddsConviction, HasNoSpace, convictions_of}
 use Rattle.depot_questions.specs.Answers.{bytes_of_conviction, conviction_by, conviction_page, conviction_told, convictions_within}
 use Rattle.depot_questions.specs.declared.question_answer.ConvictionAt.{ConvictionAt}

@@ -6,18 +6,18 @@ use Rattle.std.specs.Prelude.{slice_get}
 use Rattle.depot_base.specs.declared.record.Record.{Record}
 use Rattle.depot_base.specs.declared.update.Update.{Update}
 use Rattle.depot_base.proofs.GeneralLaws.{flat_push, same_at}
-use Rattle.depot_laws.proofs.Causes.{lawful_is_causal}
-use Rattle.depot_model.specs.Checks.{Setting}
-use Rattle.depot_model.specs.Items.{at, updates_at}
-use Rattle.depot_model.specs.Journal.{accepted}
-use Rattle.depot_model.specs.LatestList.{latest_in}
-use Rattle.depot_model.specs.Lawful.{IsLawful}
-use Rattle.depot_model.specs.Lists.{IsIn}
-use Rattle.depot_model.specs.Order.{AreLatestIn, Precedes}
-use Rattle.depot_model.specs.Texts.{id_of_update}
-use Rattle.depot_model.proofs.Elements.{one_more}
-use Rattle.depot_model.proofs.LatestLaws.{one_latest_list}
-use Rattle.depot_model.proofs.LatestWrites.{latest_are_listed}
+use Rattle.depot_laws.proofs.records.Causes.{lawful_is_causal}
+use Rattle.depot_model.specs.checks.Checks.{Setting}
+use Rattle.depot_model.specs.lists.Items.{at, updates_at}
+use Rattle.depot_model.specs.journals.Journal.{accepted}
+use Rattle.depot_model.specs.updates.LatestList.{latest_in}
+use Rattle.depot_model.specs.journals.Lawful.{IsLawful}
+use Rattle.depot_model.specs.lists.Lists.{IsIn}
+use Rattle.depot_model.specs.updates.Order.{AreLatestIn, Precedes}
+use Rattle.depot_model.specs.texts.Texts.{id_of_update}
+use Rattle.depot_model.proofs.lists.Elements.{one_more}
+use Rattle.depot_model.proofs.of_updates.LatestLaws.{one_latest_list}
+use Rattle.depot_model.proofs.of_updates.LatestWrites.{latest_are_listed}
 use Rattle.depot_questions.specs.Answers.{latest_told, write_told}
 use Rattle.depot_questions.specs.declared.question_answer.LatestWrite.{LatestWrite}
 

@@ -7,9 +7,9 @@ use Rattle.std.proofs.lemmas.Bool.{lt-ltb, ltb-true, ltb-false}
 use Rattle.std.proofs.lemmas.List.{map-append, take_all}
 use Rattle.depot_base.specs.declared.update.Update.{Update}
 use Rattle.depot_base.proofs.GeneralLaws.{same_test}
-use Rattle.depot_model.specs.Items.{place_of_id}
-use Rattle.depot_model.specs.Journal.{has_id}
-use Rattle.depot_model.specs.Texts.{id_of_update}
+use Rattle.depot_model.specs.lists.Items.{place_of_id}
+use Rattle.depot_model.specs.journals.Journal.{has_id}
+use Rattle.depot_model.specs.texts.Texts.{id_of_update}
 use Rattle.depot_questions.specs.Answers.{update_keys, update_page}
 use Rattle.depot_questions.specs.declared.question_answer.UpdateKeys.{UpdateKeys}
 

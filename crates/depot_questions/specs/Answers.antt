@@ -9,18 +9,18 @@ use Rattle.depot_base.specs.declared.update.NamedValue.{NamedValue}
 use Rattle.depot_base.specs.declared.update.Update.{Update}
 use Rattle.depot_base.specs.declared.write.Wrote.{Wrote}
 use Rattle.depot_base.specs.declared.write.Wrote.TheVariants.{Put, Gone}
-use Rattle.depot_model.specs.Bundle.{proof_places}
-use Rattle.depot_model.specs.Checks.{Setting}
-use Rattle.depot_model.specs.Contents.{accused, keys_written}
-use Rattle.depot_model.specs.Hello.{convicted_nodes}
-use Rattle.depot_model.specs.Items.{place_of_id}
-use Rattle.depot_model.specs.Journal.{accepted, has_id, held_as, own, proof_by}
-use Rattle.depot_model.specs.LatestList.{latest_in}
-use Rattle.depot_model.specs.Own.{leaf_count}
-use Rattle.depot_model.specs.Records.{journal_bytes}
-use Rattle.depot_model.specs.Room.{foreign_leaves}
-use Rattle.depot_model.specs.Texts.{hash_of_roster, id_of_update, text_of_proof}
-use Rattle.depot_model.specs.Vouching.{rising}
+use Rattle.depot_model.specs.exchange.Bundle.{proof_places}
+use Rattle.depot_model.specs.checks.Checks.{Setting}
+use Rattle.depot_model.specs.texts.Contents.{accused, keys_written}
+use Rattle.depot_model.specs.exchange.Hello.{convicted_nodes}
+use Rattle.depot_model.specs.lists.Items.{place_of_id}
+use Rattle.depot_model.specs.journals.Journal.{accepted, has_id, held_as, own, proof_by}
+use Rattle.depot_model.specs.updates.LatestList.{latest_in}
+use Rattle.depot_model.specs.checks.Own.{leaf_count}
+use Rattle.depot_model.specs.texts.Records.{journal_bytes}
+use Rattle.depot_model.specs.checks.Room.{foreign_leaves}
+use Rattle.depot_model.specs.texts.Texts.{hash_of_roster, id_of_update, text_of_proof}
+use Rattle.depot_model.specs.checks.Vouching.{rising}
 use Rattle.depot_questions.specs.declared.limits.TheConstants.{MOST_KEYS_TOLD, MOST_PROOFS_TOLD, MOST_UPDATES_TOLD}
 use Rattle.depot_questions.specs.declared.question.Question.{Question}
 use Rattle.depot_questions.specs.declared.question.Question.TheVariants as question

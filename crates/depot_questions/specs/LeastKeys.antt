@@ -1,6 +1,6 @@
 -- The least of keys.
 use Rattle.std.specs.Prelude.{◌≡◌, ℕ, ◌+◌, ◌++◌, List, filter, take, Option}
-use Rattle.depot_model.specs.Vouching.{rising}
+use Rattle.depot_model.specs.checks.Vouching.{rising}
 use Rattle.depot_questions.specs.Answers.{is_key_above}
 use Rattle.depot_questions.specs.declared.limits.TheConstants.{MOST_KEYS_TOLD}
 

@@ -3,9 +3,9 @@ ghost use Rattle.std.specs.Prelude.{◌≡◌, ◌∷◌, [], drop, true, false,
 ghost use Rattle.std.specs.List.{AllByRecursion};
 ghost use Rattle.depot_base.specs.declared.proof.Proof.{Proof};
 ghost use Rattle.depot_base.specs.declared.record.Record.{Record};
-ghost use Rattle.depot_model.specs.Bundle.{convicts_other};
-ghost use Rattle.depot_model.specs.Contents.{accused};
-ghost use Rattle.depot_model.specs.Texts.{IsProof, text_of_proof};
+ghost use Rattle.depot_model.specs.exchange.Bundle.{convicts_other};
+ghost use Rattle.depot_model.specs.texts.Contents.{accused};
+ghost use Rattle.depot_model.specs.texts.Texts.{IsProof, text_of_proof};
 ghost use Rattle.depot_questions.specs.AddedConvictions.{AddsConviction, convictions_of};
 ghost use Rattle.depot_questions.specs.Answers.{conviction_page, conviction_told, convictions_onward};
 

@@ -2,8 +2,8 @@
 ghost use Rattle.std.specs.Prelude.{◌≡◌, ◌≤◌, ◌+◌, length, map, take, IfOk, OnOk};
 ghost use Rattle.std.specs.Option.{option_copied};
 ghost use Rattle.std.specs.List.{flat_map};
-ghost use Rattle.depot_model.specs.Contents.{keys_written};
-ghost use Rattle.depot_model.specs.Vouching.{put_rising};
+ghost use Rattle.depot_model.specs.texts.Contents.{keys_written};
+ghost use Rattle.depot_model.specs.checks.Vouching.{put_rising};
 ghost use Rattle.depot_questions.specs.Answers.{is_key_above, key_page, keys_above};
 ghost use Rattle.depot_questions.specs.LeastKeys.{PutsKeys, least_of};
 ghost use Rattle.depot_questions.specs.declared.limits.TheConstants.{MOST_KEYS_TOLD};

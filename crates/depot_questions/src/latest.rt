@@ -1,7 +1,7 @@
 //! The latest writes of a key.
 ghost use Rattle.std.specs.Prelude.{◌≡◌, ◌++◌, false, IfOk, OnOk};
-ghost use Rattle.depot_model.specs.Journal.{held_as};
-ghost use Rattle.depot_model.specs.Texts.{id_of_update};
+ghost use Rattle.depot_model.specs.journals.Journal.{held_as};
+ghost use Rattle.depot_model.specs.texts.Texts.{id_of_update};
 ghost use Rattle.depot_questions.specs.Answers.{latest_told, said_of, value_said, write_told};
 
 use crate::question_answer::{LatestWrite, WriteSays};

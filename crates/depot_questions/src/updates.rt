@@ -1,7 +1,7 @@
 //! Accepted updates.
 ghost use Rattle.std.specs.Prelude.{◌≡◌, map, IfOk};
-ghost use Rattle.depot_model.specs.Journal.{has_id};
-ghost use Rattle.depot_model.specs.Texts.{id_of_update};
+ghost use Rattle.depot_model.specs.journals.Journal.{has_id};
+ghost use Rattle.depot_model.specs.texts.Texts.{id_of_update};
 ghost use Rattle.depot_questions.specs.Answers.{update_keys, update_page, update_told};
 
 use crate::limits::MOST_UPDATES_TOLD;

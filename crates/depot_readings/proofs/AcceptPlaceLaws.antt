@@ -2,8 +2,8 @@
 use Rattle.std.proofs.Common.{◌≡◌, ℕ, ◌+◌, ◌≤◌, Bool, true, false, ltb, cond, List, [], ◌∷◌, ◌++◌, length, refl, ap, ◌∙◌, arith}
 use Rattle.depot_base.specs.declared.record.Record.{Record}
 use Rattle.depot_base.specs.declared.update.Update.{Update}
-use Rattle.depot_model.specs.Bundle.{records_where}
-use Rattle.depot_model.specs.Journal.{accepted, accepted_by}
+use Rattle.depot_model.specs.exchange.Bundle.{records_where}
+use Rattle.depot_model.specs.journals.Journal.{accepted, accepted_by}
 use Rattle.depot_readings.specs.Places.{accepts, accept_places}
 use Rattle.depot_readings.proofs.LeafLaws.{one_update}
 

@@ -3,8 +3,8 @@ use Rattle.std.proofs.Common.{◌≡◌, ℕ, ◌+◌, ◌<◌, List, [], ◌∷
 use Rattle.sha2.specs.Sha256.{sha256}
 use Rattle.depot_base.specs.declared.update.NamedValue.{NamedValue}
 use Rattle.depot_base.proofs.GeneralLaws.{take_next}
-use Rattle.depot_model.specs.Lists.{IsIn}
-use Rattle.depot_model.proofs.Members.{in_pushed}
+use Rattle.depot_model.specs.lists.Lists.{IsIn}
+use Rattle.depot_model.proofs.lists.Members.{in_pushed}
 use Rattle.depot_kept.specs.declared.values.Values.{Values}
 use Rattle.std.specs.Prelude.{Result, IsOk}
 use Rattle.std.proofs.lemmas.List.{append-nil, length-map}

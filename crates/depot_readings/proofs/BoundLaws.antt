@@ -6,13 +6,13 @@ use Rattle.depot_base.specs.declared.record.Record.TheVariants.{Birth, OwnPut, O
 use Rattle.depot_base.specs.declared.statement.Signed.{Signed}
 use Rattle.depot_base.specs.declared.update.Update.{Update}
 use Rattle.depot_base.specs.declared.voucher.Voucher.{Voucher}
-use Rattle.depot_model.specs.Checks.{Setting}
-use Rattle.depot_model.specs.Journal.{accepted, foreign, foreign_by, own}
-use Rattle.depot_model.specs.Lawful.{IsLawful}
-use Rattle.depot_model.specs.Vouching.{records_of}
-use Rattle.depot_laws.proofs.JournalLimits.{within_from_room}
-use Rattle.depot_laws.proofs.OwnTexts.{few_own, lawful_is_short}
-use Rattle.depot_laws.proofs.Splits.{lawful_front, lawful_last}
+use Rattle.depot_model.specs.checks.Checks.{Setting}
+use Rattle.depot_model.specs.journals.Journal.{accepted, foreign, foreign_by, own}
+use Rattle.depot_model.specs.journals.Lawful.{IsLawful}
+use Rattle.depot_model.specs.checks.Vouching.{records_of}
+use Rattle.depot_laws.proofs.records.JournalLimits.{within_from_room}
+use Rattle.depot_laws.proofs.own_updates.OwnTexts.{few_own, lawful_is_short}
+use Rattle.depot_laws.proofs.lists.Splits.{lawful_front, lawful_last}
 use Rattle.depot_readings.specs.NewRecords.{vouchers_of}
 use Rattle.depot_readings.specs.Totals.{AreTotals}
 use Rattle.depot_readings.specs.declared.news.NewVoucher.{NewVoucher}

@@ -12,17 +12,17 @@ use Rattle.depot_base.specs.declared.statement.Statement.{Statement}
 use Rattle.depot_base.specs.declared.statement.Statement.TheVariants as statements
 use Rattle.depot_base.specs.declared.update.Update.{Update}
 use Rattle.depot_base.specs.declared.voucher.Voucher.{Voucher}
-use Rattle.depot_model.specs.Checks.{Setting}
-use Rattle.depot_model.specs.History.{leaves_of}
-use Rattle.depot_model.specs.Journal.{accepted, accepted_by}
-use Rattle.depot_model.specs.Lawful.{IsLawful}
-use Rattle.depot_model.specs.Records.{journal_bytes}
-use Rattle.depot_model.specs.Room.{foreign_leaves, full_by, leaves_counted, limit_passed}
-use Rattle.depot_model.specs.Vouching.{records_of}
-use Rattle.depot_laws.proofs.Counts.{bytes_more, put_count, silent_leaves}
-use Rattle.depot_laws.proofs.Nexts.{next_of}
-use Rattle.depot_laws.proofs.OwnTexts.{lawful_is_short, lawful_is_light}
-use Rattle.depot_laws.proofs.Splits.{lawful_front, lawful_last, silent}
+use Rattle.depot_model.specs.checks.Checks.{Setting}
+use Rattle.depot_model.specs.updates.History.{leaves_of}
+use Rattle.depot_model.specs.journals.Journal.{accepted, accepted_by}
+use Rattle.depot_model.specs.journals.Lawful.{IsLawful}
+use Rattle.depot_model.specs.texts.Records.{journal_bytes}
+use Rattle.depot_model.specs.checks.Room.{foreign_leaves, full_by, leaves_counted, limit_passed}
+use Rattle.depot_model.specs.checks.Vouching.{records_of}
+use Rattle.depot_laws.proofs.records.Counts.{bytes_more, put_count, silent_leaves}
+use Rattle.depot_laws.proofs.own_updates.Nexts.{next_of}
+use Rattle.depot_laws.proofs.own_updates.OwnTexts.{lawful_is_short, lawful_is_light}
+use Rattle.depot_laws.proofs.lists.Splits.{lawful_front, lawful_last, silent}
 use Rattle.depot_readings.specs.Counts.{AreCountsOf}
 use Rattle.depot_readings.specs.NewRecords.{AreNew, bytes_of_records, records_in, vouchers_of}
 use Rattle.depot_readings.specs.LeavesWith.{leaves_then, leaves_with_record, leaves_with, number_after}

@@ -14,9 +14,9 @@ use Rattle.depot_base.specs.declared.record.Record.{Record}
 use Rattle.depot_base.specs.declared.record.Record.TheVariants.{Birth, OwnPut, OwnVoucher, Foreign, Conviction, Held}
 use Rattle.depot_base.specs.declared.voucher.Voucher.{Voucher}
 use Rattle.depot_base.proofs.GeneralLaws.{bytes_eq_comm, from_pushed, get_last, or_none, same_test, take_next, to_pushed}
-use Rattle.depot_model.specs.Journal.{accused, proof_by}
-use Rattle.depot_model.specs.Lists.{IsIn, is_among}
-use Rattle.depot_model.specs.Vouching.{own_voucher_by, records_of}
+use Rattle.depot_model.specs.journals.Journal.{accused, proof_by}
+use Rattle.depot_model.specs.lists.Lists.{IsIn, is_among}
+use Rattle.depot_model.specs.checks.Vouching.{own_voucher_by, records_of}
 use Rattle.depot_readings.specs.FrontPlaces.{AddsPlaces, AreFrontPlaces, AreNewPlaces, convictions_from, voucher_places_from, vouches, vouches_at, with_place}
 use Rattle.depot_readings.specs.NewRecords.{records_in, vouchers_of}
 use Rattle.depot_readings.specs.VoucherPlaces.{is_among_places, is_voucher_place, has_voucher_place}

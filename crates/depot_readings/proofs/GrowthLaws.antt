@@ -10,10 +10,10 @@ use Rattle.depot_base.specs.declared.proof.Proof.{Proof}
 use Rattle.depot_base.specs.declared.statement.Signed.{Signed}
 use Rattle.depot_base.specs.declared.voucher.Voucher.{Voucher}
 use Rattle.depot_base.proofs.WithRestLaws.{rest_none}
-use Rattle.depot_model.specs.Records.{IsRecord, text_of_record}
-use Rattle.depot_model.specs.Texts.{IsProof, IsSigned, id_of_statement, text_of_signed}
-use Rattle.depot_model.specs.Vouching.{records_of}
-use Rattle.depot_laws.proofs.LawfulRecords.{IsRecord-Conviction, IsRecord-Foreign}
+use Rattle.depot_model.specs.texts.Records.{IsRecord, text_of_record}
+use Rattle.depot_model.specs.texts.Texts.{IsProof, IsSigned, id_of_statement, text_of_signed}
+use Rattle.depot_model.specs.checks.Vouching.{records_of}
+use Rattle.depot_laws.proofs.records.LawfulRecords.{IsRecord-Conviction, IsRecord-Foreign}
 use Rattle.depot_readings.specs.NewRecords.{AreHashed, IsGrowth, bytes_of_records, records_in, vouchers_of}
 use Rattle.depot_readings.specs.RecordTexts.{given_of}
 use Rattle.depot_readings.specs.declared.news.News.{News}

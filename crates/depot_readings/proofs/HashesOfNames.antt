@@ -16,14 +16,14 @@ use Rattle.depot_base.specs.Format.{last_of}
 use Rattle.depot_base.specs.Parts.{is_below}
 use Rattle.depot_base.proofs.EntryLists.{last_pushed}
 use Rattle.depot_base.proofs.GeneralLaws.{bytes_eq_comm, less_is}
-use Rattle.depot_model.specs.Contents.{NamedValue}
-use Rattle.depot_model.specs.Lists.{IsIn}
-use Rattle.depot_model.specs.Vouching.{rising}
-use Rattle.depot_model.proofs.ContradictionLaws.{below_or_above}
-use Rattle.depot_model.proofs.Members.{all_at, all_from, any_from, any_to, in_map, from_map}
-use Rattle.depot_model.proofs.RisingLists.{RisesByTest, one_rising, less_one_way}
-use Rattle.depot_laws.proofs.Groups.{rising_keeps, from_rising}
-use Rattle.depot_laws.proofs.RisingBytes.{rising_rises}
+use Rattle.depot_model.specs.texts.Contents.{NamedValue}
+use Rattle.depot_model.specs.lists.Lists.{IsIn}
+use Rattle.depot_model.specs.checks.Vouching.{rising}
+use Rattle.depot_model.proofs.of_updates.ContradictionLaws.{below_or_above}
+use Rattle.depot_model.proofs.lists.Members.{all_at, all_from, any_from, any_to, in_map, from_map}
+use Rattle.depot_model.proofs.lists.RisingLists.{RisesByTest, one_rising, less_one_way}
+use Rattle.depot_laws.proofs.lists.Groups.{rising_keeps, from_rising}
+use Rattle.depot_laws.proofs.lists.RisingBytes.{rising_rises}
 use Rattle.depot_readings.specs.Lacking.{is_next, is_same, hashes_behind}
 use Rattle.depot_readings.specs.Named.{compare_names, is_marked, is_value_named, is_name, has_named_value}
 use Rattle.depot_readings.specs.declared.named.NamedValues.{NamedValues}

@@ -9,13 +9,13 @@ use Rattle.sha2.specs.Sha256.{sha256}
 use Rattle.depot_base.specs.declared.record.Record.{Record}
 use Rattle.depot_model.specs.declared.taken.Taken.{Taken}
 use Rattle.depot_model.specs.declared.taken.Taken.TheVariants.{Known, New}
-use Rattle.depot_model.specs.Journal.{first_values, held, value_by, value_with}
+use Rattle.depot_model.specs.journals.Journal.{first_values, held, value_by, value_with}
 use Rattle.depot_kept.specs.Values as values
 use Rattle.depot_kept.specs.declared.values.Values.{Values}
 use Rattle.depot_readings.specs.AddedValues.{or_else, AddsAll}
-use Rattle.depot_laws.proofs.Splits.{silent}
+use Rattle.depot_laws.proofs.lists.Splits.{silent}
 use Rattle.depot_base.proofs.GeneralLaws.{flat_push}
-use Rattle.depot_laws.proofs.HeldValues.{held_is}
+use Rattle.depot_laws.proofs.records.HeldValues.{held_is}
 
 -- ---- the first value of each hash
 

@@ -10,12 +10,12 @@ use Rattle.depot_base.specs.declared.statement.Statement.{Statement}
 use Rattle.depot_base.specs.declared.update.Update.{Update}
 use Rattle.depot_base.specs.declared.voucher.Voucher.{Voucher}
 use Rattle.depot_model.specs.declared.taken.Taken.{Taken}
-use Rattle.depot_model.specs.Checks.{Setting}
-use Rattle.depot_model.specs.Journal.{accepted}
-use Rattle.depot_model.specs.Lawful.{IsLawful}
-use Rattle.depot_model.specs.Room.{foreign_leaves}
-use Rattle.depot_model.specs.Roster.{Verifies}
-use Rattle.depot_model.specs.Texts.{id_of_update}
+use Rattle.depot_model.specs.checks.Checks.{Setting}
+use Rattle.depot_model.specs.journals.Journal.{accepted}
+use Rattle.depot_model.specs.journals.Lawful.{IsLawful}
+use Rattle.depot_model.specs.checks.Room.{foreign_leaves}
+use Rattle.depot_model.specs.texts.Roster.{Verifies}
+use Rattle.depot_model.specs.texts.Texts.{id_of_update}
 use Rattle.depot_kept.specs.Values as values
 use Rattle.depot_kept.specs.declared.values.Values.{Values}
 use Rattle.depot_accept.specs.StateView.{View, IsAsBefore, IsStateOf, setting}

@@ -11,14 +11,14 @@ use Rattle.depot_base.specs.declared.limits.TheConstants.{MOST_WANTED}
 use Rattle.depot_base.specs.declared.record.Record.{Record}
 use Rattle.depot_base.specs.declared.update.Update.{Update}
 use Rattle.depot_base.proofs.GeneralLaws.{or_none, take_next}
-use Rattle.depot_model.specs.Checks.{Setting}
-use Rattle.depot_model.specs.Contents.{NamedValue, values_named}
-use Rattle.depot_model.specs.Hello.{lacking, wanted_of}
-use Rattle.depot_model.specs.Journal.{accepted, held, holds, is_wanted, value_by, value_with}
-use Rattle.depot_model.specs.Lawful.{IsLawful}
-use Rattle.depot_model.specs.Vouching.{rising}
-use Rattle.depot_laws.proofs.HeldByHash.{holds_by, held_by_hash}
-use Rattle.depot_laws.proofs.HeldValues.{held_is}
+use Rattle.depot_model.specs.checks.Checks.{Setting}
+use Rattle.depot_model.specs.texts.Contents.{NamedValue, values_named}
+use Rattle.depot_model.specs.exchange.Hello.{lacking, wanted_of}
+use Rattle.depot_model.specs.journals.Journal.{accepted, held, holds, is_wanted, value_by, value_with}
+use Rattle.depot_model.specs.journals.Lawful.{IsLawful}
+use Rattle.depot_model.specs.checks.Vouching.{rising}
+use Rattle.depot_laws.proofs.records.HeldByHash.{holds_by, held_by_hash}
+use Rattle.depot_laws.proofs.records.HeldValues.{held_is}
 use Rattle.depot_kept.specs.Values as values
 use Rattle.depot_kept.specs.declared.values.Values.{Values}
 use Rattle.depot_readings.specs.AddedValues.{or_else}

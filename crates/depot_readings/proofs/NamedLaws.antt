@@ -17,10 +17,10 @@ use Rattle.depot_base.specs.declared.statement.Signed.{Signed}
 use Rattle.depot_base.specs.declared.statement.Statement.{Statement}
 use Rattle.depot_base.specs.declared.statement.Statement.TheVariants as statements
 use Rattle.depot_base.specs.declared.update.Update.{Update}
-use Rattle.depot_model.specs.Contents.{NamedValue, values_named, names_value}
-use Rattle.depot_model.specs.Journal.{accepted, accepted_by, is_wanted, update_in}
-use Rattle.depot_laws.proofs.Splits.{accepted_push, silent}
-use Rattle.depot_model.specs.Vouching.{records_of}
+use Rattle.depot_model.specs.texts.Contents.{NamedValue, values_named, names_value}
+use Rattle.depot_model.specs.journals.Journal.{accepted, accepted_by, is_wanted, update_in}
+use Rattle.depot_laws.proofs.lists.Splits.{accepted_push, silent}
+use Rattle.depot_model.specs.checks.Vouching.{records_of}
 use Rattle.depot_base.proofs.GeneralLaws.{or_none, is_eq-nat_cmp, is_eq-then}
 use Rattle.depot_readings.specs.NewRecords.{records_in, vouchers_of}
 use Rattle.depot_readings.specs.Named.{is_value_named, is_name, names_in_statement, names_in_record, names_in, values_named_in, ValueMarks, compare_names, is_marked, has_value_mark, PutsMark, TakesMark, has_named_value, AreNamed}

@@ -1,7 +1,7 @@
 -- What is read off no records.
 use Rattle.std.proofs.Common.{◌≡◌, ℕ, false, List, [], None, refl}
-use Rattle.depot_model.specs.Bundle.{records_where}
-use Rattle.depot_model.specs.Journal.{accepted, first_values, is_wanted}
+use Rattle.depot_model.specs.exchange.Bundle.{records_where}
+use Rattle.depot_model.specs.journals.Journal.{accepted, first_values, is_wanted}
 use Rattle.depot_accept.specs.StateView.{View, IsStateOf}
 use Rattle.depot_kept.specs.Values.{held_in}
 use Rattle.depot_kept.specs.declared.values.Values.{Values}

@@ -6,8 +6,8 @@ use Rattle.std.proofs.lemmas.List.Folds.{list_any-append}
 use Rattle.depot_base.specs.declared.record.Record.{Record}
 use Rattle.depot_base.specs.declared.record.Record.TheVariants.{OwnVoucher}
 use Rattle.depot_base.specs.declared.voucher.Voucher.{Voucher}
-use Rattle.depot_model.specs.Lists.{is_among, AreTogether}
-use Rattle.depot_model.specs.Vouching.{own_voucher_by, own_vouchers, is_mine_vouched}
+use Rattle.depot_model.specs.lists.Lists.{is_among, AreTogether}
+use Rattle.depot_model.specs.checks.Vouching.{own_voucher_by, own_vouchers, is_mine_vouched}
 use Rattle.depot_base.proofs.GeneralLaws.{or_none}
 use Rattle.depot_readings.specs.OwnIds.{AreMine, AddsMine}
 

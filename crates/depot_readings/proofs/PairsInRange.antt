@@ -13,9 +13,9 @@ use Rattle.std.proofs.lemmas.List.{append-nil}
 use Rattle.std.proofs.lemmas.Map.Lookups.{exact_bytes}
 use Rattle.std.proofs.lemmas.Map.Text.{is_eq-slice_cmp}
 use Rattle.depot_base.proofs.GeneralLaws.{same_bytes}
-use Rattle.depot_model.specs.Contents.{NamedValue}
-use Rattle.depot_model.specs.Lists.{IsIn}
-use Rattle.depot_model.proofs.Members.{from_filter, in_filter}
+use Rattle.depot_model.specs.texts.Contents.{NamedValue}
+use Rattle.depot_model.specs.lists.Lists.{IsIn}
+use Rattle.depot_model.proofs.lists.Members.{from_filter, in_filter}
 use Rattle.depot_readings.specs.Named.{compare_names, has_named_value}
 use Rattle.depot_readings.specs.declared.named.NamedValues.{NamedValues}
 use Rattle.depot_readings.proofs.HashesOfNames.{Entries, looked_at, looked_up}

@@ -1,9 +1,9 @@
 -- What readings are seen as, and what is inside.
 use Rattle.std.proofs.Common.{◌≡◌, List, [], ◌++◌, sym, ap, subst, ◌∙◌}
 use Rattle.depot_base.specs.declared.record.Record.{Record}
-use Rattle.depot_model.specs.Checks.{Setting}
-use Rattle.depot_model.specs.Lawful.{IsLawful}
-use Rattle.depot_model.specs.Roster.{Verifies}
+use Rattle.depot_model.specs.checks.Checks.{Setting}
+use Rattle.depot_model.specs.journals.Lawful.{IsLawful}
+use Rattle.depot_model.specs.texts.Roster.{Verifies}
 use Rattle.depot_readings.specs.ReadingsView.{Known, standing, with_more_records}
 
 -- what is lawful as it is seen is lawful inside

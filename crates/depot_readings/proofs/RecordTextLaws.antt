@@ -12,11 +12,11 @@ use Rattle.depot_base.specs.declared.update.Update.{Update}
 use Rattle.depot_base.specs.declared.record.Record.{Record}
 use Rattle.depot_base.specs.declared.record.Record.TheVariants.{Birth, OwnPut, OwnVoucher, Foreign, Conviction, Held}
 use Rattle.depot_base.proofs.PartLaws.{u8_lawful, u32_lawful, node_lawful, digest_lawful, pieces_lawful}
-use Rattle.depot_model.specs.Texts.{update_body, IsUpdate, text_of_proof, text_of_signed}
-use Rattle.depot_model.specs.Records.{birth, own_put, tagged, tag_of, record_text, IsRecord, text_of_record, IsTextOf}
-use Rattle.depot_model.proofs.RecordLaws.{short_values}
-use Rattle.depot_model.proofs.TextLaws.{update_body_lawful, voucher_body_lawful, signed_lawful, proof_lawful}
-use Rattle.depot_laws.proofs.Births.{short_birth}
+use Rattle.depot_model.specs.texts.Texts.{update_body, IsUpdate, text_of_proof, text_of_signed}
+use Rattle.depot_model.specs.texts.Records.{birth, own_put, tagged, tag_of, record_text, IsRecord, text_of_record, IsTextOf}
+use Rattle.depot_model.proofs.of_texts.RecordLaws.{short_values}
+use Rattle.depot_model.proofs.of_texts.TextLaws.{update_body_lawful, voucher_body_lawful, signed_lawful, proof_lawful}
+use Rattle.depot_laws.proofs.records.Births.{short_birth}
 
 -- ---- how long it is
 

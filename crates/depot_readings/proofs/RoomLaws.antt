@@ -11,14 +11,14 @@ use Rattle.depot_base.specs.declared.statement.Statement.{Statement}
 use Rattle.depot_base.specs.declared.statement.Statement.TheVariants as statements
 use Rattle.depot_base.specs.declared.voucher.Voucher.{Voucher}
 use Rattle.depot_model.specs.declared.taken.Taken.TheVariants.{New}
-use Rattle.depot_model.specs.Checks.{Setting, given_statement, answer_to}
-use Rattle.depot_model.specs.Journal.{accepted}
-use Rattle.depot_model.specs.Lawful.{IsLawful}
-use Rattle.depot_model.specs.Records.{IsRecord, journal_bytes, text_of_record}
-use Rattle.depot_model.specs.Room.{foreign_leaves, takes_update, leaves_counted, limit_passed, full_with, full_by}
-use Rattle.depot_model.specs.Vouching.{records_of}
-use Rattle.depot_laws.proofs.Counts.{leaves_behind, taken_count}
-use Rattle.depot_laws.proofs.NewVouchers.{takes_none}
+use Rattle.depot_model.specs.checks.Checks.{Setting, given_statement, answer_to}
+use Rattle.depot_model.specs.journals.Journal.{accepted}
+use Rattle.depot_model.specs.journals.Lawful.{IsLawful}
+use Rattle.depot_model.specs.texts.Records.{IsRecord, journal_bytes, text_of_record}
+use Rattle.depot_model.specs.checks.Room.{foreign_leaves, takes_update, leaves_counted, limit_passed, full_with, full_by}
+use Rattle.depot_model.specs.checks.Vouching.{records_of}
+use Rattle.depot_laws.proofs.records.Counts.{leaves_behind, taken_count}
+use Rattle.depot_laws.proofs.records.NewVouchers.{takes_none}
 use Rattle.depot_readings.specs.NewRecords.{bytes_of_records, records_in, vouchers_of, IsGrowth, AreNew}
 use Rattle.depot_readings.specs.LeavesWith.{leaves_then, leaves_with}
 use Rattle.depot_readings.specs.declared.news.News.{News}

@@ -7,7 +7,7 @@ use Rattle.depot_base.specs.declared.proof.Proof.{Proof}
 use Rattle.depot_base.specs.declared.record.Record.{Record}
 use Rattle.depot_base.specs.declared.record.Record.TheVariants.{Foreign, Conviction}
 use Rattle.depot_base.specs.declared.statement.Signed.{Signed}
-use Rattle.depot_model.specs.Vouching.{records_of}
+use Rattle.depot_model.specs.checks.Vouching.{records_of}
 use Rattle.depot_accept.specs.StateView.{View, IsStateOf}
 use Rattle.depot_accept.proofs.StateLaws.{turned_state}
 use Rattle.depot_readings.specs.NewRecords.{records_in, vouchers_of}

@@ -10,15 +10,15 @@ use Rattle.depot_base.specs.declared.statement.Statement.{Statement}
 use Rattle.depot_base.specs.declared.statement.Statement.TheVariants as statements
 use Rattle.depot_base.specs.declared.update.Update.{Update}
 use Rattle.depot_base.specs.declared.voucher.Voucher.{Voucher}
-use Rattle.depot_model.specs.Checks.{Setting}
-use Rattle.depot_model.specs.History.{greatest_clock}
-use Rattle.depot_model.specs.Journal.{accepted, accepted_by, own, own_by, last_own_behind, update_in}
-use Rattle.depot_model.specs.Lawful.{IsLawful}
-use Rattle.depot_model.specs.Room.{foreign_leaves}
-use Rattle.depot_model.specs.Texts.{id_of_update}
-use Rattle.depot_laws.proofs.Nexts.{next_of}
-use Rattle.depot_laws.proofs.Counts.{put_count, silent_leaves, taken_count}
-use Rattle.depot_laws.proofs.Splits.{accepted_push, lawful_front, lawful_last, silent}
+use Rattle.depot_model.specs.checks.Checks.{Setting}
+use Rattle.depot_model.specs.updates.History.{greatest_clock}
+use Rattle.depot_model.specs.journals.Journal.{accepted, accepted_by, own, own_by, last_own_behind, update_in}
+use Rattle.depot_model.specs.journals.Lawful.{IsLawful}
+use Rattle.depot_model.specs.checks.Room.{foreign_leaves}
+use Rattle.depot_model.specs.texts.Texts.{id_of_update}
+use Rattle.depot_laws.proofs.own_updates.Nexts.{next_of}
+use Rattle.depot_laws.proofs.records.Counts.{put_count, silent_leaves, taken_count}
+use Rattle.depot_laws.proofs.lists.Splits.{accepted_push, lawful_front, lawful_last, silent}
 use Rattle.depot_base.proofs.GeneralLaws.{flat_push}
 use Rattle.depot_readings.specs.LeavesWith.{leaves_then, number_after}
 use Rattle.depot_readings.specs.Totals.{AreTotals, AreTaken}

@@ -5,9 +5,9 @@ use Rattle.std.proofs.lemmas.List.{map-append}
 use Rattle.depot_base.specs.declared.record.Record.TheVariants.{OwnVoucher}
 use Rattle.depot_base.specs.declared.update.Update.{Update}
 use Rattle.depot_base.specs.declared.voucher.Voucher.{Voucher}
-use Rattle.depot_model.specs.Bundle.{records_where}
-use Rattle.depot_model.specs.Journal.{accepted, value_by}
-use Rattle.depot_model.specs.Vouching.{records_of}
+use Rattle.depot_model.specs.exchange.Bundle.{records_where}
+use Rattle.depot_model.specs.journals.Journal.{accepted, value_by}
+use Rattle.depot_model.specs.checks.Vouching.{records_of}
 use Rattle.depot_readings.specs.Lacking.{names_brought}
 use Rattle.depot_readings.specs.Named.{names_in}
 use Rattle.depot_readings.specs.NewRecords.{vouchers_of}

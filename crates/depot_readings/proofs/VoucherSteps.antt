@@ -5,14 +5,14 @@ use Rattle.std.proofs.lemmas.List.{append-nil, map-append}
 use Rattle.depot_base.specs.declared.record.Record.{Record}
 use Rattle.depot_base.specs.declared.record.Record.TheVariants.{OwnVoucher}
 use Rattle.depot_base.specs.declared.voucher.Voucher.{Voucher}
-use Rattle.depot_model.specs.Checks.{Setting}
-use Rattle.depot_model.specs.Lawful.{IsLawful}
-use Rattle.depot_model.specs.Lists.{IsIn}
-use Rattle.depot_model.specs.Roster.{Verifies}
-use Rattle.depot_model.specs.Vouching.{records_of}
-use Rattle.depot_model.proofs.Members.{all_at, all_from, all_push, in_right}
+use Rattle.depot_model.specs.checks.Checks.{Setting}
+use Rattle.depot_model.specs.journals.Lawful.{IsLawful}
+use Rattle.depot_model.specs.lists.Lists.{IsIn}
+use Rattle.depot_model.specs.texts.Roster.{Verifies}
+use Rattle.depot_model.specs.checks.Vouching.{records_of}
+use Rattle.depot_model.proofs.lists.Members.{all_at, all_from, all_push, in_right}
 use Rattle.depot_accept.specs.StateView.{View, setting}
-use Rattle.depot_laws.proofs.Splits.{lawful_front}
+use Rattle.depot_laws.proofs.lists.Splits.{lawful_front}
 use Rattle.depot_kept.specs.declared.values.Values.{Values}
 use Rattle.depot_kept.specs.VouchedView.{AreWithin}
 use Rattle.depot_readings.specs.NewRecords.{vouchers_of, HasOwnId}

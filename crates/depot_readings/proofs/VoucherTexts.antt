@@ -7,10 +7,10 @@ use Rattle.std.proofs.lemmas.List.Sums.{sum_by-append}
 use Rattle.depot_base.specs.declared.record.Record.{Record}
 use Rattle.depot_base.specs.declared.record.Record.TheVariants.{OwnVoucher}
 use Rattle.depot_base.specs.declared.voucher.Voucher.{Voucher}
-use Rattle.depot_model.specs.Lists.{IsIn}
-use Rattle.depot_model.specs.Records.{IsRecord, text_of_record, IsTextOf}
-use Rattle.depot_model.specs.Vouching.{records_of}
-use Rattle.depot_model.proofs.Members.{all_at, all_from, all_push, from_map, in_right}
+use Rattle.depot_model.specs.lists.Lists.{IsIn}
+use Rattle.depot_model.specs.texts.Records.{IsRecord, text_of_record, IsTextOf}
+use Rattle.depot_model.specs.checks.Vouching.{records_of}
+use Rattle.depot_model.proofs.lists.Members.{all_at, all_from, all_push, from_map, in_right}
 use Rattle.depot_readings.specs.NewRecords.{HasOwnId, IsGrowth, bytes_of_records, vouchers_of}
 use Rattle.depot_readings.specs.declared.news.NewVoucher.{NewVoucher}
 use Rattle.depot_readings.specs.declared.news.News.TheVariants as news

@@ -2,11 +2,11 @@
 use Rattle.std.specs.Prelude.{◌≡◌, ℕ, List, ◌++◌, Option, length}
 use Rattle.depot_base.specs.declared.check.Full.{Full}
 use Rattle.depot_base.specs.declared.record.Record.{Record}
-use Rattle.depot_model.specs.Checks.{Setting}
-use Rattle.depot_model.specs.Journal.{accepted}
-use Rattle.depot_model.specs.Lawful.{IsLawful}
-use Rattle.depot_model.specs.Records.{journal_bytes}
-use Rattle.depot_model.specs.Room.{foreign_leaves, full_by}
+use Rattle.depot_model.specs.checks.Checks.{Setting}
+use Rattle.depot_model.specs.journals.Journal.{accepted}
+use Rattle.depot_model.specs.journals.Lawful.{IsLawful}
+use Rattle.depot_model.specs.texts.Records.{journal_bytes}
+use Rattle.depot_model.specs.checks.Room.{foreign_leaves, full_by}
 use Rattle.depot_readings.specs.LeavesWith.{leaves_with}
 use Rattle.depot_readings.specs.NewRecords.{AreNew}
 use Rattle.depot_readings.specs.declared.counts.JournalCounts.{JournalCounts}

@@ -4,9 +4,9 @@ use Rattle.std.specs.List.{flat_map, list_any}
 use Rattle.std.specs.Option.{option_to_list}
 use Rattle.std.specs.Vec.{vec_capacity}
 use Rattle.depot_base.specs.declared.record.Record.{Record}
-use Rattle.depot_model.specs.Journal.{accused, proof_by}
-use Rattle.depot_model.specs.Lists.{IsIn, is_among}
-use Rattle.depot_model.specs.Vouching.{own_voucher_by}
+use Rattle.depot_model.specs.journals.Journal.{accused, proof_by}
+use Rattle.depot_model.specs.lists.Lists.{IsIn, is_among}
+use Rattle.depot_model.specs.checks.Vouching.{own_voucher_by}
 use Rattle.depot_readings.specs.NewRecords.{records_in}
 use Rattle.depot_readings.specs.VoucherPlaces.{HasPlaceRooms, has_voucher_place}
 use Rattle.depot_readings.specs.declared.news.News.{News}

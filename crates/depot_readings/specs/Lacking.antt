@@ -6,8 +6,8 @@ use Rattle.sha2.specs.Sha256.{sha256}
 use Rattle.depot_base.specs.Format.{last_of}
 use Rattle.depot_base.specs.declared.record.Record.{Record}
 use Rattle.depot_base.specs.declared.record.Record.TheVariants.{Held}
-use Rattle.depot_model.specs.Contents.{NamedValue}
-use Rattle.depot_model.specs.Journal.{accepted, holds, is_wanted}
+use Rattle.depot_model.specs.texts.Contents.{NamedValue}
+use Rattle.depot_model.specs.journals.Journal.{accepted, holds, is_wanted}
 use Rattle.depot_kept.specs.Values.{held_in}
 use Rattle.depot_kept.specs.declared.values.Values.{Values}
 use Rattle.depot_readings.specs.Named.{has_named_value}

@@ -11,9 +11,9 @@ use Rattle.depot_base.specs.declared.record.Record.TheVariants.{OwnPut, Foreign}
 use Rattle.depot_base.specs.declared.statement.Statement.{Statement}
 use Rattle.depot_base.specs.declared.statement.Statement.TheVariants as statements
 use Rattle.depot_base.specs.declared.update.Update.{Update}
-use Rattle.depot_model.specs.Contents.{NamedValue, values_named}
-use Rattle.depot_model.specs.Lists.{IsIn}
-use Rattle.depot_model.specs.Journal.{is_wanted}
+use Rattle.depot_model.specs.texts.Contents.{NamedValue, values_named}
+use Rattle.depot_model.specs.lists.Lists.{IsIn}
+use Rattle.depot_model.specs.journals.Journal.{is_wanted}
 use Rattle.depot_readings.specs.declared.named.NamedValues.{NamedValues}
 
 -- ---- names

@@ -11,13 +11,13 @@ use Rattle.depot_base.specs.declared.statement.Signed.{Signed}
 use Rattle.depot_base.specs.declared.statement.Statement.TheVariants as statements
 use Rattle.depot_base.specs.declared.voucher.Voucher.{Voucher}
 use Rattle.depot_model.specs.declared.taken.Taken.TheVariants.{New}
-use Rattle.depot_model.specs.Checks.{Setting, given_statement, answer_to}
-use Rattle.depot_model.specs.Lawful.{IsLawful}
-use Rattle.depot_model.specs.Lists.{IsIn}
-use Rattle.depot_model.specs.Records.{IsRecord, text_of_record}
-use Rattle.depot_model.specs.Room.{full_by}
-use Rattle.depot_model.specs.Texts.{id_of_update, id_of_statement}
-use Rattle.depot_model.specs.Vouching.{records_of}
+use Rattle.depot_model.specs.checks.Checks.{Setting, given_statement, answer_to}
+use Rattle.depot_model.specs.journals.Lawful.{IsLawful}
+use Rattle.depot_model.specs.lists.Lists.{IsIn}
+use Rattle.depot_model.specs.texts.Records.{IsRecord, text_of_record}
+use Rattle.depot_model.specs.checks.Room.{full_by}
+use Rattle.depot_model.specs.texts.Texts.{id_of_update, id_of_statement}
+use Rattle.depot_model.specs.checks.Vouching.{records_of}
 use Rattle.depot_readings.specs.RecordTexts.{given_of}
 use Rattle.depot_readings.specs.declared.news.NewVoucher.{NewVoucher}
 use Rattle.depot_readings.specs.declared.news.News.{News}

@@ -2,8 +2,8 @@
 use Rattle.std.specs.Prelude.{◌≡◌, ℕ, List, ◌||◌}
 use Rattle.std.specs.List.{AllByRecursion}
 use Rattle.depot_base.specs.declared.record.Record.{Record}
-use Rattle.depot_model.specs.Lists.{is_among}
-use Rattle.depot_model.specs.Vouching.{is_mine_vouched}
+use Rattle.depot_model.specs.lists.Lists.{is_among}
+use Rattle.depot_model.specs.checks.Vouching.{is_mine_vouched}
 use Rattle.depot_kept.specs.VouchedView.{AreWithin}
 use Rattle.depot_readings.specs.declared.news.NewVoucher.{NewVoucher}
 

@@ -1,8 +1,8 @@
 -- The places of the records that accepted the updates.
 use Rattle.std.specs.Prelude.{ℕ, List, length, Bool, nat_lt}
 use Rattle.depot_base.specs.declared.record.Record.{Record}
-use Rattle.depot_model.specs.Bundle.{records_where}
-use Rattle.depot_model.specs.Journal.{accepted_by}
+use Rattle.depot_model.specs.exchange.Bundle.{records_where}
+use Rattle.depot_model.specs.journals.Journal.{accepted_by}
 
 -- the record accepts an update
 abbrev pub accepts : Record → Bool

@@ -1,10 +1,10 @@
 -- What is read off records.
 use Rattle.std.specs.Prelude.{◌≡◌, ℕ, List, ◌++◌, length}
 use Rattle.depot_base.specs.declared.record.Record.{Record}
-use Rattle.depot_model.specs.Journal.{accepted, held, value_with}
-use Rattle.depot_model.specs.Lawful.{IsLawful}
-use Rattle.depot_model.specs.Records.{journal_bytes}
-use Rattle.depot_model.specs.Roster.{Verifies}
+use Rattle.depot_model.specs.journals.Journal.{accepted, held, value_with}
+use Rattle.depot_model.specs.journals.Lawful.{IsLawful}
+use Rattle.depot_model.specs.texts.Records.{journal_bytes}
+use Rattle.depot_model.specs.texts.Roster.{Verifies}
 use Rattle.depot_accept.specs.StateView.{View, IsStateOf, setting}
 use Rattle.depot_kept.specs.Values as values
 use Rattle.depot_kept.specs.declared.values.Values.{Values}

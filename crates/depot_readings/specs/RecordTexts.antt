@@ -2,7 +2,7 @@
 use Rattle.std.specs.Prelude.{◌≡◌, ℕ, List, [], ◌∷◌}
 use Rattle.depot_base.specs.declared.record.Record.{Record}
 use Rattle.depot_base.specs.declared.record.Record.TheVariants.{Foreign}
-use Rattle.depot_model.specs.Texts.{text_of_signed}
+use Rattle.depot_model.specs.texts.Texts.{text_of_signed}
 
 -- ---- a statement of another at the end
 

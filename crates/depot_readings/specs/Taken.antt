@@ -3,8 +3,8 @@ use Rattle.std.specs.Prelude.{◌≡◌, List, true}
 use Rattle.depot_base.specs.declared.key.RosterEntry.{RosterEntry}
 use Rattle.depot_base.specs.declared.record.Record.{Record}
 use Rattle.depot_base.specs.declared.record.Record.TheVariants.{Foreign, Conviction}
-use Rattle.depot_model.specs.Journal.{accused}
-use Rattle.depot_model.specs.Roster.{has_node}
+use Rattle.depot_model.specs.journals.Journal.{accused}
+use Rattle.depot_model.specs.texts.Roster.{has_node}
 
 -- a statement of another, or the conviction of a node of the roster
 abbrev pub IsTaken : List RosterEntry → Record → Type 0

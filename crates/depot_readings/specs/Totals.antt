@@ -2,9 +2,9 @@
 use Rattle.std.specs.Prelude.{◌≡◌, ℕ, List, length, ◌++◌}
 use Rattle.depot_base.specs.declared.record.Record.{Record}
 use Rattle.depot_base.specs.declared.statement.Statement.{Statement}
-use Rattle.depot_model.specs.History.{greatest_clock}
-use Rattle.depot_model.specs.Journal.{accepted, own, last_own, update_in}
-use Rattle.depot_model.specs.Room.{foreign_leaves}
+use Rattle.depot_model.specs.updates.History.{greatest_clock}
+use Rattle.depot_model.specs.journals.Journal.{accepted, own, last_own, update_in}
+use Rattle.depot_model.specs.checks.Room.{foreign_leaves}
 use Rattle.depot_readings.specs.LeavesWith.{number_after}
 use Rattle.depot_readings.specs.declared.totals.Totals.{Totals}
 

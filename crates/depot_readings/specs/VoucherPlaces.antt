@@ -3,7 +3,7 @@ use Rattle.std.specs.Prelude.{◌≡◌, ℕ, List, Bool, true, ◌&&◌, ◌==�
 use Rattle.std.specs.List.{list_any}
 use Rattle.std.specs.Str.{bytes_eq}
 use Rattle.depot_base.specs.declared.update.NamedValue.{NamedValue}
-use Rattle.depot_model.specs.Lists.{IsIn}
+use Rattle.depot_model.specs.lists.Lists.{IsIn}
 use Rattle.depot_readings.specs.Named.{has_named_value, has_room}
 use Rattle.depot_readings.specs.declared.voucher_places.VoucherPlace.{VoucherPlace}
 use Rattle.depot_readings.specs.declared.voucher_places.VoucherPlaces.{VoucherPlaces}

@@ -2,9 +2,9 @@
 ghost use Rattle.std.specs.Prelude.{◌≡◌, ◌≤◌, ◌+◌, ◌++◌, ◌^◌, ℕ, List};
 ghost use Rattle.depot_base.specs.declared.check.Full.{Full};
 ghost use Rattle.depot_base.specs.declared.record.Record.{Record};
-ghost use Rattle.depot_model.specs.Checks.{Setting};
-ghost use Rattle.depot_model.specs.Lawful.{IsLawful};
-ghost use Rattle.depot_model.specs.Room.{full_by, leaves_counted, limit_passed};
+ghost use Rattle.depot_model.specs.checks.Checks.{Setting};
+ghost use Rattle.depot_model.specs.journals.Lawful.{IsLawful};
+ghost use Rattle.depot_model.specs.checks.Room.{full_by, leaves_counted, limit_passed};
 ghost use Rattle.depot_readings.specs.Counts.{AreCountsOf, CountsMore, LimitsNew};
 
 use crate::growth::Growth;

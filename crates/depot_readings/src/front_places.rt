@@ -3,8 +3,8 @@ ghost use Rattle.std.specs.Prelude.{◌≡◌, ◌≤◌, ◌+◌, ◌++◌, ◌
 ghost use Rattle.std.specs.Option.{option_to_list};
 ghost use Rattle.depot_base.specs.declared.limits.TheConstants.{MOST_RECORDS};
 ghost use Rattle.depot_base.specs.declared.record.Record.{Record};
-ghost use Rattle.depot_model.specs.Journal.{accused};
-ghost use Rattle.depot_model.specs.Vouching.{records_of};
+ghost use Rattle.depot_model.specs.journals.Journal.{accused};
+ghost use Rattle.depot_model.specs.checks.Vouching.{records_of};
 ghost use Rattle.depot_readings.specs.FrontPlaces.{AreFrontPlaces, AreNewPlaces, HasRoomFor, convictions_from, voucher_places_from, with_place};
 ghost use Rattle.depot_readings.specs.NewRecords.{records_in, vouchers_of};
 ghost use Rattle.depot_readings.specs.VoucherPlaces.{has_voucher_place, is_among_places};

@@ -7,9 +7,9 @@ ghost use Rattle.depot_base.specs.declared.limits.TheConstants.{MOST_RECORDS, MO
 ghost use Rattle.depot_base.specs.declared.record.Record.{Record};
 ghost use Rattle.depot_base.specs.declared.record.Record.TheVariants.{Birth, OwnPut, OwnVoucher, Foreign, Conviction, Held};
 ghost use Rattle.depot_base.specs.declared.statement.Statement.TheVariants as statements;
-ghost use Rattle.depot_model.specs.Records.{IsRecord, journal_bytes, text_of_record, IsTextOf};
-ghost use Rattle.depot_model.specs.Texts.{IsProof, IsSigned, id_of_statement, id_of_update, text_of_proof, text_of_signed};
-ghost use Rattle.depot_model.specs.Vouching.{records_of};
+ghost use Rattle.depot_model.specs.texts.Records.{IsRecord, journal_bytes, text_of_record, IsTextOf};
+ghost use Rattle.depot_model.specs.texts.Texts.{IsProof, IsSigned, id_of_statement, id_of_update, text_of_proof, text_of_signed};
+ghost use Rattle.depot_model.specs.checks.Vouching.{records_of};
 ghost use Rattle.depot_readings.specs.NewRecords.{bytes_of_records, records_in, IsGrowth};
 ghost use Rattle.depot_readings.specs.RecordTexts.{IsGiven, given_of};
 

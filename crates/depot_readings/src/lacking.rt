@@ -3,7 +3,7 @@ ghost use Rattle.std.specs.Prelude.{◌≡◌, ◌&&◌, not, ℕ, List, IfOk, O
 ghost use Rattle.std.specs.Option.{option_to_list};
 ghost use Rattle.depot_base.specs.declared.limits.TheConstants.{MOST_WANTED};
 ghost use Rattle.depot_base.specs.declared.update.NamedValue.{NamedValue};
-ghost use Rattle.depot_model.specs.Vouching.{rising};
+ghost use Rattle.depot_model.specs.checks.Vouching.{rising};
 ghost use Rattle.depot_readings.specs.Lacking.{is_held, is_next, name_brought, names_brought};
 ghost use Rattle.depot_readings.specs.Named.{is_value_named, is_name, has_named_value, has_room, HasRooms};
 ghost use Rattle.depot_readings.specs.NewRecords.{records_in, AreHashed};

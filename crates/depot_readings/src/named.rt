@@ -3,9 +3,9 @@ ghost use Rattle.std.specs.Prelude.{◌≡◌, ◌<◌, ◌^◌, ◌||◌, ◌&&
 ghost use Rattle.std.specs.BTreeMap.{IsUnchanged};
 ghost use Rattle.depot_base.specs.declared.update.NamedValue.{NamedValue};
 ghost use Rattle.depot_base.specs.declared.update.Update.{Update};
-ghost use Rattle.depot_model.specs.Contents.{values_named};
-ghost use Rattle.depot_model.specs.Journal.{accepted, is_wanted};
-ghost use Rattle.depot_model.specs.Lists.{IsIn};
+ghost use Rattle.depot_model.specs.texts.Contents.{values_named};
+ghost use Rattle.depot_model.specs.journals.Journal.{accepted, is_wanted};
+ghost use Rattle.depot_model.specs.lists.Lists.{IsIn};
 ghost use Rattle.depot_readings.specs.Named.{PutsMark, TakesMark, has_value_mark, is_value_named, is_name, names_in, names_in_statement, values_named_in, HasRooms, AreNamed};
 ghost use Rattle.depot_readings.specs.NewRecords.{records_in};
 

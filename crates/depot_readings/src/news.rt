@@ -4,9 +4,9 @@ ghost use Rattle.std.specs.List.{AllByRecursion};
 ghost use Rattle.depot_base.specs.WithRest.{with_rest};
 ghost use Rattle.depot_base.specs.declared.record.Record.TheVariants.{Foreign};
 ghost use Rattle.depot_base.specs.declared.statement.Signed.{Signed};
-ghost use Rattle.depot_model.specs.Records.{IsRecord, text_of_record};
-ghost use Rattle.depot_model.specs.Texts.{text_of_signed};
-ghost use Rattle.depot_model.specs.Vouching.{records_of};
+ghost use Rattle.depot_model.specs.texts.Records.{IsRecord, text_of_record};
+ghost use Rattle.depot_model.specs.texts.Texts.{text_of_signed};
+ghost use Rattle.depot_model.specs.checks.Vouching.{records_of};
 ghost use Rattle.depot_readings.specs.NewRecords.{records_in, vouchers_of};
 ghost use Rattle.depot_readings.specs.RecordTexts.{given_of};
 

@@ -2,8 +2,8 @@
 ghost use Rattle.std.specs.Prelude.{◌≡◌, ◌≤◌, ◌++◌, [], ◌∷◌, length, nat_lt, OnOk, if◌then◌else◌};
 ghost use Rattle.std.specs.Option.{option_to_list};
 ghost use Rattle.depot_base.specs.declared.limits.TheConstants.{MOST_RECORDS};
-ghost use Rattle.depot_model.specs.Bundle.{records_where};
-ghost use Rattle.depot_model.specs.Journal.{update_in};
+ghost use Rattle.depot_model.specs.exchange.Bundle.{records_where};
+ghost use Rattle.depot_model.specs.journals.Journal.{update_in};
 ghost use Rattle.depot_readings.specs.NewRecords.{records_in};
 ghost use Rattle.depot_readings.specs.Places.{accepts};
 
@@ -71,7 +71,7 @@ impl AcceptPlaces {
 
 /// The place of the record by which a growth after `count` records accepts an update. It accepts one at most, by its
 /// last record.
-#[tactic(auto, using(crate::proofs::VoucherRecords::none_accepting), unfolding(depot_model::specs::Bundle::records_where))]
+#[tactic(auto, using(crate::proofs::VoucherRecords::none_accepting), unfolding(depot_model::specs::exchange::Bundle::records_where))]
 pub(crate) fn accept_place(news: &News, count: u32) -> Option<u32>
     requires { count ≤ MOST_RECORDS }
     ensures { option_to_list result ≡ records_where accepts count (records_in news.now) }

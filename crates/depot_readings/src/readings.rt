@@ -1,10 +1,10 @@
 //! All that is read off the records of a journal.
 ghost use Rattle.std.specs.Prelude.{◌≡◌, ◌++◌, [], length, is_none, option_copied, IfOk, OnOk, OnErr};
-ghost use Rattle.depot_model.specs.Hello.{wanted_of};
-ghost use Rattle.depot_model.specs.Journal.{accepted, held, is_wanted, value_with};
-ghost use Rattle.depot_model.specs.Lawful.{IsLawful};
-ghost use Rattle.depot_model.specs.Room.{foreign_leaves, full_by};
-ghost use Rattle.depot_model.specs.Vouching.{is_mine_vouched};
+ghost use Rattle.depot_model.specs.exchange.Hello.{wanted_of};
+ghost use Rattle.depot_model.specs.journals.Journal.{accepted, held, is_wanted, value_with};
+ghost use Rattle.depot_model.specs.journals.Lawful.{IsLawful};
+ghost use Rattle.depot_model.specs.checks.Room.{foreign_leaves, full_by};
+ghost use Rattle.depot_model.specs.checks.Vouching.{is_mine_vouched};
 ghost use Rattle.depot_accept.specs.StateView.{IsStateOf, setting};
 ghost use Rattle.depot_graph.specs.UpdateRows.{IsJoinedRow};
 ghost use Rattle.depot_readings.specs.Counts.{AreCountsOf};

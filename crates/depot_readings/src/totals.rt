@@ -19,7 +19,7 @@ pub struct Totals {
 
 impl Totals {
     /// Those of no records.
-    #[tactic(auto, unfolding(depot_model::specs::Room::foreign_leaves, depot_model::specs::History::leaves_of))]
+    #[tactic(auto, unfolding(depot_model::specs::checks::Room::foreign_leaves, depot_model::specs::updates::History::leaves_of))]
     pub fn new() -> Totals
         ensures { (me : ℕ) → AreTotals me [] result }
     {

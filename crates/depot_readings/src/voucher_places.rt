@@ -1,6 +1,6 @@
 //! The ids that own vouchers name, each with the places of these vouchers.
 ghost use Rattle.std.specs.Prelude.{◌≡◌, ◌<◌, ◌^◌, ◌||◌, ◌⊎◌, ℕ, List, true, false, OnOk};
-ghost use Rattle.depot_model.specs.Lists.{IsIn};
+ghost use Rattle.depot_model.specs.lists.Lists.{IsIn};
 ghost use Rattle.depot_readings.specs.VoucherPlaces.{HasPlaceRooms, has_voucher_place, is_among_places, place_name};
 
 use crate::named::NamedValues;

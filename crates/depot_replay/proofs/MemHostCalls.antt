@@ -3,11 +3,11 @@ use Rattle.std.proofs.Common.{◌≡◌, List, ◌++◌, refl}
 use Rattle.depot_base.specs.Calls.{Made, made, FailsAmong}
 use Rattle.depot_base.specs.Format.{whole}
 use Rattle.depot_base.specs.declared.record.Record.{Record}
-use Rattle.depot_model.specs.Bundle.{Signs}
-use Rattle.depot_model.specs.Checks.{Setting}
-use Rattle.depot_model.specs.JournalCalls.{CallsDisk, JournalView}
-use Rattle.depot_model.specs.Stops.{calls_to_record}
-use Rattle.depot_model.specs.World.{Correct}
+use Rattle.depot_model.specs.exchange.Bundle.{Signs}
+use Rattle.depot_model.specs.checks.Checks.{Setting}
+use Rattle.depot_model.specs.journals.JournalCalls.{CallsDisk, JournalView}
+use Rattle.depot_model.specs.journals.Stops.{calls_to_record}
+use Rattle.depot_model.specs.worlds.World.{Correct}
 use Rattle.depot_outside.specs.Stopping.{State, CallsLead}
 use Rattle.depot_requests.specs.Effects.{Effect}
 use Rattle.depot_world.specs.Run.{Host}

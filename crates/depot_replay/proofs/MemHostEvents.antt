@@ -4,13 +4,13 @@ use Rattle.std.proofs.Math.Seq.{drop-append_seam}
 use Rattle.std.proofs.lemmas.List.{append-nil, take-append-drop}
 use Rattle.depot_base.specs.Calls.{Call, made}
 use Rattle.depot_base.specs.declared.record.Record.{Record}
-use Rattle.depot_laws.proofs.Splits.{lawful_front}
-use Rattle.depot_laws.proofs.Growing.{still_some}
-use Rattle.depot_model.specs.Bundle.{Signs}
-use Rattle.depot_model.specs.Checks.{Setting}
-use Rattle.depot_model.specs.Lawful.{IsLawful, is_empty}
-use Rattle.depot_model.specs.Roster.{Verifies}
-use Rattle.depot_model.specs.Stops.{calls_to_record}
+use Rattle.depot_laws.proofs.lists.Splits.{lawful_front}
+use Rattle.depot_laws.proofs.records.Growing.{still_some}
+use Rattle.depot_model.specs.exchange.Bundle.{Signs}
+use Rattle.depot_model.specs.checks.Checks.{Setting}
+use Rattle.depot_model.specs.journals.Lawful.{IsLawful, is_empty}
+use Rattle.depot_model.specs.texts.Roster.{Verifies}
+use Rattle.depot_model.specs.journals.Stops.{calls_to_record}
 use Rattle.depot_base.specs.declared.key.RosterEntry.{RosterEntry}
 use Rattle.depot_outside.specs.Stopping.{State, CallsLead}
 use Rattle.depot_world.specs.Run.{PendingStop, Host}

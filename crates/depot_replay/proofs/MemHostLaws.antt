@@ -9,11 +9,11 @@ use Rattle.depot_base.specs.Calls.{Call, made, FailsAmong, calls_to_append_all}
 use Rattle.depot_base.specs.File.{AreWithinLimits, StandsFor, blocks, framed}
 use Rattle.depot_base.specs.declared.record.Record.{Record}
 use Rattle.depot_base.proofs.CallLaws.{framed_long}
-use Rattle.depot_model.specs.Checks.{Setting}
-use Rattle.depot_model.specs.Lawful.{IsLawful, is_empty}
-use Rattle.depot_model.specs.Records.{journal_bytes, text_of_record}
-use Rattle.depot_model.specs.Stops.{HasRecords, calls_to_record}
-use Rattle.depot_laws.proofs.OwnTexts.{lawful_is_light, lawful_is_short}
+use Rattle.depot_model.specs.checks.Checks.{Setting}
+use Rattle.depot_model.specs.journals.Lawful.{IsLawful, is_empty}
+use Rattle.depot_model.specs.texts.Records.{journal_bytes, text_of_record}
+use Rattle.depot_model.specs.journals.Stops.{HasRecords, calls_to_record}
+use Rattle.depot_laws.proofs.own_updates.OwnTexts.{lawful_is_light, lawful_is_short}
 use Rattle.depot_outside.specs.Stopping.{State, CallsLead}
 use Rattle.depot_world.specs.Run.{PendingStop, Host}
 use Rattle.depot_requests.specs.Effects.{Effect}

@@ -3,9 +3,9 @@ use Rattle.std.proofs.Common.{◌≡◌, ◌↔◌, ℕ, List, ◌++◌, Option,
 use Rattle.std.specs.Prelude.{IsErrOf}
 use Rattle.depot_base.specs.Format.{whole}
 use Rattle.depot_base.specs.declared.record.Record.{Record}
-use Rattle.depot_model.specs.Bundle.{Signs}
-use Rattle.depot_model.specs.Checks.{Setting}
-use Rattle.depot_model.specs.World.{Correct}
+use Rattle.depot_model.specs.exchange.Bundle.{Signs}
+use Rattle.depot_model.specs.checks.Checks.{Setting}
+use Rattle.depot_model.specs.worlds.World.{Correct}
 use Rattle.depot_outside.specs.Stopping.{State}
 use Rattle.depot_requests.specs.declared.printing.Printed.{Printed}
 use Rattle.depot_requests.proofs.LawfulRequests.{served_is_lawful}

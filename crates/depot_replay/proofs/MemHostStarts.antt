@@ -6,12 +6,12 @@ use Rattle.std.proofs.lemmas.Option.{same_Some}
 use Rattle.depot_base.specs.Calls.{Call, made, FailsAmong, asks_length, calls_to_append_all, calls_to_start, syncs, writes_at}
 use Rattle.depot_base.specs.declared.record.Record.{Record}
 use Rattle.depot_base.specs.declared.record.Record.TheVariants.{Birth}
-use Rattle.depot_laws.proofs.Splits.{lawful_none}
-use Rattle.depot_model.specs.Checks.{Setting}
-use Rattle.depot_model.specs.Lawful.{IsLawful, is_empty}
-use Rattle.depot_model.specs.Records.{text_of_record}
-use Rattle.depot_model.specs.Stops.{HasRecords}
-use Rattle.depot_model.specs.Texts.{hash_of_roster}
+use Rattle.depot_laws.proofs.lists.Splits.{lawful_none}
+use Rattle.depot_model.specs.checks.Checks.{Setting}
+use Rattle.depot_model.specs.journals.Lawful.{IsLawful, is_empty}
+use Rattle.depot_model.specs.texts.Records.{text_of_record}
+use Rattle.depot_model.specs.journals.Stops.{HasRecords}
+use Rattle.depot_model.specs.texts.Texts.{hash_of_roster}
 use Rattle.depot_node.specs.Starting.{IsStartedFrom, LeavesFile, calls_to_start_node, started}
 use Rattle.depot_node.specs.declared.start_error.StartError.{StartError}
 use Rattle.depot_node.specs.declared.start_error.StartError.TheVariants as refused

@@ -1,8 +1,8 @@
 -- What a hosted node hands in for an audit.
 use Rattle.std.proofs.Common.{◌≡◌, ℕ, List, map, ap, ◌∙◌}
 use Rattle.depot_base.specs.declared.record.Record.{Record}
-use Rattle.depot_model.specs.Records.{text_of_record}
-use Rattle.depot_model.specs.Traces as audits
+use Rattle.depot_model.specs.texts.Records.{text_of_record}
+use Rattle.depot_model.specs.worlds.Traces as audits
 use Rattle.depot_traces.specs.SeenTraces.{read_of}
 use Rattle.depot_traces.specs.declared.trace.ReadTrace.{ReadTrace}
 

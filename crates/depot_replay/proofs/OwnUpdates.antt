@@ -13,14 +13,14 @@ use Rattle.depot_base.specs.declared.record.Record.TheVariants.{Birth, OwnPut, O
 use Rattle.depot_base.specs.declared.statement.Statement.{Statement}
 use Rattle.depot_base.specs.declared.statement.Statement.TheVariants as statement
 use Rattle.depot_base.specs.declared.update.Update.{Update}
-use Rattle.depot_laws.proofs.Splits.{lawful_from_end}
-use Rattle.depot_laws.proofs.Taken.{new_is}
-use Rattle.depot_model.specs.Checks.{Setting}
-use Rattle.depot_model.specs.Journal.{accepted, accepted_by, own, own_by, update_in}
-use Rattle.depot_model.specs.Lawful.{IsLawful, MayFollow}
+use Rattle.depot_laws.proofs.lists.Splits.{lawful_from_end}
+use Rattle.depot_laws.proofs.records.Taken.{new_is}
+use Rattle.depot_model.specs.checks.Checks.{Setting}
+use Rattle.depot_model.specs.journals.Journal.{accepted, accepted_by, own, own_by, update_in}
+use Rattle.depot_model.specs.journals.Lawful.{IsLawful, MayFollow}
 use Rattle.depot_world.specs.Run.{first_update, own_update}
 use Rattle.depot_base.proofs.GeneralLaws.{flat_push, parts_at}
-use Rattle.depot_laws.proofs.Nexts.{next_of}
+use Rattle.depot_laws.proofs.own_updates.Nexts.{next_of}
 
 -- ---- which they are
 

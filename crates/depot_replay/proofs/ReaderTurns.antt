@@ -2,9 +2,9 @@
 use Rattle.std.proofs.Common.{◌≡◌, ℕ, List, Option, Some, None, Result, Ok, Err, sym, ap, subst}
 use Rattle.std.specs.Prelude.{OnOk}
 use Rattle.depot_base.specs.declared.record.Record.{Record}
-use Rattle.depot_model.specs.Checks.{Setting}
-use Rattle.depot_model.specs.Readers.{Reader, trim_of}
-use Rattle.depot_model.specs.Roster.{Verifies}
+use Rattle.depot_model.specs.checks.Checks.{Setting}
+use Rattle.depot_model.specs.readers.Readers.{Reader, trim_of}
+use Rattle.depot_model.specs.texts.Roster.{Verifies}
 use Rattle.depot_trim.specs.ReaderAnswers.{Trims}
 use Rattle.depot_trim.specs.ReaderView.{IsReaderOf}
 use Rattle.depot_trim.specs.declared.trim_error.TrimError.{TrimError}

@@ -5,10 +5,10 @@ use Rattle.std.specs.Coded.{Coded, Coded-set, code_by, coded×, coded_ℕ, coded
 use Rattle.depot_base.specs.declared.record.Record.{Record}
 use Rattle.std.proofs.Common.{subst}
 use Rattle.depot_base.specs.declared.key.RosterEntry.{RosterEntry}
-use Rattle.depot_model.specs.Bundle.{Signs}
-use Rattle.depot_model.specs.Codes.{coded_roster_entry}
-use Rattle.depot_model.specs.Lawful.{IsLawful}
-use Rattle.depot_model.specs.Roster.{Verifies}
+use Rattle.depot_model.specs.exchange.Bundle.{Signs}
+use Rattle.depot_model.specs.lists.Codes.{coded_roster_entry}
+use Rattle.depot_model.specs.journals.Lawful.{IsLawful}
+use Rattle.depot_model.specs.texts.Roster.{Verifies}
 use Rattle.depot_outside.specs.Images.{Moment, Written}
 use Rattle.depot_outside.specs.Stopping.{State}
 use Rattle.depot_replay.specs.Disks.{IsAtRest}

@@ -1,8 +1,8 @@
 -- What is printed of a node's event, and the event's outcome.
 use Rattle.std.specs.Prelude.{◌≡◌, ℕ, List, IfOk, Option, Some, None, Result, Ok}
 use Rattle.depot_base.specs.declared.record.Record.{Record}
-use Rattle.depot_model.specs.Bundle.{Signs}
-use Rattle.depot_model.specs.Checks.{Setting}
+use Rattle.depot_model.specs.exchange.Bundle.{Signs}
+use Rattle.depot_model.specs.checks.Checks.{Setting}
 use Rattle.depot_requests.specs.Replies.{bytes_of_reply, lines_of_reply}
 use Rattle.depot_requests.specs.declared.printing.Printed.{Printed}
 use Rattle.depot_requests.specs.declared.reply.Halt.{Halt}

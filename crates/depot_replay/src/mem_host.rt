@@ -1,7 +1,7 @@
 //! A correct node over a disk in memory.
 ghost use Rattle.std.specs.Prelude.{◌≡◌, ◌≢◌, ◌↔◌, IsErrOf, [], ℕ, List, false, Some, None, Ok, IfOk, IfErr, IsOk, refl};
 ghost use Rattle.depot_answers.specs.AnswerTexts.{text_of_number, spaced};
-ghost use Rattle.depot_model.specs.Roster.{key_of};
+ghost use Rattle.depot_model.specs.texts.Roster.{key_of};
 ghost use Rattle.depot_node.specs.Keyed.{HasKey-prop};
 ghost use Rattle.depot_node.specs.Starting.{IsNodeAt, LeavesFile, placed};
 ghost use Rattle.depot_node.specs.declared.start_error.StartError.TheVariants as start_error;

@@ -1,8 +1,8 @@
 //! A reader that is made of a hosted node.
 ghost use Rattle.std.specs.Prelude.{List, ℕ, IfOk};
 ghost use Rattle.depot_base.specs.declared.record.Record.{Record};
-ghost use Rattle.depot_model.specs.Checks.{Setting};
-ghost use Rattle.depot_model.specs.Readers.{trim_of};
+ghost use Rattle.depot_model.specs.checks.Checks.{Setting};
+ghost use Rattle.depot_model.specs.readers.Readers.{trim_of};
 ghost use Rattle.depot_trim.specs.ReaderAnswers.{Trims};
 ghost use Rattle.depot_trim.specs.ReaderView.{IsReaderOf};
 ghost use Rattle.depot_world.specs.Transcript.{reader_made};

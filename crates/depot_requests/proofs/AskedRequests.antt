@@ -11,12 +11,12 @@ use Rattle.depot_base.specs.Sized.{IsKey, IsValue}
 use Rattle.depot_base.specs.Writes.{value_in_change}
 use Rattle.depot_base.specs.declared.write.Change.{Change}
 use Rattle.depot_base.proofs.Combined.{bytes_count}
-use Rattle.depot_laws.proofs.TrueReceipts.{keys_rise}
+use Rattle.depot_laws.proofs.of_audits.TrueReceipts.{keys_rise}
 use Rattle.depot_lines.specs.PutKeys.{WriteNoReceipts}
 use Rattle.std.proofs.lemmas.Bool.{eqb-true}
-use Rattle.depot_model.specs.Lists.{when}
-use Rattle.depot_model.specs.Checkpoints.{is_checkpoint_key}
-use Rattle.depot_model.specs.Receipts.{receipt_changes, receipt_key, receipt_of}
+use Rattle.depot_model.specs.lists.Lists.{when}
+use Rattle.depot_model.specs.readers.Checkpoints.{is_checkpoint_key}
+use Rattle.depot_model.specs.worlds.Receipts.{receipt_changes, receipt_key, receipt_of}
 use Rattle.depot_requests.specs.Requests.{AreIds, IsRequest, ArePlainChanges}
 use Rattle.depot_requests.specs.declared.request.Request.{Request}
 use Rattle.depot_requests.specs.declared.request.Request.TheVariants as request

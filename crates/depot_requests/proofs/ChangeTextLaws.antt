@@ -18,7 +18,7 @@ use Rattle.depot_base.proofs.FormatLaws.{Lawful, weaken}
 use Rattle.depot_base.proofs.GeneralLaws.{less_is}
 use Rattle.depot_base.proofs.Numbers.{number_within}
 use Rattle.depot_base.proofs.PartLaws.{digests_lawful, u32_lawful, u8_lawful}
-use Rattle.depot_model.specs.Receipts.{receipt_of}
+use Rattle.depot_model.specs.worlds.Receipts.{receipt_of}
 use Rattle.depot_requests.specs.ChangeTexts.{change_behind, change_follows, change_mark, change_text, changes_text, given_value, ids_text, key_text}
 
 -- ---- keys

@@ -5,20 +5,20 @@ use Rattle.depot_base.specs.Format.{whole}
 use Rattle.depot_base.specs.declared.record.Record.{Record}
 use Rattle.depot_base.specs.declared.write.Change.{Change}
 use Rattle.depot_laws.specs.Streams.{AreBytes}
-use Rattle.depot_laws.proofs.LawfulFeeds.{feed_keeps}
-use Rattle.depot_laws.proofs.NewVouchers.{new_are_lawful}
-use Rattle.depot_model.specs.Bundle.{Signs, answer_to_hello, bad_hello, bundle_answer, bundle_of, bundled_within, other_roster, sent_for, unvouched}
-use Rattle.depot_model.specs.Changes.{AreChanges}
-use Rattle.depot_model.specs.Checks.{Setting}
-use Rattle.depot_model.specs.Feeding.{feeding_from}
-use Rattle.depot_model.specs.Hello.{hello}
-use Rattle.depot_model.specs.Lawful.{IsLawful, is_empty}
-use Rattle.depot_model.specs.Limits.{Limit, limit_of_put}
-use Rattle.depot_model.specs.Opening.{MadeCheckpoint, Opened, ill_at, made_text, make_of, many_leaves, no_leaves, of_roster, opened, opened_text, with_unknown}
-use Rattle.depot_model.specs.Receipts.{NoReceipt, lacks_value, no_receipt, receipt_changes, unknown}
-use Rattle.depot_model.specs.Roster.{has_node}
-use Rattle.depot_model.specs.Texts.{hash_of_roster}
-use Rattle.depot_model.specs.Vouching.{limit_of_vouchers, records_of}
+use Rattle.depot_laws.proofs.exchanges.LawfulFeeds.{feed_keeps}
+use Rattle.depot_laws.proofs.records.NewVouchers.{new_are_lawful}
+use Rattle.depot_model.specs.exchange.Bundle.{Signs, answer_to_hello, bad_hello, bundle_answer, bundle_of, bundled_within, other_roster, sent_for, unvouched}
+use Rattle.depot_model.specs.updates.Changes.{AreChanges}
+use Rattle.depot_model.specs.checks.Checks.{Setting}
+use Rattle.depot_model.specs.exchange.Feeding.{feeding_from}
+use Rattle.depot_model.specs.exchange.Hello.{hello}
+use Rattle.depot_model.specs.journals.Lawful.{IsLawful, is_empty}
+use Rattle.depot_model.specs.checks.Limits.{Limit, limit_of_put}
+use Rattle.depot_model.specs.readers.Opening.{MadeCheckpoint, Opened, ill_at, made_text, make_of, many_leaves, no_leaves, of_roster, opened, opened_text, with_unknown}
+use Rattle.depot_model.specs.worlds.Receipts.{NoReceipt, lacks_value, no_receipt, receipt_changes, unknown}
+use Rattle.depot_model.specs.texts.Roster.{has_node}
+use Rattle.depot_model.specs.texts.Texts.{hash_of_roster}
+use Rattle.depot_model.specs.checks.Vouching.{limit_of_vouchers, records_of}
 use Rattle.depot_model.specs.declared.hello.Hello.{Hello}
 use Rattle.depot_requests.proofs.CheckpointTexts.{checkpoint_is_change, made_is_short, opened_is_short}
 use Rattle.depot_requests.proofs.ServedRequests.{put_lawful}

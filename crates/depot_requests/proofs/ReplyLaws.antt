@@ -11,8 +11,8 @@ use Rattle.depot_base.proofs.Decoding.{closed_in_one_way}
 use Rattle.depot_base.proofs.FormatLaws.{IsBytes, Lawful, bind_err, bind_ok, cursor, not_err, ok, ok_is}
 use Rattle.depot_base.proofs.Numbers.{number_within}
 use Rattle.depot_base.proofs.PartLaws.{u8_lawful}
-use Rattle.depot_model.proofs.HelloLaws.{hello_lawful}
-use Rattle.depot_model.specs.Hello.{hello}
+use Rattle.depot_model.proofs.of_texts.HelloLaws.{hello_lawful}
+use Rattle.depot_model.specs.exchange.Hello.{hello}
 use Rattle.depot_model.specs.declared.bundle.Counts.{Counts}
 use Rattle.depot_model.specs.declared.bundle.Report.{Report}
 use Rattle.depot_model.specs.declared.hello.Hello.{Hello}

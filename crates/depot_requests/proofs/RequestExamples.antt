@@ -4,8 +4,8 @@ use Rattle.std.specs.Prelude.{codes}
 use Rattle.depot_base.specs.Closed.{rest_of}
 use Rattle.depot_base.specs.Format.{number, bytes_of, list_of}
 use Rattle.depot_base.specs.declared.write.Change.{Change}
-use Rattle.depot_model.specs.Checkpoints.{is_checkpoint_key}
-use Rattle.depot_model.specs.Receipts.{receipt_of}
+use Rattle.depot_model.specs.readers.Checkpoints.{is_checkpoint_key}
+use Rattle.depot_model.specs.worlds.Receipts.{receipt_of}
 use Rattle.depot_requests.specs.declared.request.Request.{Request}
 use Rattle.depot_requests.specs.declared.request.Request.TheVariants as request
 use Rattle.depot_requests.specs.ChangeTexts.{change_behind, change_text, changes_text, ids_text, key_text}

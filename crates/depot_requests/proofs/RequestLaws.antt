@@ -15,7 +15,7 @@ use Rattle.depot_base.proofs.Decoding.{closed_in_one_way}
 use Rattle.depot_base.proofs.FormatLaws.{IsBytes, Lawful, cursor}
 use Rattle.depot_base.proofs.Numbers.{number_within}
 use Rattle.depot_base.proofs.PartLaws.{digest_lawful, u32_lawful, u8_lawful}
-use Rattle.depot_model.specs.Lists.{when}
+use Rattle.depot_model.specs.lists.Lists.{when}
 use Rattle.depot_requests.specs.Requests.{IsRequest}
 use Rattle.depot_requests.specs.declared.request.Request.{Request}
 use Rattle.depot_requests.specs.declared.request.Request.TheVariants as request

@@ -5,20 +5,20 @@ use Rattle.depot_answers.specs.declared.exchange_answers.Closing.{Closing}
 use Rattle.depot_answers.specs.declared.exchange_answers.Closing.TheVariants as closing
 use Rattle.depot_base.specs.declared.record.Record.{Record}
 use Rattle.depot_base.specs.declared.write.Change.{Change}
-use Rattle.depot_laws.proofs.OwnTexts.{own_put_is_lawful}
-use Rattle.depot_model.specs.Bundle.{BundleAnswer, Signs, bad_hello, bundle_answer, bundled, limited, other_roster}
-use Rattle.depot_model.specs.Changes.{AreChanges}
-use Rattle.depot_model.specs.Checks.{Setting}
-use Rattle.depot_model.specs.Feeding.{feed_of, feeding_from}
-use Rattle.depot_model.specs.Lawful.{IsLawful, is_empty}
-use Rattle.depot_model.specs.Limits.{Limit, limit_of_put}
-use Rattle.depot_model.specs.Opening.{MadeCheckpoint, Opened, ill_at, made_text, make_of, many_leaves, no_leaves, of_roster, opened, opened_text, with_unknown}
-use Rattle.depot_model.specs.Own.{next_own}
-use Rattle.depot_model.specs.Putting.{put_records}
-use Rattle.depot_model.specs.Receipts.{NoReceipt, lacks_value, no_receipt, receipt_changes, unknown}
-use Rattle.depot_model.specs.Vouching.{records_of}
-use Rattle.depot_model.proofs.FeedGrowth.{IsGrown, feed_grows, grown_none}
-use Rattle.depot_model.proofs.LimitLaws.{unlimited_from}
+use Rattle.depot_laws.proofs.own_updates.OwnTexts.{own_put_is_lawful}
+use Rattle.depot_model.specs.exchange.Bundle.{BundleAnswer, Signs, bad_hello, bundle_answer, bundled, limited, other_roster}
+use Rattle.depot_model.specs.updates.Changes.{AreChanges}
+use Rattle.depot_model.specs.checks.Checks.{Setting}
+use Rattle.depot_model.specs.exchange.Feeding.{feed_of, feeding_from}
+use Rattle.depot_model.specs.journals.Lawful.{IsLawful, is_empty}
+use Rattle.depot_model.specs.checks.Limits.{Limit, limit_of_put}
+use Rattle.depot_model.specs.readers.Opening.{MadeCheckpoint, Opened, ill_at, made_text, make_of, many_leaves, no_leaves, of_roster, opened, opened_text, with_unknown}
+use Rattle.depot_model.specs.checks.Own.{next_own}
+use Rattle.depot_model.specs.checks.Putting.{put_records}
+use Rattle.depot_model.specs.worlds.Receipts.{NoReceipt, lacks_value, no_receipt, receipt_changes, unknown}
+use Rattle.depot_model.specs.checks.Vouching.{records_of}
+use Rattle.depot_model.proofs.of_journals.FeedGrowth.{IsGrown, feed_grows, grown_none}
+use Rattle.depot_model.proofs.of_updates.LimitLaws.{unlimited_from}
 use Rattle.depot_requests.specs.Effects.{checkpoint_changes}
 use Rattle.depot_requests.specs.Replies.{closing_told}
 use Rattle.depot_requests.specs.Requests.{bundle_served, checkpoint_served, handing, put_served, receipts_served, served, sign_served, stream_served}

@@ -14,7 +14,7 @@ use Rattle.depot_base.proofs.FormatLaws.{Lawful, weaken}
 use Rattle.depot_base.specs.Parts.{digest, node_number}
 use Rattle.depot_base.proofs.Numbers.{number_within}
 use Rattle.depot_base.proofs.PartLaws.{digest_lawful, node_lawful, u32_lawful, u64_lawful, u8_lawful}
-use Rattle.depot_model.specs.Texts.{kind_of_number, number_of_kind}
+use Rattle.depot_model.specs.texts.Texts.{kind_of_number, number_of_kind}
 use Rattle.depot_model.specs.declared.bundle.Counts.{Counts}
 use Rattle.depot_model.specs.declared.bundle.Ending.{Ending}
 use Rattle.depot_model.specs.declared.bundle.Ending.TheVariants as ending

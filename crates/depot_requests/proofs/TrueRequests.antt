@@ -2,14 +2,14 @@
 use Rattle.std.proofs.Common.{◌≡◌, ℕ, List, ◌++◌, Option, Some, None, refl}
 use Rattle.depot_base.specs.declared.record.Record.{Record}
 use Rattle.depot_base.specs.declared.write.Change.{Change}
-use Rattle.depot_laws.proofs.TrueReceipts.{silent_is_true, vouchers_put_none}
-use Rattle.depot_model.specs.Bundle.{BundleAnswer, Signs, bad_hello, bundle_answer, bundled, limited, other_roster}
-use Rattle.depot_model.specs.Checks.{Setting}
-use Rattle.depot_model.specs.Limits.{Limit, limit_of_put}
-use Rattle.depot_model.specs.Opening.{MadeCheckpoint, Opened, ill_at, made_text, make_of, many_leaves, no_leaves, of_roster, opened, opened_text, with_unknown}
-use Rattle.depot_model.specs.Putting.{put_records}
-use Rattle.depot_model.specs.Receipts.{AreReceiptsTrue, NoReceipt, lacks_value, no_receipt, receipt_changes, unknown}
-use Rattle.depot_model.specs.Vouching.{records_of}
+use Rattle.depot_laws.proofs.of_audits.TrueReceipts.{silent_is_true, vouchers_put_none}
+use Rattle.depot_model.specs.exchange.Bundle.{BundleAnswer, Signs, bad_hello, bundle_answer, bundled, limited, other_roster}
+use Rattle.depot_model.specs.checks.Checks.{Setting}
+use Rattle.depot_model.specs.checks.Limits.{Limit, limit_of_put}
+use Rattle.depot_model.specs.readers.Opening.{MadeCheckpoint, Opened, ill_at, made_text, make_of, many_leaves, no_leaves, of_roster, opened, opened_text, with_unknown}
+use Rattle.depot_model.specs.checks.Putting.{put_records}
+use Rattle.depot_model.specs.worlds.Receipts.{AreReceiptsTrue, NoReceipt, lacks_value, no_receipt, receipt_changes, unknown}
+use Rattle.depot_model.specs.checks.Vouching.{records_of}
 use Rattle.depot_requests.proofs.CheckpointTexts.{checkpoint_gives_none}
 use Rattle.depot_requests.proofs.TrueReceipts.{feed_stays_true, put_stays_true, receipts_put_stays_true}
 use Rattle.depot_requests.specs.Effects.{checkpoint_changes}

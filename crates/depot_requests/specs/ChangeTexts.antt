@@ -5,8 +5,8 @@ use Rattle.depot_base.specs.declared.limits.TheConstants.{MOST_KEY, MOST_VALUE, 
 use Rattle.depot_base.specs.declared.write.Change.{Change}
 use Rattle.depot_base.specs.Format.{Format, number, bytes_of, field, made_of_fields, choose, list_of}
 use Rattle.depot_base.specs.Parts.{digests, is_below}
-use Rattle.depot_model.specs.Checkpoints.{is_checkpoint_key}
-use Rattle.depot_model.specs.Receipts.{receipt_of}
+use Rattle.depot_model.specs.readers.Checkpoints.{is_checkpoint_key}
+use Rattle.depot_model.specs.worlds.Receipts.{receipt_of}
 
 -- a key, preceded by its length
 unfoldable pub key_text : Format (List ℕ)

@@ -4,9 +4,9 @@ use Rattle.std.specs.List.{flat_map}
 use Rattle.depot_base.specs.declared.record.Record.{Record}
 use Rattle.depot_base.specs.Writes.{one_change}
 use Rattle.depot_base.specs.declared.write.Change.{Change}
-use Rattle.depot_model.specs.Checkpoints.{checkpoint_key}
-use Rattle.depot_model.specs.World.{Read}
-use Rattle.depot_model.specs.ShownWrites.{shown_of}
+use Rattle.depot_model.specs.readers.Checkpoints.{checkpoint_key}
+use Rattle.depot_model.specs.worlds.World.{Read}
+use Rattle.depot_model.specs.journals.ShownWrites.{shown_of}
 
 -- An operation without a crash: the journal and the reads after it, how many disk calls it makes, what is printed after
 -- the arrow and on lines of their own, and the bytes that it hands out.

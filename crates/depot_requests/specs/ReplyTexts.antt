@@ -5,7 +5,7 @@ use Rattle.depot_answers.specs.declared.exchange_answers.Closing.{Closing}
 use Rattle.depot_base.specs.Closed.{Closed, closing, rest_of, before, closed_variant, closed_choose}
 use Rattle.depot_base.specs.Cursor.{numeral}
 use Rattle.depot_base.specs.Format.{Format, number, field, made_of_fields}
-use Rattle.depot_model.specs.Hello.{hello}
+use Rattle.depot_model.specs.exchange.Hello.{hello}
 use Rattle.depot_model.specs.declared.bundle.Counts.{Counts}
 use Rattle.depot_model.specs.declared.bundle.Report.{Report}
 use Rattle.depot_model.specs.declared.hello.Hello.{Hello}

@@ -7,7 +7,7 @@ use Rattle.depot_base.specs.declared.write.Change.{Change}
 use Rattle.depot_base.specs.Closed.{Closed, closing, rest_of, before, closed_variant, closed_choose}
 use Rattle.depot_base.specs.Format.{Format, number, field, made_of_fields}
 use Rattle.depot_base.specs.Parts.{digest}
-use Rattle.depot_model.specs.Lists.{when}
+use Rattle.depot_model.specs.lists.Lists.{when}
 use Rattle.depot_requests.specs.declared.request.Request.{Request}
 use Rattle.depot_requests.specs.declared.request.Request.TheVariants as request
 use Rattle.depot_source.specs.declared.hearing.TheConstants.{MOST_MESSAGE}

@@ -9,18 +9,18 @@ use Rattle.depot_base.specs.declared.write.Change.{Change}
 use Rattle.depot_answers.specs.AnswerTexts.{spaced, text_of_write}
 use Rattle.depot_laws.specs.Streams.{AreBytes}
 use Rattle.depot_lines.specs.PutKeys.{WriteNoReceipts}
-use Rattle.depot_model.specs.Bundle.{BundleAnswer, Signs, bad_hello, bundle_answer, bundled, bytes_of_bundle, limited, other_roster, with_vouchers}
-use Rattle.depot_model.specs.Changes.{AreChanges}
-use Rattle.depot_model.specs.Checks.{Setting}
-use Rattle.depot_model.specs.Feeding.{Feeding, feed_of, report_of}
-use Rattle.depot_model.specs.Hello.{hello_of, text_of_hello}
-use Rattle.depot_model.specs.Limits.{Limit, limit_of_put}
-use Rattle.depot_model.specs.Opening.{MadeCheckpoint, Opened, ill_at, made_text, make_of, many_leaves, no_leaves, of_roster, opened, opened_text, with_unknown}
-use Rattle.depot_model.specs.Own.{next_own}
-use Rattle.depot_model.specs.Putting.{put_done_of, put_records}
-use Rattle.depot_model.specs.Receipts.{NoReceipt, lacks_value, no_receipt, receipt_changes, receipts, unknown}
-use Rattle.depot_model.specs.ShownWrites.{shown_of}
-use Rattle.depot_model.specs.World.{Correct, Read}
+use Rattle.depot_model.specs.exchange.Bundle.{BundleAnswer, Signs, bad_hello, bundle_answer, bundled, bytes_of_bundle, limited, other_roster, with_vouchers}
+use Rattle.depot_model.specs.updates.Changes.{AreChanges}
+use Rattle.depot_model.specs.checks.Checks.{Setting}
+use Rattle.depot_model.specs.exchange.Feeding.{Feeding, feed_of, report_of}
+use Rattle.depot_model.specs.exchange.Hello.{hello_of, text_of_hello}
+use Rattle.depot_model.specs.checks.Limits.{Limit, limit_of_put}
+use Rattle.depot_model.specs.readers.Opening.{MadeCheckpoint, Opened, ill_at, made_text, make_of, many_leaves, no_leaves, of_roster, opened, opened_text, with_unknown}
+use Rattle.depot_model.specs.checks.Own.{next_own}
+use Rattle.depot_model.specs.checks.Putting.{put_done_of, put_records}
+use Rattle.depot_model.specs.worlds.Receipts.{NoReceipt, lacks_value, no_receipt, receipt_changes, receipts, unknown}
+use Rattle.depot_model.specs.journals.ShownWrites.{shown_of}
+use Rattle.depot_model.specs.worlds.World.{Correct, Read}
 use Rattle.depot_requests.specs.Effects.{Effect, calls_for_records, checkpoint_changes, read_at_end}
 use Rattle.depot_requests.specs.Replies.{answer_of_reply, behind_of_reply, bytes_of_reply, closing_told, limit_told}
 use Rattle.depot_requests.specs.declared.reply.Reason.{Reason}

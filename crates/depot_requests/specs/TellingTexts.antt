@@ -13,7 +13,7 @@ use Rattle.depot_base.specs.declared.proof.Kind.{Kind}
 use Rattle.depot_base.specs.declared.proof.Kind.TheVariants.{SameNumber}
 use Rattle.depot_base.specs.Format.{Format, number, field, made_of_fields, choose, list_of}
 use Rattle.depot_base.specs.Parts.{node_number, digest}
-use Rattle.depot_model.specs.Texts.{kind_of_number, number_of_kind}
+use Rattle.depot_model.specs.texts.Texts.{kind_of_number, number_of_kind}
 use Rattle.depot_model.specs.declared.bundle.Counts.{Counts}
 use Rattle.depot_model.specs.declared.bundle.Ending.{Ending}
 use Rattle.depot_model.specs.declared.bundle.Ending.TheVariants as ending

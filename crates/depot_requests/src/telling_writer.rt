@@ -3,7 +3,7 @@ ghost use Rattle.std.specs.Prelude.{◌≡◌, ◌++◌, OnOk};
 ghost use Rattle.std.specs.List.{flat_map};
 ghost use Rattle.std.specs.Int.{w8, w16, w32};
 ghost use Rattle.depot_base.specs.Cursor.{numeral};
-ghost use Rattle.depot_model.specs.Texts.{number_of_kind};
+ghost use Rattle.depot_model.specs.texts.Texts.{number_of_kind};
 ghost use Rattle.depot_requests.specs.TellingTexts.{check_text, closing_text, counts_text, done_text, ending_text, flag_text, full_byte, full_text, limit_text, reason_text, refusal_text, stream_report};
 
 use crate::{NodeLimit, Reason};

@@ -2,13 +2,13 @@
 use Rattle.std.proofs.Common.{◌≡◌, ℕ, List, [], ◌∷◌, Bool, true, not, ◌&&◌, ◌||◌, refl, sym, ap, subst, ◌∙◌, inl, inr, ◌⊎◌}
 use Rattle.std.proofs.lemmas.Bool.{or_cases, or_left, or_right, and_parts, and_from, not-true, both_ways, cases_Bool}
 use Rattle.depot_base.specs.declared.update.Update.{Update}
-use Rattle.depot_model.specs.Lists.{IsIn, is_among}
-use Rattle.depot_model.specs.Texts.{id_of_update}
-use Rattle.depot_model.specs.Order.{IsPath, IsParent, Precedes, parents, IsCausal, IsLatest}
-use Rattle.depot_model.proofs.Members.{among_from, among_to, chosen_cases, chosen_behind, chosen_front}
-use Rattle.depot_model.proofs.Orders.{leads_more, parent_precedes, precedes_wider, causal_behind, child_is_behind, path_behind}
-use Rattle.depot_model.proofs.ContentLaws.{writes-Decides}
-use Rattle.depot_model.specs.Contents.{writes as writes_key, Writes}
+use Rattle.depot_model.specs.lists.Lists.{IsIn, is_among}
+use Rattle.depot_model.specs.texts.Texts.{id_of_update}
+use Rattle.depot_model.specs.updates.Order.{IsPath, IsParent, Precedes, parents, IsCausal, IsLatest}
+use Rattle.depot_model.proofs.lists.Members.{among_from, among_to, chosen_cases, chosen_behind, chosen_front}
+use Rattle.depot_model.proofs.of_updates.Orders.{leads_more, parent_precedes, precedes_wider, causal_behind, child_is_behind, path_behind}
+use Rattle.depot_model.proofs.of_texts.ContentLaws.{writes-Decides}
+use Rattle.depot_model.specs.texts.Contents.{writes as writes_key, Writes}
 use Rattle.depot_scan.specs.Covered.{covers, uncovered}
 
 writes_is : (key : List ℕ) (u : Update) → writes_key key u ≡ true → Writes key u

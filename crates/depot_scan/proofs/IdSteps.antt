@@ -5,10 +5,10 @@ use Rattle.std.specs.Str.{bytes_eq}
 use Rattle.std.specs.HashMap.{get}
 use Rattle.depot_base.specs.declared.update.Update.{Update}
 use Rattle.depot_base.specs.declared.update.Dep.{Dep}
-use Rattle.depot_model.specs.Lists.{is_among}
-use Rattle.depot_model.specs.Order.{prevs, parents}
+use Rattle.depot_model.specs.lists.Lists.{is_among}
+use Rattle.depot_model.specs.updates.Order.{prevs, parents}
 use Rattle.depot_base.proofs.GeneralLaws.{bytes_eq_comm, or_swap}
-use Rattle.depot_model.proofs.Members.{all-append, all-map, among-append}
+use Rattle.depot_model.proofs.lists.Members.{all-append, all-map, among-append}
 use Rattle.depot_scan.specs.Ids.{IdMarks, PutsIdMark, is_id_marked, IsUncovered, HasMore}
 use Rattle.depot_scan.specs.declared.log_ids.LogIds.{LogIds}
 

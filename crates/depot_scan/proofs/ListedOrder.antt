@@ -17,16 +17,16 @@ use Rattle.std.proofs.lemmas.List.Sorted.{ranks_by, IsPermutation-map, IsPermuta
 use Rattle.std.proofs.lemmas.Map.Keys.{IsDistinct-IsPermutation, apart_from_distinct, sorted_head, sorted_tail, sorted_from_all_adjacent}
 use Rattle.std.proofs.lemmas.Slice.Eq.{bytes_eq-Decides}
 use Rattle.depot_base.specs.declared.update.Update.{Update}
-use Rattle.depot_model.specs.Lists.{IsIn}
-use Rattle.depot_model.specs.Texts.{id_of_update}
-use Rattle.depot_model.specs.Order.{listed, RisesStrictly, AreLatestIn, IsCausal}
-use Rattle.depot_model.proofs.Members.{in_permuted}
-use Rattle.depot_model.proofs.LatestLaws.{rank, one_rank}
-use Rattle.depot_model.proofs.Orders.{fresh, causal_behind}
-use Rattle.depot_model.proofs.ContradictionLaws.{below_or_above}
+use Rattle.depot_model.specs.lists.Lists.{IsIn}
+use Rattle.depot_model.specs.texts.Texts.{id_of_update}
+use Rattle.depot_model.specs.updates.Order.{listed, RisesStrictly, AreLatestIn, IsCausal}
+use Rattle.depot_model.proofs.lists.Members.{in_permuted}
+use Rattle.depot_model.proofs.of_updates.LatestLaws.{rank, one_rank}
+use Rattle.depot_model.proofs.of_updates.Orders.{fresh, causal_behind}
+use Rattle.depot_model.proofs.of_updates.ContradictionLaws.{below_or_above}
 use Rattle.depot_base.proofs.GeneralLaws.{bytes_eq_comm, less_is}
 use Rattle.depot_scan.specs.Bodies.{updates}
-use Rattle.depot_model.specs.Contents.{writes as writes_key}
+use Rattle.depot_model.specs.texts.Contents.{writes as writes_key}
 use Rattle.depot_scan.specs.Covered.{covers, uncovered}
 use Rattle.depot_scan.specs.declared.body.Body.{Body}
 use Rattle.depot_scan.proofs.CoveredLaws.{uncovered_in, latest_from_uncovered, uncovered_from_latest}

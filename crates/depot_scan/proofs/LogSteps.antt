@@ -14,10 +14,10 @@ use Rattle.depot_base.specs.declared.fault.Fault.TheVariants.{Memory, At}
 use Rattle.depot_base.specs.declared.update.Update.{Update}
 use Rattle.depot_base.proofs.FormatLaws.{IsBytes, IsBytes-take, cursor}
 use Rattle.depot_base.proofs.Numbers.{wide32}
-use Rattle.depot_model.specs.Texts.{IsUpdate, text_of_update, update_body}
-use Rattle.depot_model.specs.Log.{text_of_log, IsLog, GoesWrong, IsLogFault}
-use Rattle.depot_model.proofs.LogLaws.{told, front, log-push, one_log, log_has_no_fault, one_log_fault}
-use Rattle.depot_model.proofs.Members.{all_push}
+use Rattle.depot_model.specs.texts.Texts.{IsUpdate, text_of_update, update_body}
+use Rattle.depot_model.specs.texts.Log.{text_of_log, IsLog, GoesWrong, IsLogFault}
+use Rattle.depot_model.proofs.of_texts.LogLaws.{told, front, log-push, one_log, log_has_no_fault, one_log_fault}
+use Rattle.depot_model.proofs.lists.Members.{all_push}
 use Rattle.depot_scan.specs.ScannedLog.{fault_of, ReadsFront, ReadsLog}
 use Rattle.depot_scan.specs.declared.body.Body.{Body}
 

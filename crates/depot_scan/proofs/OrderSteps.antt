@@ -5,12 +5,12 @@ use Rattle.std.specs.Str.{bytes_eq}
 use Rattle.std.proofs.lemmas.List.{map_push, append-nil}
 use Rattle.std.proofs.lemmas.Slice.Eq.{bytes_eq-Decides}
 use Rattle.depot_base.specs.declared.update.Update.{Update}
-use Rattle.depot_model.specs.Lists.{is_among}
-use Rattle.depot_model.specs.Texts.{id_of_update}
-use Rattle.depot_model.specs.Order.{parents, IsCausal}
-use Rattle.depot_model.specs.Log.{firsts_behind, firsts, orphan_behind, first_orphan}
-use Rattle.depot_model.proofs.Members.{among-append}
-use Rattle.depot_model.proofs.LogLaws.{firsts_are_causal}
+use Rattle.depot_model.specs.lists.Lists.{is_among}
+use Rattle.depot_model.specs.texts.Texts.{id_of_update}
+use Rattle.depot_model.specs.updates.Order.{parents, IsCausal}
+use Rattle.depot_model.specs.texts.Log.{firsts_behind, firsts, orphan_behind, first_orphan}
+use Rattle.depot_model.proofs.lists.Members.{among-append}
+use Rattle.depot_model.proofs.of_texts.LogLaws.{firsts_are_causal}
 use Rattle.depot_scan.specs.Bodies.{updates}
 use Rattle.depot_scan.specs.Ids.{HasMore}
 use Rattle.depot_scan.specs.Ordering.{AreFirstUpdates}

@@ -2,9 +2,9 @@
 use Rattle.std.proofs.Common.{◌≡◌, ℕ, List, [], ◌∷◌, ◌++◌, Bool, true, false, not, ◌&&◌, reverse, refl, sym, ap, ◌∙◌}
 use Rattle.std.proofs.lemmas.List.{append_assoc, append-nil, reverse-append, map_push}
 use Rattle.depot_base.specs.declared.update.Update.{Update}
-use Rattle.depot_model.specs.Texts.{id_of_update}
+use Rattle.depot_model.specs.texts.Texts.{id_of_update}
 use Rattle.depot_scan.specs.Bodies.{updates}
-use Rattle.depot_model.specs.Contents.{writes as writes_key}
+use Rattle.depot_model.specs.texts.Contents.{writes as writes_key}
 use Rattle.depot_scan.specs.Covered.{covers, uncovered, Covers}
 use Rattle.depot_scan.specs.declared.body.Body.{Body}
 

@@ -1,10 +1,10 @@
 -- The walk through updates from the newest to the oldest: which of them precede a write of the key.
 use Rattle.std.specs.Prelude.{◌≡◌, ℕ, List, [], ◌∷◌, Bool, false, not, ◌&&◌, ◌||◌, if◌then◌else◌}
 use Rattle.depot_base.specs.declared.update.Update.{Update}
-use Rattle.depot_model.specs.Contents.{writes}
-use Rattle.depot_model.specs.Lists.{is_among}
-use Rattle.depot_model.specs.Texts.{id_of_update}
-use Rattle.depot_model.specs.Order.{parents}
+use Rattle.depot_model.specs.texts.Contents.{writes}
+use Rattle.depot_model.specs.lists.Lists.{is_among}
+use Rattle.depot_model.specs.texts.Texts.{id_of_update}
+use Rattle.depot_model.specs.updates.Order.{parents}
 
 -- whether one of these has it as a parent and writes the key, or is itself covered by those after it
 unfoldable pub covers : List ℕ → List Update → List ℕ → Bool

@@ -4,7 +4,7 @@ use Rattle.std.specs.HashMap.{HashMap, get}
 use Rattle.std.specs.Str.{bytes_eq}
 use Rattle.std.specs.declared.hash.FoldHasher.{FoldHasher}
 use Rattle.std.specs.declared.hash.BuildHasherDefault.{BuildHasherDefault}
-use Rattle.depot_model.specs.Lists.{is_among}
+use Rattle.depot_model.specs.lists.Lists.{is_among}
 use Rattle.depot_scan.specs.declared.log_ids.LogIds.{LogIds}
 
 abbrev pub IdMarks : Type 0

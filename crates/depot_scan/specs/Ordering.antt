@@ -1,8 +1,8 @@
 -- A log in its order, each body once.
 use Rattle.std.specs.Prelude.{◌≡◌, List, [], Some, None}
 use Rattle.depot_base.specs.declared.update.Update.{Update}
-use Rattle.depot_model.specs.Order.{IsCausal}
-use Rattle.depot_model.specs.Log.{firsts, first_orphan}
+use Rattle.depot_model.specs.updates.Order.{IsCausal}
+use Rattle.depot_model.specs.texts.Log.{firsts, first_orphan}
 use Rattle.depot_scan.specs.Bodies.{updates}
 use Rattle.depot_scan.specs.declared.log_order.Ordered.{Ordered}
 use Rattle.depot_scan.specs.declared.log_order.Ordered.TheVariants.{InOrder, Orphan}

@@ -8,8 +8,8 @@ use Rattle.depot_base.specs.declared.fault.DecodeError.{DecodeError}
 use Rattle.depot_base.specs.declared.fault.DecodeError.TheVariants as errors
 use Rattle.depot_base.specs.declared.fault.Fault.{Fault}
 use Rattle.depot_base.specs.declared.fault.Fault.TheVariants.{Memory, At}
-use Rattle.depot_model.specs.Texts.{text_of_update}
-use Rattle.depot_model.specs.Log.{IsLog, GoesWrong, IsLogFault}
+use Rattle.depot_model.specs.texts.Texts.{text_of_update}
+use Rattle.depot_model.specs.texts.Log.{IsLog, GoesWrong, IsLogFault}
 use Rattle.depot_scan.specs.declared.body.Body.{Body}
 
 -- the fault of a body at this offset of a log, counted from the start of the log

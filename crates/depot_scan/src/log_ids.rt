@@ -1,7 +1,7 @@
 //! The ids of a log, each once, and which of them are covered.
 ghost use Rattle.std.specs.Prelude.{◌≡◌, [], ◌∷◌, not, map, IfOk, OnOk};
 ghost use Rattle.std.specs.List.{list_all};
-ghost use Rattle.depot_model.specs.Order.{prevs, parents};
+ghost use Rattle.depot_model.specs.updates.Order.{prevs, parents};
 ghost use Rattle.depot_scan.specs.Ids.{PutsIdMark, is_id_marked, knows, is_id_covered, HasMore, IsBlank, IsUncovered};
 
 use depot_base::{Dep, Hash32, Memory, Update};

@@ -1,9 +1,9 @@
 //! Which writes of a key are the latest.
 ghost use Rattle.std.specs.Prelude.{◌≡◌, ◌&&◌, [], not, reverse, IfOk, OnOk};
-ghost use Rattle.depot_model.specs.Order.{IsCausal, AreLatestIn};
+ghost use Rattle.depot_model.specs.updates.Order.{IsCausal, AreLatestIn};
 ghost use Rattle.depot_scan.specs.Bodies.{updates};
 ghost use Rattle.depot_scan.specs.Ids.{is_id_covered, IsUncovered};
-ghost use Rattle.depot_model.specs.Contents.{writes as writes_key};
+ghost use Rattle.depot_model.specs.texts.Contents.{writes as writes_key};
 ghost use Rattle.depot_scan.specs.Covered.{Covers, uncovered};
 
 use crate::body::Body;

@@ -8,11 +8,11 @@ use Rattle.depot_base.proofs.Combined.{whole_again, whole_stops}
 use Rattle.depot_model.specs.declared.judgement.JudgeError.{JudgeError}
 use Rattle.depot_model.specs.declared.judgement.JudgeError.TheVariants as point
 use Rattle.depot_model.specs.declared.judgement.Verdict.{Verdict}
-use Rattle.depot_model.specs.Judgement.{first_failed_point, verdict_of, IsJudgementOf, IsTextOfProof}
-use Rattle.depot_model.specs.Lines.{text_of_point, text_of_verdict}
-use Rattle.depot_model.specs.Roster.{Verifies}
-use Rattle.depot_model.specs.Texts.{proof}
-use Rattle.depot_model.proofs.TextLaws.{proof_lawful}
+use Rattle.depot_model.specs.updates.Judgement.{first_failed_point, verdict_of, IsJudgementOf, IsTextOfProof}
+use Rattle.depot_model.specs.texts.Lines.{text_of_point, text_of_verdict}
+use Rattle.depot_model.specs.texts.Roster.{Verifies}
+use Rattle.depot_model.specs.texts.Texts.{proof}
+use Rattle.depot_model.proofs.of_texts.TextLaws.{proof_lawful}
 use Rattle.depot_answers.specs.AnswerTexts.{spaced}
 use Rattle.depot_world.specs.Run.{Run}
 use Rattle.depot_world.specs.FaultySigning.{proof_in}

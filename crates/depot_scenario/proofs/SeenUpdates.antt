@@ -4,19 +4,19 @@ use Rattle.std.proofs.lemmas.Bool.{false_from_ne_true}
 use Rattle.std.proofs.lemmas.Option.{get_or_from_slice_get}
 use Rattle.depot_base.specs.declared.update.Dep.{Dep}
 use Rattle.depot_base.specs.declared.update.Update.{Update}
-use Rattle.depot_model.specs.History.{history_hash}
-use Rattle.depot_model.specs.Items.{place_of_id, updates_at, AreItemsOf}
-use Rattle.depot_model.specs.Journal.{has_id}
-use Rattle.depot_model.specs.Lists.{IsIn}
-use Rattle.depot_model.specs.Order.{IsCausal, parents, past, prevs}
-use Rattle.depot_model.specs.Texts.{id_of_update}
-use Rattle.depot_model.proofs.Elements.{in_at}
-use Rattle.depot_model.proofs.Members.{all_at, from_map, in_map, in_right}
-use Rattle.depot_model.proofs.Orders.{causal_push}
+use Rattle.depot_model.specs.updates.History.{history_hash}
+use Rattle.depot_model.specs.lists.Items.{place_of_id, updates_at, AreItemsOf}
+use Rattle.depot_model.specs.journals.Journal.{has_id}
+use Rattle.depot_model.specs.lists.Lists.{IsIn}
+use Rattle.depot_model.specs.updates.Order.{IsCausal, parents, past, prevs}
+use Rattle.depot_model.specs.texts.Texts.{id_of_update}
+use Rattle.depot_model.proofs.lists.Elements.{in_at}
+use Rattle.depot_model.proofs.lists.Members.{all_at, from_map, in_map, in_right}
+use Rattle.depot_model.proofs.of_updates.Orders.{causal_push}
 use Rattle.depot_graph.specs.Closure.{closure_of, reached}
 use Rattle.depot_graph.proofs.ItemPlaces.{has_no_place, has_place}
 use Rattle.depot_graph.proofs.Reaching.{past_is_reached}
-use Rattle.depot_model.proofs.NamedIds.{has_id_from, has_id_to}
+use Rattle.depot_model.proofs.of_updates.NamedIds.{has_id_from, has_id_to}
 use Rattle.depot_world.specs.Run.{seen_with}
 use Rattle.depot_scenario.specs.KnownUpdates.{HasSeenParents}
 use Rattle.depot_base.proofs.GeneralLaws.{at_place}

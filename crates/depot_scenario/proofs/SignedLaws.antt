@@ -6,10 +6,10 @@ use Rattle.depot_base.specs.declared.proof.Kind.{Kind}
 use Rattle.depot_base.specs.declared.proof.Proof.TheVariants.{Hollow, Pair}
 use Rattle.depot_base.specs.declared.statement.Signed.{Signed}
 use Rattle.depot_base.specs.declared.statement.Statement.{Statement}
-use Rattle.depot_model.specs.Bundle.{Signs, signed_with}
-use Rattle.depot_model.specs.Texts.{IsProof, IsSigned, IsStatement, text_of_statement}
-use Rattle.depot_laws.proofs.Candidates.{signed_fits}
-use Rattle.depot_model.proofs.JudgementLaws.{pair_fits, hollow_fits}
+use Rattle.depot_model.specs.exchange.Bundle.{Signs, signed_with}
+use Rattle.depot_model.specs.texts.Texts.{IsProof, IsSigned, IsStatement, text_of_statement}
+use Rattle.depot_laws.proofs.exchanges.Candidates.{signed_fits}
+use Rattle.depot_model.proofs.of_updates.JudgementLaws.{pair_fits, hollow_fits}
 
 -- ---- a statement, signed
 

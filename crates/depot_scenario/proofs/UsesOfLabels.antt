@@ -13,9 +13,9 @@ use Rattle.std.proofs.lemmas.Slice.Eq.{bytes_eq-Decides}
 use Rattle.std.proofs.lemmas.List.{map-append}
 use Rattle.depot_base.proofs.GeneralLaws.{bytes_eq_comm, take_next, vec_cmp}
 use Rattle.depot_base.proofs.MembershipLaws.{to_contains}
-use Rattle.depot_model.specs.Lists.{IsIn, is_among}
-use Rattle.depot_model.proofs.Elements.{in_at}
-use Rattle.depot_model.proofs.Members.{among-append, among_from}
+use Rattle.depot_model.specs.lists.Lists.{IsIn, is_among}
+use Rattle.depot_model.proofs.lists.Elements.{in_at}
+use Rattle.depot_model.proofs.lists.Members.{among-append, among_from}
 use Rattle.depot_schedule.specs.declared.event.Event.{Event}
 use Rattle.depot_world.specs.Forgetting.{NoneNames, labels_in}
 use Rattle.depot_scenario.specs.Labels.{named_in}

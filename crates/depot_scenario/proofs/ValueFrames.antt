@@ -9,11 +9,11 @@ use Rattle.depot_base.proofs.GeneralLaws.{take_next}
 use Rattle.depot_base.specs.Writes.{value_in_change}
 use Rattle.depot_base.specs.declared.write.Change.{Change}
 use Rattle.depot_base.specs.declared.write.Write.{Write}
-use Rattle.depot_model.specs.Bundle.{value_frame}
-use Rattle.depot_model.specs.Frames.{text_of_frame}
-use Rattle.depot_model.specs.Lists.{is_among}
-use Rattle.depot_model.specs.Own.{values_of, write_of}
-use Rattle.depot_model.proofs.Members.{among-append}
+use Rattle.depot_model.specs.exchange.Bundle.{value_frame}
+use Rattle.depot_model.specs.texts.Frames.{text_of_frame}
+use Rattle.depot_model.specs.lists.Lists.{is_among}
+use Rattle.depot_model.specs.checks.Own.{values_of, write_of}
+use Rattle.depot_model.proofs.lists.Members.{among-append}
 use Rattle.depot_world.specs.FaultySigning.{each_once, text_of_values}
 use Rattle.depot_scenario.specs.ScenarioTexts.{frames_behind}
 

@@ -2,8 +2,8 @@
 use Rattle.std.specs.Prelude.{◌≡◌, ◌⊎◌, List, [], Bool, true}
 use Rattle.std.specs.List.{AllByRecursion}
 use Rattle.depot_base.specs.declared.update.Update.{Update}
-use Rattle.depot_model.specs.Journal.{has_id}
-use Rattle.depot_model.specs.Order.{parents}
+use Rattle.depot_model.specs.journals.Journal.{has_id}
+use Rattle.depot_model.specs.updates.Order.{parents}
 use Rattle.depot_schedule.specs.declared.event.HistoryWord.{HistoryWord}
 use Rattle.depot_schedule.specs.declared.event.HistoryWord.TheVariants as history
 

@@ -2,7 +2,7 @@
 use Rattle.std.specs.Prelude.{◌≡◌, ◌≤◌, ℕ, List, length, nat_lt, Bool, true, false, Option, Some, None, Vec, if◌then◌else◌}
 use Rattle.std.specs.List.{slice_get}
 use Rattle.std.specs.declared.alloc.Global.{Global}
-use Rattle.depot_model.specs.Lists.{IsIn, is_among}
+use Rattle.depot_model.specs.lists.Lists.{IsIn, is_among}
 use Rattle.depot_schedule.specs.declared.event.Event.{Event}
 use Rattle.depot_world.specs.Forgetting.{NoneNames, labels_in}
 use Rattle.depot_scenario.specs.Labels.{named_in}

@@ -1,7 +1,7 @@
 -- Who signs: the keys of members, and the signatures that are made under them.
 use Rattle.std.specs.Prelude.{◌≡◌, ℕ, List, map}
 use Rattle.depot_base.specs.declared.key.PublicKey.{PublicKey}
-use Rattle.depot_model.specs.Bundle.{Signs}
+use Rattle.depot_model.specs.exchange.Bundle.{Signs}
 use Rattle.depot_schedule.specs.declared.member.Member.{Member}
 use Rattle.depot_world.specs.Setups.{SignatureSuite, seed_of}
 

@@ -1,8 +1,8 @@
 -- What events that no node takes part in give their labels.
 use Rattle.std.specs.Prelude.{◌≡◌, ℕ, List, [], ◌∷◌, ◌++◌, if◌then◌else◌}
-use Rattle.depot_model.specs.Bundle.{value_frame}
-use Rattle.depot_model.specs.Frames.{text_of_frame}
-use Rattle.depot_model.specs.Lists.{is_among}
+use Rattle.depot_model.specs.exchange.Bundle.{value_frame}
+use Rattle.depot_model.specs.texts.Frames.{text_of_frame}
+use Rattle.depot_model.specs.lists.Lists.{is_among}
 use Rattle.depot_world.specs.FaultySigning as signing
 use Rattle.depot_scenario.specs.declared.texts.Text.{Text}
 

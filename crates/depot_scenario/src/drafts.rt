@@ -2,8 +2,8 @@
 ghost use Rattle.std.specs.Prelude.{◌≡◌, ◌↔◌, List, map, IfOk, IsTrue, option_copied};
 ghost use Rattle.depot_base.specs.Zeros.{zeros};
 ghost use Rattle.depot_base.specs.declared.update.Update.{Update};
-ghost use Rattle.depot_model.specs.Journal.{update_in};
-ghost use Rattle.depot_model.specs.Own.{entry_of, write_of};
+ghost use Rattle.depot_model.specs.journals.Journal.{update_in};
+ghost use Rattle.depot_model.specs.checks.Own.{entry_of, write_of};
 ghost use Rattle.depot_world.specs.FaultySigning.{drafted, with_history};
 ghost use Rattle.depot_world.specs.Run.{first_update};
 

@@ -1,6 +1,6 @@
 //! What is printed of a judgement.
 ghost use Rattle.std.specs.Prelude.{◌≡◌, ◌≢◌, [], IfOk, drop};
-ghost use Rattle.depot_model.specs.Lines.{text_of_point, text_of_verdict};
+ghost use Rattle.depot_model.specs.texts.Lines.{text_of_point, text_of_verdict};
 ghost use Rattle.depot_model.specs.declared.judgement.JudgeError.TheVariants as JudgeError;
 ghost use Rattle.depot_answers.specs.AnswerTexts.{spaced};
 ghost use Rattle.depot_world.specs.Run.{Run};

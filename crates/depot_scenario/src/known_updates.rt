@@ -1,11 +1,11 @@
 //! The updates over which right histories are computed.
 ghost use Rattle.std.specs.Prelude.{◌≡◌, ◌<◌, ◌∷◌, [], length, true, Some, IfOk, OnOk, OnErr};
 ghost use Rattle.std.specs.List.{AllByRecursion};
-ghost use Rattle.depot_model.specs.History.{history_hash as hash_of_history};
-ghost use Rattle.depot_model.specs.Items.{place_of_id, AreItemsOf};
-ghost use Rattle.depot_model.specs.Journal.{has_id};
-ghost use Rattle.depot_model.specs.Order.{parents, past, prevs};
-ghost use Rattle.depot_model.specs.Texts.{IsUpdate, id_of_update};
+ghost use Rattle.depot_model.specs.updates.History.{history_hash as hash_of_history};
+ghost use Rattle.depot_model.specs.lists.Items.{place_of_id, AreItemsOf};
+ghost use Rattle.depot_model.specs.journals.Journal.{has_id};
+ghost use Rattle.depot_model.specs.updates.Order.{parents, past, prevs};
+ghost use Rattle.depot_model.specs.texts.Texts.{IsUpdate, id_of_update};
 ghost use Rattle.depot_world.specs.FaultySigning.{history_by, with_history};
 ghost use Rattle.depot_world.specs.Run.{seen_with};
 ghost use Rattle.depot_graph.specs.Kept.{updates_in};

@@ -1,7 +1,7 @@
 //! What labels name.
 ghost use Rattle.std.specs.Prelude.{◌≡◌, ◌++◌, ◌∷◌, List, [], IfOk, OnOk, option_and_then, option_copied};
 ghost use Rattle.depot_answers.specs.AnswerTexts.{spaced};
-ghost use Rattle.depot_model.specs.Journal.{update_in};
+ghost use Rattle.depot_model.specs.journals.Journal.{update_in};
 ghost use Rattle.depot_world.specs.Forgetting.{labels_without};
 ghost use Rattle.depot_world.specs.Run.{Labelled, first_update};
 ghost use Rattle.depot_scenario.specs.Labels.{AreLabels, TakesIn, bytes_in, labels_with, named_in, plain_in, signed_of_label};

@@ -4,9 +4,9 @@ ghost use Rattle.depot_base.specs.Shown.{IsPairKind};
 ghost use Rattle.depot_base.specs.Statement.{seq_of};
 ghost use Rattle.depot_base.specs.declared.limits.TheConstants.{MOST_VALUE};
 ghost use Rattle.depot_base.specs.declared.proof.Proof.TheVariants.{Hollow, Pair};
-ghost use Rattle.depot_model.specs.Bundle.{proof_frame, signed_with, statement_frame};
-ghost use Rattle.depot_model.specs.Frames.{text_of_frame};
-ghost use Rattle.depot_model.specs.Texts.{IsProof, IsSigned, IsStatement};
+ghost use Rattle.depot_model.specs.exchange.Bundle.{proof_frame, signed_with, statement_frame};
+ghost use Rattle.depot_model.specs.texts.Frames.{text_of_frame};
+ghost use Rattle.depot_model.specs.texts.Texts.{IsProof, IsSigned, IsStatement};
 ghost use Rattle.depot_world.specs.FaultySigning.{proof_of_halves};
 
 use depot_base::{Bytes, FrameTag, Kind, Memory, Proof, Signed, Statement};

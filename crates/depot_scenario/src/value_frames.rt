@@ -2,8 +2,8 @@
 ghost use Rattle.std.specs.Prelude.{◌≡◌, ◌∷◌, ◌++◌, [], OnOk};
 ghost use Rattle.std.specs.List.{list_any};
 ghost use Rattle.depot_base.specs.Writes.{value_in_change};
-ghost use Rattle.depot_model.specs.Lists.{is_among};
-ghost use Rattle.depot_model.specs.Own.{values_of};
+ghost use Rattle.depot_model.specs.lists.Lists.{is_among};
+ghost use Rattle.depot_model.specs.checks.Own.{values_of};
 ghost use Rattle.depot_world.specs.FaultySigning.{text_of_values};
 ghost use Rattle.depot_scenario.specs.ScenarioTexts.{frames_behind};
 

@@ -6,7 +6,7 @@ use Rattle.std.specs.Fmt.{decimal}
 use Rattle.std.specs.Str.{bytes_eq}
 use Rattle.depot_base.specs.declared.limits.TheConstants.{MOST_PIECE, MOST_STOP_CALL}
 use Rattle.hex.specs.Hex.{encode_lower}
-use Rattle.depot_model.specs.Lists.{when}
+use Rattle.depot_model.specs.lists.Lists.{when}
 use Rattle.depot_lines.specs.declared.line_fault.LineFault.{LineFault}
 use Rattle.depot_lines.specs.declared.line_fault.LineFault.TheVariants as is
 use Rattle.depot_schedule.specs.declared.member.Member.{Member}

@@ -2,8 +2,8 @@
 use Rattle.std.proofs.Common.{◌≡◌, ◌+◌, ◌||◌, Bool, true, false, cond, List, [], ◌∷◌, ◌++◌, refl, sym, ap, ◌∙◌, append_assoc, append-nil}
 use Rattle.std.specs.List.{flat_map, list_any}
 use Rattle.depot_base.specs.declared.update.Update.{Update}
-use Rattle.depot_model.specs.Audit.{same_body, is_body_in, new_bodies, bodies_once}
-use Rattle.depot_model.specs.Journal.{accepted}
+use Rattle.depot_model.specs.worlds.Audit.{same_body, is_body_in, new_bodies, bodies_once}
+use Rattle.depot_model.specs.journals.Journal.{accepted}
 use Rattle.depot_search.specs.Writes.{with_bodies, with_journals}
 use Rattle.depot_search.specs.declared.journal.TracedJournal.{TracedJournal}
 

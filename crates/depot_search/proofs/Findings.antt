@@ -5,19 +5,19 @@ use Rattle.std.specs.List.{flat_map, list_any, list_all}
 use Rattle.std.proofs.lemmas.Bool.{both_ways}
 use Rattle.depot_base.specs.declared.record.Record.{Record}
 use Rattle.depot_base.specs.declared.update.Update.{Update}
-use Rattle.depot_model.specs.Audit as audits
-use Rattle.depot_model.specs.Audit.{is_body_in, writes_once, is_parent, closed, observed_by_parents, place_in, op_of, the_write, circle_found, wrong_found, circle, is_exact, reads_from, reads_of, wrong_at, wrong}
-use Rattle.depot_model.specs.Causality.{write}
-use Rattle.depot_model.specs.Journal.{accepted, accepted_by}
-use Rattle.depot_model.specs.Lists.{IsIn, first, when}
-use Rattle.depot_model.specs.ReadTests.{is_put_of}
-use Rattle.depot_model.specs.World.{Shown, Read, Correct, World, IsWorld, writes_of}
-use Rattle.depot_laws.proofs.FirstOfRow.{none_of_map, no_place_to, row_none_to}
-use Rattle.depot_laws.proofs.ObservedTests.{once_to}
-use Rattle.depot_laws.proofs.SameBodies.{body_in_from}
-use Rattle.depot_laws.proofs.Splits.{given_by}
-use Rattle.depot_laws.proofs.Worlds.{write_to, giver_in}
-use Rattle.depot_laws.proofs.WritesAlone.{circle_alone}
+use Rattle.depot_model.specs.worlds.Audit as audits
+use Rattle.depot_model.specs.worlds.Audit.{is_body_in, writes_once, is_parent, closed, observed_by_parents, place_in, op_of, the_write, circle_found, wrong_found, circle, is_exact, reads_from, reads_of, wrong_at, wrong}
+use Rattle.depot_model.specs.worlds.Causality.{write}
+use Rattle.depot_model.specs.journals.Journal.{accepted, accepted_by}
+use Rattle.depot_model.specs.lists.Lists.{IsIn, first, when}
+use Rattle.depot_model.specs.worlds.ReadTests.{is_put_of}
+use Rattle.depot_model.specs.worlds.World.{Shown, Read, Correct, World, IsWorld, writes_of}
+use Rattle.depot_laws.proofs.lists.FirstOfRow.{none_of_map, no_place_to, row_none_to}
+use Rattle.depot_laws.proofs.of_worlds.ObservedTests.{once_to}
+use Rattle.depot_laws.proofs.orders.SameBodies.{body_in_from}
+use Rattle.depot_laws.proofs.lists.Splits.{given_by}
+use Rattle.depot_laws.proofs.of_worlds.Worlds.{write_to, giver_in}
+use Rattle.depot_laws.proofs.of_worlds.WritesAlone.{circle_alone}
 use Rattle.depot_search.proofs.Bodies.{journals_once}
 use Rattle.depot_search.proofs.Journals.{AreReadsAs, AreOf}
 use Rattle.depot_search.proofs.ReadLaws.{exact_is}

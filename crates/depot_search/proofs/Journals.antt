@@ -4,17 +4,17 @@ use Rattle.std.specs.List.{AllByRecursion}
 use Rattle.depot_base.proofs.Decoding.{closed_in_one_way}
 use Rattle.depot_base.specs.declared.key.RosterEntry.{RosterEntry}
 use Rattle.depot_base.specs.declared.record.Record.{Record}
-use Rattle.depot_model.specs.Checks.{Setting}
-use Rattle.depot_model.specs.Lawful.{IsLawful}
-use Rattle.depot_model.specs.Lists.{IsIn}
-use Rattle.depot_model.specs.Records.{record_text, IsRecord, text_of_record}
-use Rattle.depot_model.specs.Roster.{Verifies}
-use Rattle.depot_model.specs.ShownWrites.{shown_of}
-use Rattle.depot_model.specs.Traces.{AreRightReads, AreNodesOf, at_node, answered}
-use Rattle.depot_model.specs.World.{Read, Correct}
-use Rattle.depot_model.proofs.RecordLaws.{record_text_lawful}
-use Rattle.depot_laws.proofs.JournalLimits.{within_from_room}
-use Rattle.depot_laws.proofs.Splits.{lawful_texts, lawful_from_end}
+use Rattle.depot_model.specs.checks.Checks.{Setting}
+use Rattle.depot_model.specs.journals.Lawful.{IsLawful}
+use Rattle.depot_model.specs.lists.Lists.{IsIn}
+use Rattle.depot_model.specs.texts.Records.{record_text, IsRecord, text_of_record}
+use Rattle.depot_model.specs.texts.Roster.{Verifies}
+use Rattle.depot_model.specs.journals.ShownWrites.{shown_of}
+use Rattle.depot_model.specs.worlds.Traces.{AreRightReads, AreNodesOf, at_node, answered}
+use Rattle.depot_model.specs.worlds.World.{Read, Correct}
+use Rattle.depot_model.proofs.of_texts.RecordLaws.{record_text_lawful}
+use Rattle.depot_laws.proofs.records.JournalLimits.{within_from_room}
+use Rattle.depot_laws.proofs.lists.Splits.{lawful_texts, lawful_from_end}
 use Rattle.depot_search.specs.Search.{HasFewRecords, HasFewReads}
 use Rattle.depot_search.specs.Writes.{IsRecordText}
 use Rattle.depot_search.specs.declared.journal.TracedJournal.{TracedJournal}

@@ -7,24 +7,24 @@ use Rattle.std.proofs.lemmas.Bool.{and_parts, and_from, or_cases, or_left, or_ri
 use Rattle.std.proofs.lemmas.Slice.Eq.{bytes_eq-Decides}
 use Rattle.depot_base.specs.declared.record.Record.{Record}
 use Rattle.depot_base.specs.declared.update.Update.{Update}
-use Rattle.depot_model.specs.Audit.{same_body, is_body_in, writes_once, observed, observed_by_parents, observed_by_read, observed_writes, last_writes, rises_strictly, lists_just, shows_named, shows_gone, is_put_by_writer, is_exact}
-use Rattle.depot_model.specs.Causality.{write, read_at}
-use Rattle.depot_model.specs.Contents.{Sighting, writes}
-use Rattle.depot_model.specs.Journal.{accepted, accepted_by}
-use Rattle.depot_model.specs.Lists.{IsIn}
-use Rattle.depot_model.specs.Order.{RisesStrictly, listed}
-use Rattle.depot_model.specs.Texts.{IsUpdate, id_of_update}
-use Rattle.depot_model.specs.Traces.{answered}
-use Rattle.depot_model.specs.World.{Shown, Read, Correct, World, IsRead, IsWorld, writes_of, setting_of}
-use Rattle.depot_model.proofs.Elements.{in_at}
-use Rattle.depot_model.proofs.Members.{in_map, from_map, from_filter, in_filter, any_from, any_to}
-use Rattle.depot_model.proofs.Orders.{one_of_id}
-use Rattle.depot_laws.proofs.Causes.{lawful_is_causal}
-use Rattle.depot_laws.proofs.EachPasses.{each_to, each_from, all_tests_from}
-use Rattle.depot_laws.proofs.ObservedTests.{once_to, once_from}
-use Rattle.depot_laws.proofs.SameBodies.{AllFit, body_is, body_from, body_in_from, body_in_to}
-use Rattle.depot_laws.proofs.Worlds.{taken_in, taken_lawful, write_from, write_fits}
-use Rattle.depot_laws.proofs.WritesAlone.{writes_alone, reads_alone}
+use Rattle.depot_model.specs.worlds.Audit.{same_body, is_body_in, writes_once, observed, observed_by_parents, observed_by_read, observed_writes, last_writes, rises_strictly, lists_just, shows_named, shows_gone, is_put_by_writer, is_exact}
+use Rattle.depot_model.specs.worlds.Causality.{write, read_at}
+use Rattle.depot_model.specs.texts.Contents.{Sighting, writes}
+use Rattle.depot_model.specs.journals.Journal.{accepted, accepted_by}
+use Rattle.depot_model.specs.lists.Lists.{IsIn}
+use Rattle.depot_model.specs.updates.Order.{RisesStrictly, listed}
+use Rattle.depot_model.specs.texts.Texts.{IsUpdate, id_of_update}
+use Rattle.depot_model.specs.worlds.Traces.{answered}
+use Rattle.depot_model.specs.worlds.World.{Shown, Read, Correct, World, IsRead, IsWorld, writes_of, setting_of}
+use Rattle.depot_model.proofs.lists.Elements.{in_at}
+use Rattle.depot_model.proofs.lists.Members.{in_map, from_map, from_filter, in_filter, any_from, any_to}
+use Rattle.depot_model.proofs.of_updates.Orders.{one_of_id}
+use Rattle.depot_laws.proofs.records.Causes.{lawful_is_causal}
+use Rattle.depot_laws.proofs.lists.EachPasses.{each_to, each_from, all_tests_from}
+use Rattle.depot_laws.proofs.of_worlds.ObservedTests.{once_to, once_from}
+use Rattle.depot_laws.proofs.orders.SameBodies.{AllFit, body_is, body_from, body_in_from, body_in_to}
+use Rattle.depot_laws.proofs.of_worlds.Worlds.{taken_in, taken_lawful, write_from, write_fits}
+use Rattle.depot_laws.proofs.of_worlds.WritesAlone.{writes_alone, reads_alone}
 use Rattle.depot_search.proofs.ShownFacts.{shown_named, shown_gone}
 use Rattle.depot_search.proofs.Tests.{one_test, any_behind}
 use Rattle.depot_search.proofs.Tables.{zip_map, zip_any, zip_all, table_of}

@@ -10,12 +10,12 @@ use Rattle.depot_base.specs.Writes.{wrote_under}
 use Rattle.depot_base.specs.declared.record.Record.{Record}
 use Rattle.depot_base.specs.declared.write.Wrote.{Wrote}
 use Rattle.depot_base.specs.declared.write.Wrote.TheVariants.{Put, Gone}
-use Rattle.depot_model.specs.Audit.{shows_named, shows_gone}
-use Rattle.depot_model.specs.Contents.{Sighting, held_value, not_held}
-use Rattle.depot_model.specs.Journal.{held_as, seen_as, seen_under}
-use Rattle.depot_model.specs.ReadTests.{if_held, is_gone, is_deletion, is_value_in}
-use Rattle.depot_model.specs.World.{Shown}
-use Rattle.depot_laws.proofs.HeldValues.{held_as_is}
+use Rattle.depot_model.specs.worlds.Audit.{shows_named, shows_gone}
+use Rattle.depot_model.specs.texts.Contents.{Sighting, held_value, not_held}
+use Rattle.depot_model.specs.journals.Journal.{held_as, seen_as, seen_under}
+use Rattle.depot_model.specs.worlds.ReadTests.{if_held, is_gone, is_deletion, is_value_in}
+use Rattle.depot_model.specs.worlds.World.{Shown}
+use Rattle.depot_laws.proofs.records.HeldValues.{held_as_is}
 
 -- a value that is shown is the one that the write names
 value_passes : (J : List Record) (hash : List ℕ) (size : ℕ) (o : Option (List ℕ)) → held_as J (record { hash = hash; size = size }) ≡ o

@@ -2,8 +2,8 @@
 use Rattle.std.proofs.Common.{◌≡◌, ℕ, zero, suc, ◌+◌, ◌≤◌, ◌&&◌, ◌||◌, Bool, true, false, cond, List, [], ◌∷◌, length, map, drop, get_or, Some, refl, sym, ap, ◌∙◌, slice_get, arith}
 use Rattle.std.specs.Prelude.{find, option_and_then}
 use Rattle.std.specs.List.{list_any, list_all, zip}
-use Rattle.depot_model.specs.Audit.{closed}
-use Rattle.depot_model.proofs.Members.{map_same}
+use Rattle.depot_model.specs.worlds.Audit.{closed}
+use Rattle.depot_model.proofs.lists.Members.{map_same}
 use Rattle.depot_search.specs.Rows.{either_of, is_set, over, over_all, over_each, first_own}
 
 -- ---- rows

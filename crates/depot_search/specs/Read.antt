@@ -4,10 +4,10 @@ use Rattle.std.specs.List.{list_any, list_all, zip}
 use Rattle.std.specs.Str.{bytes_eq}
 use Rattle.depot_base.specs.declared.record.Record.{Record}
 use Rattle.depot_base.specs.declared.update.Update.{Update}
-use Rattle.depot_model.specs.Contents.{writes, Sighting}
-use Rattle.depot_model.specs.Lists.{first}
-use Rattle.depot_model.specs.ReadTests.{is_put_of}
-use Rattle.depot_model.specs.Texts.{id_of_update}
+use Rattle.depot_model.specs.texts.Contents.{writes, Sighting}
+use Rattle.depot_model.specs.lists.Lists.{first}
+use Rattle.depot_model.specs.worlds.ReadTests.{is_put_of}
+use Rattle.depot_model.specs.texts.Texts.{id_of_update}
 use Rattle.depot_search.specs.Rows.{either_of, both_of, without_of, is_met, reached_by}
 use Rattle.depot_search.specs.Writes.{is_accepted_in}
 use Rattle.depot_search.specs.declared.journal.TracedJournal.{TracedJournal}

@@ -1,8 +1,8 @@
 -- What the search finds, and the worlds that it speaks of.
 use Rattle.std.specs.Prelude.{◌<◌, ◌^◌, List, [], ◌∷◌, map, Bool, length, slice_get, Option, option_map, option_and_then}
 use Rattle.depot_base.specs.declared.update.Update.{Update}
-use Rattle.depot_model.specs.Audit.{place_in}
-use Rattle.depot_model.specs.Lists.{first}
+use Rattle.depot_model.specs.worlds.Audit.{place_in}
+use Rattle.depot_model.specs.lists.Lists.{first}
 use Rattle.depot_search.specs.Read.{wrong_among}
 use Rattle.depot_search.specs.Rows.{first_own}
 use Rattle.depot_search.specs.declared.journal.TracedJournal.{TracedJournal}

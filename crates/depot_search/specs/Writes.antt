@@ -3,9 +3,9 @@ use Rattle.std.specs.Prelude.{◌≡◌, ℕ, List, [], ◌∷◌, ◌++◌, Boo
 use Rattle.std.specs.List.{list_any}
 use Rattle.depot_base.specs.declared.record.Record.{Record}
 use Rattle.depot_base.specs.declared.update.Update.{Update}
-use Rattle.depot_model.specs.Audit.{is_body_in}
-use Rattle.depot_model.specs.Journal.{accepted, accepted_by}
-use Rattle.depot_model.specs.Records.{IsRecord, text_of_record}
+use Rattle.depot_model.specs.worlds.Audit.{is_body_in}
+use Rattle.depot_model.specs.journals.Journal.{accepted, accepted_by}
+use Rattle.depot_model.specs.texts.Records.{IsRecord, text_of_record}
 use Rattle.depot_search.specs.declared.journal.TracedJournal.{TracedJournal}
 
 -- a record has this text

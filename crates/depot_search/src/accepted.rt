@@ -1,7 +1,7 @@
 //! An update that a record accepted.
 ghost use Rattle.std.specs.Prelude.{◌≡◌, IfOk};
-ghost use Rattle.depot_model.specs.Audit.{same_body};
-ghost use Rattle.depot_model.specs.Texts.{IsUpdate, id_of_update};
+ghost use Rattle.depot_model.specs.worlds.Audit.{same_body};
+ghost use Rattle.depot_model.specs.texts.Texts.{IsUpdate, id_of_update};
 
 use depot_base::{Hash32, Memory, Update};
 use depot_update::id_of;
@@ -14,7 +14,7 @@ pub struct Accepted(Update);
 
 impl Model for Accepted {
     ghost use Rattle.depot_base.specs.declared.update.Update.{Update};
-    ghost use Rattle.depot_model.specs.Texts.{IsUpdate};
+    ghost use Rattle.depot_model.specs.texts.Texts.{IsUpdate};
 
     ghost Value = { Update };
 

@@ -1,11 +1,11 @@
 //! A record of a journal.
 ghost use Rattle.std.specs.Prelude.{◌≡◌, ◌&&◌, IfOk, IfSome, option_copied};
 ghost use Rattle.std.specs.Option.{option_to_list};
-ghost use Rattle.depot_model.specs.Audit.{is_body_in};
-ghost use Rattle.depot_model.specs.Journal.{accepted_by};
-ghost use Rattle.depot_model.specs.ReadTests.{is_put_of};
-ghost use Rattle.depot_model.specs.Records.{IsRecord, text_of_record};
-ghost use Rattle.depot_model.specs.Texts.{IsUpdate};
+ghost use Rattle.depot_model.specs.worlds.Audit.{is_body_in};
+ghost use Rattle.depot_model.specs.journals.Journal.{accepted_by};
+ghost use Rattle.depot_model.specs.worlds.ReadTests.{is_put_of};
+ghost use Rattle.depot_model.specs.texts.Records.{IsRecord, text_of_record};
+ghost use Rattle.depot_model.specs.texts.Texts.{IsUpdate};
 ghost use Rattle.depot_search.specs.Writes.{IsRecordText};
 ghost use Rattle.depot_traces.specs.SeenTraces.{sighting_of};
 
@@ -23,7 +23,7 @@ pub struct JournalEntry(Record);
 
 impl Model for JournalEntry {
     ghost use Rattle.depot_base.specs.declared.record.Record.{Record};
-    ghost use Rattle.depot_model.specs.Records.{IsRecord};
+    ghost use Rattle.depot_model.specs.texts.Records.{IsRecord};
 
     ghost Value = { Record };
 

@@ -2,8 +2,8 @@
 ghost use Rattle.std.specs.Prelude.{◌≡◌, ◌&&◌, ◌||◌, ◌==◌, not, map, IfOk};
 ghost use Rattle.std.specs.Str.{bytes_eq};
 ghost use Rattle.std.specs.List.{list_any};
-ghost use Rattle.depot_model.specs.Contents.{writes};
-ghost use Rattle.depot_model.specs.ReadTests.{is_put_of};
+ghost use Rattle.depot_model.specs.texts.Contents.{writes};
+ghost use Rattle.depot_model.specs.worlds.ReadTests.{is_put_of};
 ghost use Rattle.depot_traces.specs.SeenTraces.{sighting_of};
 ghost use Rattle.depot_search.specs.Read.{is_answered, is_put_in_each, is_unput, held_row, key_row, observed_row, last_row, listed_row, is_alike, are_alike, is_exact_by};
 

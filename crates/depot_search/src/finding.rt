@@ -1,10 +1,10 @@
 //! The search.
 ghost use Rattle.std.specs.Prelude.{◌≡◌, ◌≤◌, [], ◌∷◌, length, map, option_map, IfOk};
 ghost use Rattle.std.specs.List.{AllByRecursion};
-ghost use Rattle.depot_model.specs.Audit.{circle, wrong};
-ghost use Rattle.depot_model.specs.Lists.{first};
-ghost use Rattle.depot_model.specs.World.{World};
-ghost use Rattle.depot_model.specs.Traces.{IsWorldOf};
+ghost use Rattle.depot_model.specs.worlds.Audit.{circle, wrong};
+ghost use Rattle.depot_model.specs.lists.Lists.{first};
+ghost use Rattle.depot_model.specs.worlds.World.{World};
+ghost use Rattle.depot_model.specs.worlds.Traces.{IsWorldOf};
 ghost use Rattle.depot_search.specs.Search.{HasFewRecords, HasFewReads, found_among};
 ghost use Rattle.depot_traces.specs.SeenTraces.{trace_of, finding_of};
 ghost use Rattle.depot_traces.specs.declared.trace.TheConstants.{MOST_READS};

@@ -1,8 +1,8 @@
 //! The journals of traces.
 ghost use Rattle.std.specs.Prelude.{◌≡◌, map, take, IfOk};
 ghost use Rattle.std.specs.List.{AllByRecursion};
-ghost use Rattle.depot_model.specs.Audit.{place_in};
-ghost use Rattle.depot_model.specs.Records.{IsRecord, text_of_record};
+ghost use Rattle.depot_model.specs.worlds.Audit.{place_in};
+ghost use Rattle.depot_model.specs.texts.Records.{IsRecord, text_of_record};
 ghost use Rattle.depot_search.specs.Writes.{IsRecordText, is_accepted_in};
 
 use crate::accepted::Accepted;

@@ -3,8 +3,8 @@ ghost use Rattle.std.specs.Prelude.{◌≡◌, drop, false, option_copied, if◌
 ghost use Rattle.std.specs.Option.{option_map_or};
 ghost use Rattle.std.specs.Str.{bytes_eq};
 ghost use Rattle.depot_base.specs.Writes.{is_put};
-ghost use Rattle.depot_model.specs.Contents.{value_for};
-ghost use Rattle.depot_model.specs.ReadTests.{if_held};
+ghost use Rattle.depot_model.specs.texts.Contents.{value_for};
+ghost use Rattle.depot_model.specs.worlds.ReadTests.{if_held};
 ghost use Rattle.depot_traces.specs.SeenTraces.{sighting_of};
 
 use depot_base::{Value, Write, Wrote};

@@ -2,9 +2,9 @@
 ghost use Rattle.std.specs.Prelude.{◌≡◌, ◌<◌, length, map, IfOk};
 ghost use Rattle.std.specs.List.{list_any};
 ghost use Rattle.std.specs.Str.{bytes_eq};
-ghost use Rattle.depot_model.specs.Audit.{is_parent};
-ghost use Rattle.depot_model.specs.Lists.{is_among};
-ghost use Rattle.depot_model.specs.Order.{parents, prevs};
+ghost use Rattle.depot_model.specs.worlds.Audit.{is_parent};
+ghost use Rattle.depot_model.specs.lists.Lists.{is_among};
+ghost use Rattle.depot_model.specs.updates.Order.{parents, prevs};
 ghost use Rattle.depot_search.specs.Rows.{over, over_all, over_each};
 
 use crate::accepted::Accepted;

@@ -1,8 +1,8 @@
 //! The writes of journals, each body once.
 ghost use Rattle.std.specs.Prelude.{◌≡◌, IfOk, OnOk, []};
-ghost use Rattle.depot_model.specs.Audit.{is_body_in};
-ghost use Rattle.depot_model.specs.Journal.{accepted, accepted_by};
-ghost use Rattle.depot_model.specs.Texts.{IsUpdate};
+ghost use Rattle.depot_model.specs.worlds.Audit.{is_body_in};
+ghost use Rattle.depot_model.specs.journals.Journal.{accepted, accepted_by};
+ghost use Rattle.depot_model.specs.texts.Texts.{IsUpdate};
 ghost use Rattle.depot_search.specs.Writes.{with_bodies, with_journals};
 
 use crate::accepted::{Accepted, is_one_body};

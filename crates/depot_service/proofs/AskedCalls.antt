@@ -5,11 +5,11 @@ use Rattle.depot_gossip.specs.SendCalls.{IsSendCall, sent_by}
 use Rattle.depot_gossip.specs.declared.send_request.SendRequest.{SendRequest}
 use Rattle.depot_streams.proofs.LastingStreams.{lasts_so, nothing_in}
 use Rattle.depot_streams.specs.Lasting.{LastsIn}
-use Rattle.depot_model.proofs.StopLaws.{idle_lasts}
-use Rattle.depot_model.specs.JournalCalls.{IsStable, StopsBy}
-use Rattle.depot_model.specs.Lawful.{IsLawful}
-use Rattle.depot_model.specs.Replicas.{IsNodeCall, journal_of}
-use Rattle.depot_model.specs.Stops.{LeavesAll}
+use Rattle.depot_model.proofs.of_journals.StopLaws.{idle_lasts}
+use Rattle.depot_model.specs.journals.JournalCalls.{IsStable, StopsBy}
+use Rattle.depot_model.specs.journals.Lawful.{IsLawful}
+use Rattle.depot_model.specs.journals.Replicas.{IsNodeCall, journal_of}
+use Rattle.depot_model.specs.journals.Stops.{LeavesAll}
 use Rattle.depot_model.specs.declared.node_state.NodeState.{Ghosts}
 use Rattle.depot_requests.specs.Requests.{Served, served}
 use Rattle.depot_requests.specs.declared.reply.Halt.{Halt}

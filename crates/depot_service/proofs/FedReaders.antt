@@ -21,25 +21,25 @@ use Rattle.depot_streams.proofs.WholeFrames.{whole_within}
 use Rattle.depot_streams.specs.FrameHeads.{StandsAt}
 use Rattle.depot_streams.specs.declared.frame.FrameAt.{FrameAt as Place}
 use Rattle.depot_streams.specs.declared.frame.FrameAt.TheVariants as place
-use Rattle.depot_model.specs.Contents.{Sighting, held_value, not_held, gone}
-use Rattle.depot_model.specs.Feeding.{form_of}
-use Rattle.depot_model.specs.Frames.{Frame, whole_frame, open_frame, no_frame, is_tag, goes_astray, frame_at}
-use Rattle.depot_laws.proofs.Causes.{lawful_is_causal}
-use Rattle.depot_model.specs.Items.{updates_at}
-use Rattle.depot_model.specs.Journal.{accepted}
-use Rattle.depot_model.specs.LatestList.{latest_in}
-use Rattle.depot_model.specs.Lawful.{IsLawful}
-use Rattle.depot_model.specs.Lists.{IsIn}
-use Rattle.depot_model.specs.Order.{AreLatestIn, Precedes}
-use Rattle.depot_model.specs.ReaderFeeds.{ReaderFeed, frames_from, reader_fed, reader_feed_from, reader_feed_of, told_more}
-use Rattle.depot_model.specs.Readers.{Reader, ReaderOutcome, stands_below, too_full, told, reader_takes, seen_among, seen_by_reader, shown_by_reader}
-use Rattle.depot_model.specs.Roster.{Verifies}
-use Rattle.depot_model.specs.World.{Shown}
+use Rattle.depot_model.specs.texts.Contents.{Sighting, held_value, not_held, gone}
+use Rattle.depot_model.specs.exchange.Feeding.{form_of}
+use Rattle.depot_model.specs.texts.Frames.{Frame, whole_frame, open_frame, no_frame, is_tag, goes_astray, frame_at}
+use Rattle.depot_laws.proofs.records.Causes.{lawful_is_causal}
+use Rattle.depot_model.specs.lists.Items.{updates_at}
+use Rattle.depot_model.specs.journals.Journal.{accepted}
+use Rattle.depot_model.specs.updates.LatestList.{latest_in}
+use Rattle.depot_model.specs.journals.Lawful.{IsLawful}
+use Rattle.depot_model.specs.lists.Lists.{IsIn}
+use Rattle.depot_model.specs.updates.Order.{AreLatestIn, Precedes}
+use Rattle.depot_model.specs.readers.ReaderFeeds.{ReaderFeed, frames_from, reader_fed, reader_feed_from, reader_feed_of, told_more}
+use Rattle.depot_model.specs.readers.Readers.{Reader, ReaderOutcome, stands_below, too_full, told, reader_takes, seen_among, seen_by_reader, shown_by_reader}
+use Rattle.depot_model.specs.texts.Roster.{Verifies}
+use Rattle.depot_model.specs.worlds.World.{Shown}
 use Rattle.depot_model.specs.declared.taken.Taken.{Taken}
 use Rattle.depot_model.specs.declared.taken.Taken.TheVariants.{New, Known}
-use Rattle.depot_model.proofs.Elements.{one_more}
-use Rattle.depot_model.proofs.LatestLaws.{one_latest_list}
-use Rattle.depot_model.proofs.LatestWrites.{latest_are_listed}
+use Rattle.depot_model.proofs.lists.Elements.{one_more}
+use Rattle.depot_model.proofs.of_updates.LatestLaws.{one_latest_list}
+use Rattle.depot_model.proofs.of_updates.LatestWrites.{latest_are_listed}
 use Rattle.depot_queries.specs.ShownValues.{value_seen}
 use Rattle.depot_trim.specs.ReaderAnswers.{ReaderTakes}
 use Rattle.depot_trim.specs.ReaderView.{IsReaderOf}

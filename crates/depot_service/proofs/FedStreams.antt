@@ -11,11 +11,11 @@ use Rattle.depot_streams.specs.declared.feed_error.FeedError.{FeedError}
 use Rattle.depot_streams.specs.declared.feed_error.FeedError.TheVariants as error
 use Rattle.depot_streams.proofs.LawfulCalls.{renamed_on}
 use Rattle.depot_streams.proofs.PieceLaws.{IsUnderWay, at_work_again}
-use Rattle.depot_model.specs.Checks.{Setting}
-use Rattle.depot_model.specs.Feeding.{Feeding, ending_of, fed, report_of}
+use Rattle.depot_model.specs.checks.Checks.{Setting}
+use Rattle.depot_model.specs.exchange.Feeding.{Feeding, ending_of, fed, report_of}
 use Rattle.depot_model.specs.declared.bundle.Report.{Report}
 use Rattle.depot_model.specs.declared.node_state.NodeState.{Ghosts}
-use Rattle.depot_model.proofs.FeedLaws.{fed_in_pieces}
+use Rattle.depot_model.proofs.of_journals.FeedLaws.{fed_in_pieces}
 use Rattle.depot_service.specs.Printing.{IsToldOf}
 
 -- ---- what is reported

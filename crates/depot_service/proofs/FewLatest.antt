@@ -7,20 +7,20 @@ use Rattle.std.proofs.lemmas.Bool.{cases_Bool, false_from_ne_true, or_from}
 use Rattle.depot_base.specs.Zeros.{zeros}
 use Rattle.depot_base.specs.declared.update.Update.{Update}
 use Rattle.depot_base.specs.declared.record.Record.{Record}
-use Rattle.depot_model.specs.Lists.{IsIn, AreApart, is_among}
-use Rattle.depot_model.specs.Texts.{id_of_update}
-use Rattle.depot_model.specs.Order.{AreLatestIn, IsCausal, IsParent, IsPath, Leads, Precedes, RisesStrictly, listed, prevs}
-use Rattle.depot_model.specs.History.{is_prev_in, leaves_of}
-use Rattle.depot_model.specs.Journal.{accepted}
-use Rattle.depot_model.specs.Checks.{Setting}
-use Rattle.depot_model.specs.Lawful.{IsLawful}
-use Rattle.depot_model.proofs.LatestLaws.{listed_one_way}
-use Rattle.depot_model.proofs.Members.{all_at, among_to, any_to, in_filter}
-use Rattle.depot_model.proofs.Orders.{causal_behind, child_is_behind, first_names_none, leads_more, leads_one, leads_wider, one_of_id}
-use Rattle.depot_laws.proofs.Causes.{lawful_is_causal}
-use Rattle.depot_laws.proofs.FewLeaves.{few_leaves}
-use Rattle.depot_laws.proofs.Follows.{prev_is_parent}
-use Rattle.depot_laws.proofs.RisingNumbers.{no_more}
+use Rattle.depot_model.specs.lists.Lists.{IsIn, AreApart, is_among}
+use Rattle.depot_model.specs.texts.Texts.{id_of_update}
+use Rattle.depot_model.specs.updates.Order.{AreLatestIn, IsCausal, IsParent, IsPath, Leads, Precedes, RisesStrictly, listed, prevs}
+use Rattle.depot_model.specs.updates.History.{is_prev_in, leaves_of}
+use Rattle.depot_model.specs.journals.Journal.{accepted}
+use Rattle.depot_model.specs.checks.Checks.{Setting}
+use Rattle.depot_model.specs.journals.Lawful.{IsLawful}
+use Rattle.depot_model.proofs.of_updates.LatestLaws.{listed_one_way}
+use Rattle.depot_model.proofs.lists.Members.{all_at, among_to, any_to, in_filter}
+use Rattle.depot_model.proofs.of_updates.Orders.{causal_behind, child_is_behind, first_names_none, leads_more, leads_one, leads_wider, one_of_id}
+use Rattle.depot_laws.proofs.records.Causes.{lawful_is_causal}
+use Rattle.depot_laws.proofs.records.FewLeaves.{few_leaves}
+use Rattle.depot_laws.proofs.orders.Follows.{prev_is_parent}
+use Rattle.depot_laws.proofs.lists.RisingNumbers.{no_more}
 
 -- ---- paths that can be gone back in one way
 

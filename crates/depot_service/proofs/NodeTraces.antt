@@ -7,12 +7,12 @@ use Rattle.std.proofs.lemmas.List.Sums.{sum_by-cons}
 use Rattle.depot_base.specs.Format.{number, bytes_of}
 use Rattle.depot_base.specs.Parts.{node_number}
 use Rattle.depot_base.specs.declared.record.Record.{Record}
-use Rattle.depot_laws.proofs.OwnTexts.{lawful_is_light, lawful_is_short, me_fits}
-use Rattle.depot_model.proofs.Members.{all_from, from_map}
-use Rattle.depot_model.specs.Checks.{Setting}
-use Rattle.depot_model.specs.Lawful.{IsLawful, is_empty}
-use Rattle.depot_model.specs.Lists.{IsIn}
-use Rattle.depot_model.specs.Records.{text_of_record}
+use Rattle.depot_laws.proofs.own_updates.OwnTexts.{lawful_is_light, lawful_is_short, me_fits}
+use Rattle.depot_model.proofs.lists.Members.{all_from, from_map}
+use Rattle.depot_model.specs.checks.Checks.{Setting}
+use Rattle.depot_model.specs.journals.Lawful.{IsLawful, is_empty}
+use Rattle.depot_model.specs.lists.Lists.{IsIn}
+use Rattle.depot_model.specs.texts.Records.{text_of_record}
 use Rattle.depot_traces.specs.SeenTraces as seen
 use Rattle.depot_traces.specs.TraceTexts.{IsTrace, read_text, record_piece, trace_text}
 use Rattle.depot_traces.specs.declared.trace.ReadTrace.{ReadTrace}

@@ -10,23 +10,23 @@ use Rattle.depot_base.specs.declared.record.Record.{Record}
 use Rattle.depot_base.specs.declared.write.Wrote.{Wrote}
 use Rattle.depot_base.specs.declared.write.Wrote.TheVariants.{Put, Gone}
 use Rattle.depot_base.specs.declared.update.Update.{Update}
-use Rattle.depot_laws.proofs.Causes.{lawful_is_causal}
-use Rattle.depot_model.specs.Checks.{Setting}
-use Rattle.depot_model.specs.Items.{updates_at}
-use Rattle.depot_model.specs.Contents.{NamedValue, Sighting, held_value, not_held, gone}
-use Rattle.depot_model.specs.Journal.{accepted, held_as, seen_as, seen_under}
-use Rattle.depot_model.specs.Lawful.{IsLawful}
-use Rattle.depot_model.specs.Lists.{IsIn}
-use Rattle.depot_model.specs.Order.{AreLatestIn, Precedes}
-use Rattle.depot_model.specs.World.{Shown}
-use Rattle.depot_model.proofs.Elements.{one_more}
-use Rattle.depot_model.proofs.LatestLaws.{one_latest_list}
-use Rattle.depot_model.proofs.Members.{in_last, in_left}
-use Rattle.depot_model.specs.ShownWrites.{shown_of}
-use Rattle.depot_model.specs.LatestList.{latest_in}
+use Rattle.depot_laws.proofs.records.Causes.{lawful_is_causal}
+use Rattle.depot_model.specs.checks.Checks.{Setting}
+use Rattle.depot_model.specs.lists.Items.{updates_at}
+use Rattle.depot_model.specs.texts.Contents.{NamedValue, Sighting, held_value, not_held, gone}
+use Rattle.depot_model.specs.journals.Journal.{accepted, held_as, seen_as, seen_under}
+use Rattle.depot_model.specs.journals.Lawful.{IsLawful}
+use Rattle.depot_model.specs.lists.Lists.{IsIn}
+use Rattle.depot_model.specs.updates.Order.{AreLatestIn, Precedes}
+use Rattle.depot_model.specs.worlds.World.{Shown}
+use Rattle.depot_model.proofs.lists.Elements.{one_more}
+use Rattle.depot_model.proofs.of_updates.LatestLaws.{one_latest_list}
+use Rattle.depot_model.proofs.lists.Members.{in_last, in_left}
+use Rattle.depot_model.specs.journals.ShownWrites.{shown_of}
+use Rattle.depot_model.specs.updates.LatestList.{latest_in}
 use Rattle.depot_queries.specs.ShownValues.{value_seen}
 use Rattle.depot_service.specs.Printing.{shown_text, shown_value}
-use Rattle.depot_model.proofs.LatestWrites.{latest_are_listed}
+use Rattle.depot_model.proofs.of_updates.LatestWrites.{latest_are_listed}
 
 -- the writes that these updates are shown as
 abbrev pub shown_as : List Record → List ℕ → List Update → List Shown

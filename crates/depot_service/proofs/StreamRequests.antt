@@ -6,9 +6,9 @@ use Rattle.depot_streams.specs.NodeCalls.{IsFeedCall}
 use Rattle.depot_streams.specs.declared.feed_error.FeedError.{FeedError}
 use Rattle.depot_streams.specs.declared.feed_error.FeedError.TheVariants as error
 use Rattle.depot_streams.proofs.LawfulCalls.{renamed_on}
-use Rattle.depot_model.specs.Bundle.{Signs}
-use Rattle.depot_model.specs.Checks.{Setting}
-use Rattle.depot_model.specs.Feeding.{feed_of, feeding_from}
+use Rattle.depot_model.specs.exchange.Bundle.{Signs}
+use Rattle.depot_model.specs.checks.Checks.{Setting}
+use Rattle.depot_model.specs.exchange.Feeding.{feed_of, feeding_from}
 use Rattle.depot_model.specs.declared.node_state.NodeState.{Ghosts}
 use Rattle.depot_service.specs.Printing.{IsMemoryOrDisk, IsToldOf}
 use Rattle.depot_service.specs.declared.feeds.FeedResult.{FeedResult}

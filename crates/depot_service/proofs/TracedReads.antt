@@ -12,20 +12,20 @@ use Rattle.depot_base.specs.declared.record.Record.{Record}
 use Rattle.depot_base.specs.declared.update.Update.{Update}
 use Rattle.depot_base.specs.declared.write.Wrote.{Wrote}
 use Rattle.depot_base.specs.declared.write.Wrote.TheVariants.{Put, Gone}
-use Rattle.depot_laws.proofs.HeldValues.{held_as_is}
-use Rattle.depot_laws.proofs.OwnTexts.{id_is_digest, lawful_is_short}
-use Rattle.depot_laws.proofs.WantedValues.{value_fits}
-use Rattle.depot_model.proofs.Elements.{one_more}
-use Rattle.depot_model.specs.Checks.{Setting}
-use Rattle.depot_model.specs.Contents.{IfHeld, NamedValue, Sighting, held_value, not_held}
-use Rattle.depot_model.specs.Items.{at, updates_at}
-use Rattle.depot_model.specs.Journal.{accepted, held_as, seen_as, seen_under}
-use Rattle.depot_model.specs.Lawful.{IsLawful}
-use Rattle.depot_model.specs.Order.{AreLatestIn}
-use Rattle.depot_model.specs.ShownWrites.{shown_of}
-use Rattle.depot_model.specs.Texts.{id_of_update}
-use Rattle.depot_model.specs.Traces as traces
-use Rattle.depot_model.specs.World.{Shown}
+use Rattle.depot_laws.proofs.records.HeldValues.{held_as_is}
+use Rattle.depot_laws.proofs.own_updates.OwnTexts.{id_is_digest, lawful_is_short}
+use Rattle.depot_laws.proofs.records.WantedValues.{value_fits}
+use Rattle.depot_model.proofs.lists.Elements.{one_more}
+use Rattle.depot_model.specs.checks.Checks.{Setting}
+use Rattle.depot_model.specs.texts.Contents.{IfHeld, NamedValue, Sighting, held_value, not_held}
+use Rattle.depot_model.specs.lists.Items.{at, updates_at}
+use Rattle.depot_model.specs.journals.Journal.{accepted, held_as, seen_as, seen_under}
+use Rattle.depot_model.specs.journals.Lawful.{IsLawful}
+use Rattle.depot_model.specs.updates.Order.{AreLatestIn}
+use Rattle.depot_model.specs.journals.ShownWrites.{shown_of}
+use Rattle.depot_model.specs.texts.Texts.{id_of_update}
+use Rattle.depot_model.specs.worlds.Traces as traces
+use Rattle.depot_model.specs.worlds.World.{Shown}
 use Rattle.depot_traces.specs.SeenTraces.{sighting_of, answered_of, read_of}
 use Rattle.depot_traces.specs.TraceTexts.{any_follows, answered_text, behind_mark, read_text}
 use Rattle.depot_traces.specs.declared.trace.Answered.{Answered}

@@ -4,11 +4,11 @@ use Rattle.depot_base.specs.Faults.{HasCause}
 use Rattle.depot_base.specs.declared.record.Record.{Record}
 use Rattle.depot_gossip.specs.SendCalls.{sent_by}
 use Rattle.depot_streams.specs.Lasting.{LastsIn}
-use Rattle.depot_model.specs.Bundle.{Signs}
-use Rattle.depot_model.specs.Checks.{Setting}
-use Rattle.depot_model.specs.JournalCalls.{Lasts}
-use Rattle.depot_model.specs.Replicas.{IsSameNode, journal_of}
-use Rattle.depot_model.specs.Stops.{LeavesAll}
+use Rattle.depot_model.specs.exchange.Bundle.{Signs}
+use Rattle.depot_model.specs.checks.Checks.{Setting}
+use Rattle.depot_model.specs.journals.JournalCalls.{Lasts}
+use Rattle.depot_model.specs.journals.Replicas.{IsSameNode, journal_of}
+use Rattle.depot_model.specs.journals.Stops.{LeavesAll}
 use Rattle.depot_model.specs.declared.node_state.NodeState.{Ghosts}
 use Rattle.depot_questions.specs.QuestionAnswers.{text_of_answer}
 use Rattle.depot_questions.specs.Answers.{told_of_question}

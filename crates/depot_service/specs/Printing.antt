@@ -5,10 +5,10 @@ use Rattle.depot_base.specs.declared.record.Record.{Record}
 use Rattle.depot_streams.specs.Pieces.{Feeds, Stream}
 use Rattle.depot_streams.specs.declared.feed_error.FeedError.{FeedError}
 use Rattle.depot_streams.specs.declared.feed_error.FeedError.TheVariants as feed_error
-use Rattle.depot_model.specs.Checks.{Setting}
-use Rattle.depot_model.specs.Contents.{Sighting, held_value, not_held}
-use Rattle.depot_model.specs.Feeding.{Feeding, fed, report_of}
-use Rattle.depot_model.specs.World.{Shown}
+use Rattle.depot_model.specs.checks.Checks.{Setting}
+use Rattle.depot_model.specs.texts.Contents.{Sighting, held_value, not_held}
+use Rattle.depot_model.specs.exchange.Feeding.{Feeding, fed, report_of}
+use Rattle.depot_model.specs.worlds.World.{Shown}
 use Rattle.depot_answers.specs.AnswerTexts.{spaced, text_of_write}
 use Rattle.depot_answers.specs.Closings.{closing_of}
 use Rattle.depot_service.specs.declared.feeds.FeedResult.{FeedResult}

@@ -2,9 +2,9 @@
 use Rattle.std.specs.Prelude.{◌≡◌, ◌+◌, ◌≤◌, ◌<◌, ℕ, Bool, true, false, List, length, take, Some, None, Result, Ok, Err}
 use Rattle.depot_base.specs.declared.limits.TheConstants.{MOST_FRAMES}
 use Rattle.depot_base.specs.declared.memory.Memory.{Memory}
-use Rattle.depot_model.specs.Readers.{Reader}
-use Rattle.depot_model.specs.ReaderFeeds.{ReaderFeed, frames_from, reader_fed, reader_feed_from, reader_feed_of}
-use Rattle.depot_model.specs.Roster.{Verifies}
+use Rattle.depot_model.specs.readers.Readers.{Reader}
+use Rattle.depot_model.specs.readers.ReaderFeeds.{ReaderFeed, frames_from, reader_fed, reader_feed_from, reader_feed_of}
+use Rattle.depot_model.specs.texts.Roster.{Verifies}
 use Rattle.depot_model.specs.declared.taken.Taken.{Taken}
 use Rattle.depot_model.specs.declared.taken.Taken.TheVariants.{New, Known}
 use Rattle.depot_trim.specs.ReaderView.{IsReaderOf}

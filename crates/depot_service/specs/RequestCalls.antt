@@ -2,10 +2,10 @@
 use Rattle.std.specs.Prelude.{◌≡◌, ◌≢◌, ◌⊎◌, List, ◌++◌, Result, Ok, Err, IsErrAnd, IsErrOf}
 use Rattle.depot_base.specs.declared.record.Record.{Record}
 use Rattle.depot_streams.specs.Lasting.{LastsIn}
-use Rattle.depot_model.specs.Bundle.{Signs}
-use Rattle.depot_model.specs.Checks.{Setting}
-use Rattle.depot_model.specs.Limits.{IsCutShort}
-use Rattle.depot_model.specs.Replicas.{IsNodeCall}
+use Rattle.depot_model.specs.exchange.Bundle.{Signs}
+use Rattle.depot_model.specs.checks.Checks.{Setting}
+use Rattle.depot_model.specs.checks.Limits.{IsCutShort}
+use Rattle.depot_model.specs.journals.Replicas.{IsNodeCall}
 use Rattle.depot_model.specs.declared.node_state.NodeState.{Ghosts}
 use Rattle.depot_requests.specs.Requests.{served}
 use Rattle.depot_requests.specs.declared.reply.Halt.{Halt}

@@ -2,9 +2,9 @@
 use Rattle.std.specs.Prelude.{◌≡◌, ℕ, List, map, Some, slice_get}
 use Rattle.depot_base.specs.declared.record.Record.{Record}
 use Rattle.depot_base.specs.declared.update.Update.{Update}
-use Rattle.depot_model.specs.Journal.{accepted, seen_under}
-use Rattle.depot_model.specs.Records.{text_of_record}
-use Rattle.depot_model.specs.Traces as audits
+use Rattle.depot_model.specs.journals.Journal.{accepted, seen_under}
+use Rattle.depot_model.specs.texts.Records.{text_of_record}
+use Rattle.depot_model.specs.worlds.Traces as audits
 use Rattle.depot_traces.specs.SeenTraces as seen_traces
 use Rattle.depot_traces.specs.ToldTraces.{file_of_trace}
 use Rattle.depot_traces.specs.TraceTexts.{IsTrace, answered_text}

@@ -1,8 +1,8 @@
 //! What is printed of readers that are made by checkpoints.
 ghost use Rattle.std.specs.Prelude.{◌≡◌, ◌++◌, ℕ, Err, List, OnOk, IfOk};
 ghost use Rattle.depot_base.specs.declared.record.Record.{Record};
-ghost use Rattle.depot_model.specs.Checks.{Setting};
-ghost use Rattle.depot_model.specs.Readers.{trim_of};
+ghost use Rattle.depot_model.specs.checks.Checks.{Setting};
+ghost use Rattle.depot_model.specs.readers.Readers.{trim_of};
 ghost use Rattle.depot_answers.specs.AnswerTexts.{spaced, text_of_kept, text_of_trim, text_of_unsigned};
 ghost use Rattle.depot_trim.specs.ReaderAnswers.{Trims};
 ghost use Rattle.depot_requests.specs.Effects.{ended};

@@ -1,6 +1,6 @@
 //! A stream that a node takes.
 ghost use Rattle.std.specs.Prelude.{◌≡◌, ◌≢◌, ◌≤◌, false, None, IfOk, IfErr};
-ghost use Rattle.depot_model.specs.Feeding.{feed_of, feeding_from};
+ghost use Rattle.depot_model.specs.exchange.Feeding.{feed_of, feeding_from};
 ghost use Rattle.depot_streams.specs.NodeCalls.{IsFeedCall};
 ghost use Rattle.depot_service.specs.Printing.{IsMemoryOrDisk, IsToldClosed, IsToldOf};
 

@@ -2,9 +2,9 @@
 ghost use Rattle.std.specs.Prelude.{◌≡◌, ◌≢◌, ◌≤◌, ◌+◌, ◌-◌, length, take, drop, None, Err, IfOk, IfErr, option_copied};
 ghost use Rattle.depot_base.specs.Tags.{frame_byte};
 ghost use Rattle.depot_base.specs.declared.limits.TheConstants.{MOST_FRAMES};
-ghost use Rattle.depot_model.specs.Feeding.{form_of};
-ghost use Rattle.depot_model.specs.ReaderFeeds.{ReaderFeed};
-ghost use Rattle.depot_model.specs.Readers.{Reader, seen_by_reader};
+ghost use Rattle.depot_model.specs.exchange.Feeding.{form_of};
+ghost use Rattle.depot_model.specs.readers.ReaderFeeds.{ReaderFeed};
+ghost use Rattle.depot_model.specs.readers.Readers.{Reader, seen_by_reader};
 ghost use Rattle.depot_answers.specs.AnswerTexts.{spaced, text_of_reader_feed};
 ghost use Rattle.depot_answers.specs.Sightings.{sighting_of_seen};
 ghost use Rattle.depot_queries.specs.ShownValues.{value_seen};

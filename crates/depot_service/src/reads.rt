@@ -1,11 +1,11 @@
 //! What is printed of a read.
 ghost use Rattle.std.specs.Prelude.{◌≡◌, ◌++◌, List, false, OnOk, IfOk, option_copied};
 ghost use Rattle.depot_base.specs.declared.record.Record.{Record};
-ghost use Rattle.depot_model.specs.Journal.{seen_under};
+ghost use Rattle.depot_model.specs.journals.Journal.{seen_under};
 ghost use Rattle.depot_answers.specs.AnswerTexts.{spaced, text_of_write};
 ghost use Rattle.depot_answers.specs.Sightings.{sighting_of_seen};
 ghost use Rattle.depot_queries.specs.ShownValues.{value_seen};
-ghost use Rattle.depot_model.specs.ShownWrites.{shown_of};
+ghost use Rattle.depot_model.specs.journals.ShownWrites.{shown_of};
 ghost use Rattle.depot_service.specs.Printing.{shown_text, shown_value};
 
 use depot_answers::{Seen, write};

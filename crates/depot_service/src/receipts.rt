@@ -1,6 +1,6 @@
 //! Whether enough nodes gave receipts.
 ghost use Rattle.std.specs.Prelude.{◌≡◌, false, length, nat_le, IfOk};
-ghost use Rattle.depot_model.specs.Receipts.{receipts};
+ghost use Rattle.depot_model.specs.worlds.Receipts.{receipts};
 
 use depot_base::{Hash32, Memory};
 use depot_queries::{Book, LocalNode};

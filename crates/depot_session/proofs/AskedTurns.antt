@@ -6,7 +6,7 @@ use Rattle.depot_answers.specs.declared.exchange_answers.Closing.{Closing}
 use Rattle.depot_answers.specs.declared.exchange_answers.Closing.TheVariants as closing
 use Rattle.depot_base.specs.declared.record.Record.{Record}
 use Rattle.depot_model.specs.declared.node_state.NodeState.{Ghosts}
-use Rattle.depot_model.proofs.JournalCallLaws.{runs_on}
+use Rattle.depot_model.proofs.of_journals.JournalCallLaws.{runs_on}
 use Rattle.depot_outside.specs.Told.{Shelves, Sinks}
 use Rattle.depot_requests.specs.Replies.{lines_of_reply}
 use Rattle.depot_requests.specs.Requests.{Served, reads_after, served}
@@ -26,9 +26,9 @@ use Rattle.depot_session.specs.SessionRuns.{disk_line}
 use Rattle.depot_session.specs.Sessions.{Files, Session, Step, StoresAs, answered_step, asked_in, asked_step, asks_for, command_text, ending_of_closing, ending_of_reply, files_after, handed_over, name_stored, names_after, step_by, step_of}
 use Rattle.depot_session.specs.Turns.{IsAt, IsRunning, Keeps, LeavesBrought, Turns, step_at}
 use Rattle.depot_session.proofs.AskedShelves.{goes_on_anyhow, stored_none, stored_once}
-use Rattle.depot_session.proofs.Called.{keeps_running, keeps_to_disk, keeps_without_memory}
-use Rattle.depot_session.proofs.DiskCalls.{appended}
-use Rattle.depot_session.proofs.LeftJournals.{leaves_after, leaves_front}
+use Rattle.depot_session.proofs.on_disks.Called.{keeps_running, keeps_to_disk, keeps_without_memory}
+use Rattle.depot_session.proofs.on_disks.DiskCalls.{appended}
+use Rattle.depot_session.proofs.on_disks.LeftJournals.{leaves_after, leaves_front}
 use Rattle.depot_session.proofs.StoredFiles.{stored_alike, stored_told}
 use Rattle.depot_session.proofs.ToldFaults.{EndsCalmly, NamesFaults, names_stored, names_told}
 use Rattle.depot_session.proofs.Turning.{disk_told, told, without_memory}

@@ -1,14 +1,14 @@
 -- After a command a correct node is still one.
 use Rattle.std.proofs.Common.{◌≡◌, ℕ, List, [], ◌∷◌, ◌++◌, Option, Some, None, refl, sym, ap, subst, ◌∙◌, inl, inr}
-use Rattle.depot_model.specs.Bundle.{Signs}
-use Rattle.depot_model.specs.Checks.{Setting}
-use Rattle.depot_model.specs.Lawful.{IsLawful}
-use Rattle.depot_model.specs.Lists.{IsIn}
-use Rattle.depot_model.specs.Readers.{Reader}
-use Rattle.depot_model.specs.Roster.{has_node}
-use Rattle.depot_model.specs.World.{Correct, Read, IsCorrect, IsRead, NeverFall}
-use Rattle.depot_model.proofs.FeedGrowth.{IsGrown}
-use Rattle.depot_model.proofs.Members.{in_pushed}
+use Rattle.depot_model.specs.exchange.Bundle.{Signs}
+use Rattle.depot_model.specs.checks.Checks.{Setting}
+use Rattle.depot_model.specs.journals.Lawful.{IsLawful}
+use Rattle.depot_model.specs.lists.Lists.{IsIn}
+use Rattle.depot_model.specs.readers.Readers.{Reader}
+use Rattle.depot_model.specs.texts.Roster.{has_node}
+use Rattle.depot_model.specs.worlds.World.{Correct, Read, IsCorrect, IsRead, NeverFall}
+use Rattle.depot_model.proofs.of_journals.FeedGrowth.{IsGrown}
+use Rattle.depot_model.proofs.lists.Members.{in_pushed}
 use Rattle.depot_requests.proofs.ServedRequests.{served_grows}
 use Rattle.depot_requests.specs.Effects.{read_at_end}
 use Rattle.depot_requests.specs.Requests.{served}
@@ -16,8 +16,8 @@ use Rattle.depot_requests.specs.declared.request.Request.{Request}
 use Rattle.depot_requests.specs.declared.request.Request.TheVariants as request
 use Rattle.depot_script.specs.declared.command.Command.{Command}
 use Rattle.depot_script.specs.declared.command.Command.TheVariants as command
-use Rattle.depot_world.proofs.GoodEffects.{read_is, never_falls}
-use Rattle.depot_world.proofs.GoodNodes.{begun_grows, read_grows}
+use Rattle.depot_world.proofs.of_worlds.GoodEffects.{read_is, never_falls}
+use Rattle.depot_world.proofs.of_worlds.GoodNodes.{begun_grows, read_grows}
 use Rattle.depot_session.specs.SessionRuns.{world_at}
 use Rattle.depot_session.specs.Sessions.{Asking, Session, asked_in, asked_step, asks_for, given_by_name, shown_by_last, step_by, step_of}
 use Rattle.depot_session.proofs.AskedCommands.{of_file}

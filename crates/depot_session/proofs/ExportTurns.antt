@@ -2,9 +2,9 @@
 use Rattle.std.proofs.Common.{◌≡◌, ℕ, IsTrue, List, Option, None, Result, length, map, refl, sym, ap, subst, ◌∙◌}
 use Rattle.std.proofs.lemmas.List.{length-map}
 use Rattle.depot_base.specs.declared.record.Record.{Record}
-use Rattle.depot_model.specs.Bundle.{Signs}
-use Rattle.depot_model.specs.Checks.{Setting}
-use Rattle.depot_model.specs.Records.{text_of_record}
+use Rattle.depot_model.specs.exchange.Bundle.{Signs}
+use Rattle.depot_model.specs.checks.Checks.{Setting}
+use Rattle.depot_model.specs.texts.Records.{text_of_record}
 use Rattle.depot_model.specs.declared.node_state.NodeState.{Ghosts}
 use Rattle.depot_answers.specs.AnswerTexts.{spaced, text_of_traced}
 use Rattle.depot_outside.specs.Told.{Shelves, Sinks}
@@ -20,7 +20,7 @@ use Rattle.depot_session.specs.Sessions.{Session, command_text, reads_of_run, st
 use Rattle.depot_session.specs.ScriptTelling.{Stores}
 use Rattle.depot_session.specs.Turns.{IsAt, IsRunning, Turns}
 use Rattle.depot_session.proofs.StoredFiles.{stored_alike}
-use Rattle.depot_session.proofs.Uncalled.{uncalled_stored}
+use Rattle.depot_session.proofs.on_disks.Uncalled.{uncalled_stored}
 
 -- it is that of the run, where its reads are kept
 trace_is : (s : Session) (node : ℕ) (J : List Record) (reads : List ReadTrace) → s.correct.node ≡ node → s.correct.journal ≡ J → map read_of reads ≡ map traced_read (reads_of_run s) → trace_of_run s ≡ record { node = node; texts = map text_of_record J; reads = map read_of reads }

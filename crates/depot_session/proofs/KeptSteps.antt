@@ -5,11 +5,11 @@ use Rattle.std.specs.List.{AllByRecursion, list_any}
 use Rattle.std.proofs.Math.Seq.{drop-length}
 use Rattle.std.proofs.lemmas.List.{drop-append-le, length-append, map-append}
 use Rattle.depot_base.specs.declared.record.Record.{Record}
-use Rattle.depot_model.proofs.Members.{all_push, any_from}
-use Rattle.depot_model.specs.Lists.{IsIn}
-use Rattle.depot_model.specs.Bundle.{Signs}
-use Rattle.depot_model.specs.Checks.{Setting}
-use Rattle.depot_model.specs.World.{Read}
+use Rattle.depot_model.proofs.lists.Members.{all_push, any_from}
+use Rattle.depot_model.specs.lists.Lists.{IsIn}
+use Rattle.depot_model.specs.exchange.Bundle.{Signs}
+use Rattle.depot_model.specs.checks.Checks.{Setting}
+use Rattle.depot_model.specs.worlds.World.{Read}
 use Rattle.depot_script.specs.declared.command.Command.{Command}
 use Rattle.depot_script.specs.declared.command.Command.TheVariants as command
 use Rattle.depot_traces.specs.SeenTraces as seen

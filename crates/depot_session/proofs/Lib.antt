@@ -1,13 +1,10 @@
 pub mod AskedCommands
-pub mod LeftJournals
-pub mod DiskCalls
+pub mod on_disks
 pub mod StepGrowth
 pub mod UnwrittenTexts
 pub mod Turning
 pub mod StoredFiles
 pub mod ToldFaults
-pub mod Called
-pub mod Uncalled
 pub mod FittingScripts
 pub mod ExportTurns
 pub mod RightExports
@@ -18,16 +15,10 @@ pub mod AskedShelves
 pub mod StoredNames
 pub mod LastReaders
 pub mod PlayedScripts
-pub mod RunImages
-pub mod RunCalls
 pub mod RunEnds
 pub mod ReaderTurns
 pub mod UnhinderedStreams
 pub mod UnhinderedSteps
 pub mod AskedTurns
-pub mod Folding
-pub mod SameNodes
-pub mod ServerTurns
+pub mod of_serving
 pub mod RunTurns
-mod ServerEndings
-mod NodesOnDisks

@@ -6,12 +6,12 @@ use Rattle.depot_answers.specs.AnswerTexts.{spaced, text_of_reader_feed, text_of
 use Rattle.depot_base.specs.declared.check.Full.{Full}
 use Rattle.depot_base.specs.declared.record.Record.{Record}
 use Rattle.depot_service.specs.CheckpointPrinting.{SettlesTrim}
-use Rattle.depot_model.specs.Bundle.{Signs}
-use Rattle.depot_model.specs.Checks.{Setting}
-use Rattle.depot_model.specs.ReaderFeeds.{ReaderFeed, reader_feed_of}
-use Rattle.depot_model.specs.Opening.{ill_at, of_roster, with_unknown, opened}
-use Rattle.depot_model.specs.Readers.{Reader, TrimAnswer, trim_of, unopened, unsigned, reading}
-use Rattle.depot_model.specs.Roster.{Verifies}
+use Rattle.depot_model.specs.exchange.Bundle.{Signs}
+use Rattle.depot_model.specs.checks.Checks.{Setting}
+use Rattle.depot_model.specs.readers.ReaderFeeds.{ReaderFeed, reader_feed_of}
+use Rattle.depot_model.specs.readers.Opening.{ill_at, of_roster, with_unknown, opened}
+use Rattle.depot_model.specs.readers.Readers.{Reader, TrimAnswer, trim_of, unopened, unsigned, reading}
+use Rattle.depot_model.specs.texts.Roster.{Verifies}
 use Rattle.depot_model.specs.declared.node_state.NodeState.{Ghosts}
 use Rattle.depot_outside.specs.Told.{Shelves, Sinks}
 use Rattle.depot_script.specs.declared.command.Command.TheVariants as command
@@ -21,7 +21,7 @@ use Rattle.depot_session.specs.Sessions.{Session, Step, absent, command_text, en
 use Rattle.depot_session.specs.ScriptTelling.{IsUnchanged, Tells}
 use Rattle.depot_session.specs.Turns.{IsAt, IsRunning, IsSomebodys, KeepsReader, Turns, ends_of_trim}
 use Rattle.depot_session.proofs.ToldFaults.{EndsCalmly}
-use Rattle.depot_session.proofs.Uncalled.{uncalled_told}
+use Rattle.depot_session.proofs.on_disks.Uncalled.{uncalled_told}
 use Rattle.depot_trim.specs.ReaderAnswers.{Trims}
 use Rattle.depot_trim.specs.ReaderView.{IsReaderOf}
 use Rattle.depot_trim.specs.declared.trim_error.TrimError.{TrimError}

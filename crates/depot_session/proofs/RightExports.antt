@@ -4,19 +4,19 @@ use Rattle.std.proofs.lemmas.Slice.Eq.{bytes_eq-Decides}
 use Rattle.std.specs.List.{AllByRecursion}
 use Rattle.depot_base.specs.declared.record.Record.{Record}
 use Rattle.depot_base.specs.declared.update.Update.{Update}
-use Rattle.depot_laws.proofs.Causes.{lawful_is_causal}
-use Rattle.depot_laws.proofs.Splits.{lawful_front}
-use Rattle.depot_model.proofs.LatestLaws.{one_latest_list}
-use Rattle.depot_model.proofs.LatestWrites.{latest_are_listed}
-use Rattle.depot_model.specs.Bundle.{Signs}
-use Rattle.depot_model.specs.Checks.{Setting}
-use Rattle.depot_model.specs.Journal.{accepted, seen_under}
-use Rattle.depot_model.specs.LatestList.{latest_in}
-use Rattle.depot_model.specs.Lawful.{IsLawful}
-use Rattle.depot_model.specs.Lists.{IsIn}
-use Rattle.depot_model.specs.Order.{Precedes}
-use Rattle.depot_model.specs.Traces.{AreRightReads, IsRightRead, answered}
-use Rattle.depot_model.specs.World.{IsCorrect, IsRead, NeverFall, Read, Shown}
+use Rattle.depot_laws.proofs.records.Causes.{lawful_is_causal}
+use Rattle.depot_laws.proofs.lists.Splits.{lawful_front}
+use Rattle.depot_model.proofs.of_updates.LatestLaws.{one_latest_list}
+use Rattle.depot_model.proofs.of_updates.LatestWrites.{latest_are_listed}
+use Rattle.depot_model.specs.exchange.Bundle.{Signs}
+use Rattle.depot_model.specs.checks.Checks.{Setting}
+use Rattle.depot_model.specs.journals.Journal.{accepted, seen_under}
+use Rattle.depot_model.specs.updates.LatestList.{latest_in}
+use Rattle.depot_model.specs.journals.Lawful.{IsLawful}
+use Rattle.depot_model.specs.lists.Lists.{IsIn}
+use Rattle.depot_model.specs.updates.Order.{Precedes}
+use Rattle.depot_model.specs.worlds.Traces.{AreRightReads, IsRightRead, answered}
+use Rattle.depot_model.specs.worlds.World.{IsCorrect, IsRead, NeverFall, Read, Shown}
 use Rattle.depot_script.specs.declared.command.Command.TheVariants as command
 use Rattle.depot_session.specs.Exports.{HasExported}
 use Rattle.depot_session.specs.SessionRuns.{world_at}

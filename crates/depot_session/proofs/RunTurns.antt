@@ -8,12 +8,12 @@ use Rattle.depot_base.specs.Faults.{HasCause}
 use Rattle.depot_base.specs.declared.record.Record.{Record}
 use Rattle.depot_streams.specs.Lasting.{LastsIn}
 use Rattle.depot_streams.proofs.LastingStreams.{joined_in, lasts_so}
-use Rattle.depot_model.specs.Replicas.{IsSameNode, journal_of}
+use Rattle.depot_model.specs.journals.Replicas.{IsSameNode, journal_of}
 use Rattle.depot_base.specs.File.{IsFileOf}
-use Rattle.depot_model.specs.Records.{text_of_record}
-use Rattle.depot_model.specs.Stops.{HasAll, HasFront, HasRecords}
+use Rattle.depot_model.specs.texts.Records.{text_of_record}
+use Rattle.depot_model.specs.journals.Stops.{HasAll, HasFront, HasRecords}
 use Rattle.depot_model.specs.declared.node_state.NodeState.{Ghosts}
-use Rattle.depot_model.proofs.StopLaws.{front_longer, lasts_joined, so_many_more}
+use Rattle.depot_model.proofs.of_journals.StopLaws.{front_longer, lasts_joined, so_many_more}
 use Rattle.depot_outside.specs.Told.{Sinks, Wrote}
 use Rattle.depot_source.specs.Inputs.{Inputs}
 use Rattle.depot_source.specs.Messages.{Message, text_of_message}
@@ -22,8 +22,8 @@ use Rattle.depot_session.specs.Answering.{ServesBody, came_of}
 use Rattle.depot_session.specs.Serving.{AllStayKept, AreAnswered, FaultsRisen, GrowsToward, HasAnswered, IsCutOff, IsTurnShort, RunsWith, ServesShort, ServesWhole, StaysKept, TurnsRequest, bodies_of, came_at, faults_risen, place_after}
 use Rattle.depot_session.specs.declared.server_ending.ServeEnding.{ServeEnding}
 use Rattle.depot_session.specs.declared.server_ending.ServeEnding.TheVariants as ending
-use Rattle.depot_session.proofs.SameNodes.{same_before, same_behind}
-use Rattle.depot_session.proofs.Folding.{bodies_more, each_more, journal_more, text_more, texts_more}
+use Rattle.depot_session.proofs.of_serving.SameNodes.{same_before, same_behind}
+use Rattle.depot_session.proofs.of_serving.Folding.{bodies_more, each_more, journal_more, text_more, texts_more}
 
 -- ---- what is kept
 

@@ -1,9 +1,9 @@
 -- Whatever a script makes a node do, its journal keeps its records, and the node keeps its identity.
 use Rattle.std.proofs.Common.{◌≡◌, List, [], ◌∷◌, Option, Some, None, refl}
-use Rattle.depot_model.specs.Bundle.{Signs}
-use Rattle.depot_model.specs.Checks.{Setting}
-use Rattle.depot_model.specs.Readers.{Reader}
-use Rattle.depot_model.proofs.FeedGrowth.{IsGrown, grown_none, grown_twice}
+use Rattle.depot_model.specs.exchange.Bundle.{Signs}
+use Rattle.depot_model.specs.checks.Checks.{Setting}
+use Rattle.depot_model.specs.readers.Readers.{Reader}
+use Rattle.depot_model.proofs.of_journals.FeedGrowth.{IsGrown, grown_none, grown_twice}
 use Rattle.depot_requests.proofs.ServedRequests.{served_grows}
 use Rattle.depot_script.specs.declared.command.Command.{Command}
 use Rattle.depot_script.specs.declared.command.Command.TheVariants as command

@@ -4,7 +4,7 @@ use Rattle.std.specs.Prelude.{if◌then◌else◌}
 use Rattle.std.specs.Str.{bytes_eq}
 use Rattle.depot_base.specs.declared.record.Record.{Record}
 use Rattle.std.proofs.lemmas.Slice.Eq.{bytes_eq-Decides}
-use Rattle.depot_model.specs.Stops.{LeavesAll}
+use Rattle.depot_model.specs.journals.Stops.{LeavesAll}
 use Rattle.depot_model.specs.declared.node_state.NodeState.{Ghosts}
 use Rattle.depot_outside.specs.Told.{HasFailedOn, Shelves, Sinks, shelves}
 use Rattle.depot_outside.specs.declared.shelf.Shelf as shelf_of

@@ -8,22 +8,22 @@ use Rattle.depot_base.specs.Format.{whole}
 use Rattle.depot_base.specs.Writes.{one_change}
 use Rattle.depot_base.specs.declared.record.Record.{Record}
 use Rattle.depot_base.specs.declared.write.Change.{Change}
-use Rattle.depot_model.proofs.CheckpointLaws.{checkpoint_lawful}
-use Rattle.depot_model.proofs.HelloLaws.{hello_lawful}
-use Rattle.depot_model.specs.Bundle.{Signs, answer_to_hello, bundle_answer, bundle_of, bundled, bundled_within, BundleAnswer}
-use Rattle.depot_model.specs.Checkpoints.{checkpoint}
-use Rattle.depot_model.specs.Checks.{Setting}
-use Rattle.depot_model.specs.Feeding.{Closing}
-use Rattle.depot_model.specs.Hello.{hello}
-use Rattle.depot_model.specs.Journal.{accepted}
-use Rattle.depot_model.specs.Limits.{Limit, limit_of_put}
-use Rattle.depot_model.specs.Opening.{MadeCheckpoint, Opened, ids_of, made_text, make_of, many_leaves, no_leaves, opened_as, opened_text, opened_unless, unknown_leaf}
-use Rattle.depot_model.specs.ReaderFeeds.{reader_feed_of}
-use Rattle.depot_model.specs.Readers.{Reader, trim_of, trimmed_as, trimmed_unless, unsigned_node}
-use Rattle.depot_model.specs.Receipts.{NoReceipt, lacks_value, no_receipt, receipt_changes, unknown}
-use Rattle.depot_model.specs.Roster.{has_node}
-use Rattle.depot_model.specs.Taking.{at_start}
-use Rattle.depot_model.specs.Texts.{hash_of_roster}
+use Rattle.depot_model.proofs.of_texts.CheckpointLaws.{checkpoint_lawful}
+use Rattle.depot_model.proofs.of_texts.HelloLaws.{hello_lawful}
+use Rattle.depot_model.specs.exchange.Bundle.{Signs, answer_to_hello, bundle_answer, bundle_of, bundled, bundled_within, BundleAnswer}
+use Rattle.depot_model.specs.readers.Checkpoints.{checkpoint}
+use Rattle.depot_model.specs.checks.Checks.{Setting}
+use Rattle.depot_model.specs.exchange.Feeding.{Closing}
+use Rattle.depot_model.specs.exchange.Hello.{hello}
+use Rattle.depot_model.specs.journals.Journal.{accepted}
+use Rattle.depot_model.specs.checks.Limits.{Limit, limit_of_put}
+use Rattle.depot_model.specs.readers.Opening.{MadeCheckpoint, Opened, ids_of, made_text, make_of, many_leaves, no_leaves, opened_as, opened_text, opened_unless, unknown_leaf}
+use Rattle.depot_model.specs.readers.ReaderFeeds.{reader_feed_of}
+use Rattle.depot_model.specs.readers.Readers.{Reader, trim_of, trimmed_as, trimmed_unless, unsigned_node}
+use Rattle.depot_model.specs.worlds.Receipts.{NoReceipt, lacks_value, no_receipt, receipt_changes, unknown}
+use Rattle.depot_model.specs.texts.Roster.{has_node}
+use Rattle.depot_model.specs.checks.Taking.{at_start}
+use Rattle.depot_model.specs.texts.Texts.{hash_of_roster}
 use Rattle.depot_script.specs.declared.command.Command.{Command}
 use Rattle.depot_script.specs.declared.command.Command.TheVariants as command
 use Rattle.depot_requests.specs.Effects.{checkpoint_changes}

@@ -1,8 +1,8 @@
 -- What a command exports.
 use Rattle.std.specs.Prelude.{◌≡◌, ℕ, List, Some}
-use Rattle.depot_model.specs.Checks.{Setting}
-use Rattle.depot_model.specs.RecordFaults.{AreTextsOf}
-use Rattle.depot_model.specs.Traces.{AreRightReads, Trace, at_node}
+use Rattle.depot_model.specs.checks.Checks.{Setting}
+use Rattle.depot_model.specs.checks.RecordFaults.{AreTextsOf}
+use Rattle.depot_model.specs.worlds.Traces.{AreRightReads, Trace, at_node}
 use Rattle.depot_session.specs.Sessions.{Files, Session}
 use Rattle.depot_traces.specs.ToldTraces.{file_of_trace}
 

@@ -3,9 +3,9 @@ use Rattle.std.specs.Prelude.{ℕ, List, ◌++◌, length}
 use Rattle.std.specs.Int.{w8, w16, w32}
 use Rattle.depot_base.specs.Cursor.{numeral}
 use Rattle.depot_base.specs.declared.record.Record.{Record}
-use Rattle.depot_model.specs.Checks.{Setting}
-use Rattle.depot_model.specs.Journal.{own}
-use Rattle.depot_model.specs.Texts.{hash_of_roster}
+use Rattle.depot_model.specs.checks.Checks.{Setting}
+use Rattle.depot_model.specs.journals.Journal.{own}
+use Rattle.depot_model.specs.texts.Texts.{hash_of_roster}
 use Rattle.depot_node.specs.declared.start_error.StartError.{StartError}
 use Rattle.depot_session.specs.SessionRuns.{line_of_refusal}
 use Rattle.depot_session.specs.declared.start_telling.TheConstants.{MESSAGE_VERSION}

@@ -3,10 +3,10 @@ use Rattle.std.specs.Prelude.{◌≡◌, ◌≢◌, ◌<◌, ◌≤◌, ◌⊎�
 use Rattle.std.specs.List.{flat_map}
 use Rattle.depot_base.specs.declared.key.PublicKey.{PublicKey}
 use Rattle.depot_base.specs.declared.record.Record.{Record}
-use Rattle.depot_model.specs.Checks.{Setting}
-use Rattle.depot_model.specs.Lawful.{IsLawful}
-use Rattle.depot_model.specs.Roster.{key_of}
-use Rattle.depot_model.specs.Stops.{HasFront, HasRecords}
+use Rattle.depot_model.specs.checks.Checks.{Setting}
+use Rattle.depot_model.specs.journals.Lawful.{IsLawful}
+use Rattle.depot_model.specs.texts.Roster.{key_of}
+use Rattle.depot_model.specs.journals.Stops.{HasFront, HasRecords}
 use Rattle.depot_model.specs.declared.signature.Signer as signer_of
 use Rattle.depot_node.specs.Starting.{IsNotStarted, IsStartedFrom, LeavesFile, birth_after, started}
 use Rattle.depot_node.specs.declared.start_error.StartError.{StartError}

@@ -3,9 +3,9 @@ use Rattle.std.specs.Prelude.{◌≡◌, ◌<◌, ◌≤◌, ◌-◌, ◌^◌, m
 use Rattle.std.specs.List.{flat_map}
 use Rattle.depot_base.specs.declared.record.Record.{Record}
 use Rattle.depot_streams.specs.Lasting.{LastsIn}
-use Rattle.depot_model.specs.JournalCalls.{Lasts}
-use Rattle.depot_model.specs.Replicas.{IsSameNode, journal_of}
-use Rattle.depot_model.specs.Stops.{HasFront}
+use Rattle.depot_model.specs.journals.JournalCalls.{Lasts}
+use Rattle.depot_model.specs.journals.Replicas.{IsSameNode, journal_of}
+use Rattle.depot_model.specs.journals.Stops.{HasFront}
 use Rattle.depot_model.specs.declared.node_state.NodeState.{Ghosts}
 use Rattle.depot_outside.specs.Told.{Sinks, Wrote}
 use Rattle.depot_source.specs.Inputs.{Inputs}

@@ -7,13 +7,13 @@ use Rattle.depot_answers.specs.declared.exchange_answers.Closing.TheVariants as 
 use Rattle.depot_base.specs.Writes.{one_change}
 use Rattle.depot_base.specs.declared.check.Full.{Full}
 use Rattle.depot_base.specs.declared.record.Record.{Record}
-use Rattle.depot_model.specs.Bundle.{Signs}
-use Rattle.depot_model.specs.Checks.{Setting}
-use Rattle.depot_model.specs.Opening.{ill_at, of_roster, with_unknown, opened}
-use Rattle.depot_model.specs.ReaderFeeds.{ReaderFeed, reader_feed_of}
-use Rattle.depot_model.specs.Readers.{Reader, TrimAnswer, unopened, unsigned, reading, trim_of}
-use Rattle.depot_model.specs.Traces.{Trace}
-use Rattle.depot_model.specs.World.{Correct, Read}
+use Rattle.depot_model.specs.exchange.Bundle.{Signs}
+use Rattle.depot_model.specs.checks.Checks.{Setting}
+use Rattle.depot_model.specs.readers.Opening.{ill_at, of_roster, with_unknown, opened}
+use Rattle.depot_model.specs.readers.ReaderFeeds.{ReaderFeed, reader_feed_of}
+use Rattle.depot_model.specs.readers.Readers.{Reader, TrimAnswer, unopened, unsigned, reading, trim_of}
+use Rattle.depot_model.specs.worlds.Traces.{Trace}
+use Rattle.depot_model.specs.worlds.World.{Correct, Read}
 use Rattle.depot_lines.specs.Language.{join}
 use Rattle.depot_requests.specs.Effects.{ended}
 use Rattle.depot_requests.specs.Replies.{lines_of_reply}

@@ -1,6 +1,6 @@
 //! The commands of readers: one makes a reader of the node, the others ask the last one that was made.
 ghost use Rattle.std.specs.Prelude.{◌≡◌, ◌++◌, ◌∷◌, [], IfOk, OnOk, Option, is_some};
-ghost use Rattle.depot_model.specs.Readers.{Reader};
+ghost use Rattle.depot_model.specs.readers.Readers.{Reader};
 ghost use Rattle.depot_outside.specs.Told.{shelves, sinks};
 ghost use Rattle.depot_requests.specs.Effects.{ended};
 ghost use Rattle.depot_session.specs.Sessions.{loads_of, tget_lines};

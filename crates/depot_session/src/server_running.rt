@@ -2,7 +2,7 @@
 ghost use Rattle.std.specs.Prelude.{◌≡◌, ◌≤◌, ◌<◌, ◌++◌, IsTrue, Some};
 ghost use Rattle.depot_base.specs.Faults.{HasCause};
 ghost use Rattle.depot_streams.specs.Lasting.{LastsIn};
-ghost use Rattle.depot_model.specs.Roster.{key_of};
+ghost use Rattle.depot_model.specs.texts.Roster.{key_of};
 ghost use Rattle.depot_node.specs.Starting.{placed};
 ghost use Rattle.depot_outside.specs.Told.{disks, sinks};
 ghost use Rattle.depot_session.specs.SessionRuns.{KeepsFile, Settles};

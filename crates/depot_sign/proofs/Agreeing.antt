@@ -6,7 +6,7 @@ use Rattle.depot_base.specs.Cursor.{Cursor, advanced}
 use Rattle.depot_base.specs.Format.{◌>>=◌, number, constant, list_of, last_of, read_entries, whole}
 use Rattle.depot_base.specs.Parts.{roster_entry, roster_entry_rises}
 use Rattle.depot_base.specs.declared.key.RosterEntry.{RosterEntry}
-use Rattle.depot_model.specs.Texts.{roster}
+use Rattle.depot_model.specs.texts.Texts.{roster}
 use Rattle.depot_base.proofs.Numbers.{is_in}
 use Rattle.depot_sign.specs.declared.text.RosterStop.{RosterStop}
 use Rattle.depot_sign.specs.declared.text.RosterStop.TheVariants as stop

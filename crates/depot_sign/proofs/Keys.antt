@@ -3,7 +3,7 @@ use Rattle.std.proofs.Common.{◌≡◌, ℕ, ◌+◌, ◌<◌, ◌≤◌, true,
 use Rattle.std.proofs.Math.Seq.{drop-cons}
 use Rattle.std.proofs.lemmas.List.{drop_all}
 use Rattle.depot_base.specs.declared.key.RosterEntry.{RosterEntry}
-use Rattle.depot_model.specs.Roster.{key_of}
+use Rattle.depot_model.specs.texts.Roster.{key_of}
 
 -- the first of the entries that are left names the node
 pub found_here : (es : List RosterEntry) (i n : ℕ) (e : RosterEntry) → i < length es → e ≡ get_or es i e → eqb e.node n ≡ true → key_of (drop i es) n ≡ Some e.key

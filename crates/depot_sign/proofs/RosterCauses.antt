@@ -14,9 +14,9 @@ use Rattle.depot_base.proofs.Decoding.{in_one_way}
 use Rattle.depot_base.proofs.EntryLists.{last_pushed}
 use Rattle.depot_model.specs.declared.roster_format.RosterError.{RosterError}
 use Rattle.depot_model.specs.declared.roster_format.RosterError.TheVariants as error
-use Rattle.depot_model.specs.Texts.{IsRoster, text_of_roster, roster}
-use Rattle.depot_model.specs.RosterText.{HasGreatCount, RepeatsNode, GoesWrongAt, IsRefusedFor, AreReadInOneWay}
-use Rattle.depot_model.proofs.TextLaws.{roster_lawful}
+use Rattle.depot_model.specs.texts.Texts.{IsRoster, text_of_roster, roster}
+use Rattle.depot_model.specs.texts.RosterText.{HasGreatCount, RepeatsNode, GoesWrongAt, IsRefusedFor, AreReadInOneWay}
+use Rattle.depot_model.proofs.of_texts.TextLaws.{roster_lawful}
 use Rattle.depot_sign.specs.declared.text.RosterStop.{RosterStop}
 use Rattle.depot_sign.specs.declared.text.RosterStop.TheVariants as stop
 use Rattle.depot_sign.specs.RosterReading.{checked_count, count_or_stop, entries_or_stop, whole_or_stop}

@@ -5,11 +5,11 @@ use Rattle.std.specs.List.{flat_map}
 use Rattle.depot_base.specs.Cursor.{numeral}
 use Rattle.depot_base.specs.Format.{number, bytes_of}
 use Rattle.depot_base.specs.Parts.{roster_entry}
-use Rattle.depot_model.specs.RosterText.{HasGreatCount, RepeatsNode, GoesWrongAt, IsRefusedFor, ParsesRoster}
-use Rattle.depot_model.specs.Texts.{roster}
+use Rattle.depot_model.specs.texts.RosterText.{HasGreatCount, RepeatsNode, GoesWrongAt, IsRefusedFor, ParsesRoster}
+use Rattle.depot_model.specs.texts.Texts.{roster}
 use Rattle.depot_model.specs.declared.roster_format.RosterError.{RosterError}
 use Rattle.depot_model.specs.declared.roster_format.RosterError.TheVariants as error
-use Rattle.depot_model.proofs.Cast.{member}
+use Rattle.depot_model.proofs.examples.Cast.{member}
 use Rattle.depot_sign.proofs.RosterCauses.{read_in_one_way}
 
 -- ---- too many nodes

@@ -6,9 +6,9 @@ use Rattle.depot_base.proofs.FormatLaws.{IsBytes, cursor, ok_is, not_err}
 use Rattle.depot_base.proofs.Combined.{whole_takes, whole_again, whole_early}
 use Rattle.depot_model.specs.declared.roster_format.RosterError.{RosterError}
 use Rattle.depot_model.specs.declared.roster_format.RosterError.TheVariants as error
-use Rattle.depot_model.specs.Texts.{IsRoster, text_of_roster, hash_of_roster, roster}
-use Rattle.depot_model.specs.RosterText.{IsRefusedFor, ParsesRoster}
-use Rattle.depot_model.proofs.TextLaws.{roster_lawful}
+use Rattle.depot_model.specs.texts.Texts.{IsRoster, text_of_roster, hash_of_roster, roster}
+use Rattle.depot_model.specs.texts.RosterText.{IsRefusedFor, ParsesRoster}
+use Rattle.depot_model.proofs.of_texts.TextLaws.{roster_lawful}
 use Rattle.depot_sign.specs.KeptEntries.{IsKeptRoster}
 use Rattle.depot_sign.specs.declared.text.RosterStop.{RosterStop}
 use Rattle.depot_sign.specs.declared.text.RosterStop.TheVariants as stop

@@ -8,7 +8,7 @@ use Rattle.sha2.proofs.Facts256.{length-sha256}
 use Rattle.depot_base.specs.declared.limits.TheConstants.{MOST_SIGNATURE}
 use Rattle.depot_base.specs.Cursor.{numeral}
 use Rattle.depot_base.specs.declared.key.PublicKey.{PublicKey}
-use Rattle.depot_model.specs.Plain.{plain_signature, plain_verifies}
+use Rattle.depot_model.specs.texts.Plain.{plain_signature, plain_verifies}
 
 -- the signature by a leaf of the tree verifies
 pub signed_by_plain_verifies : (key : PublicKey) (seq : ℕ) (body : List ℕ) → seq < 2 ^ key.height → plain_verifies key seq body (plain_signature key.root seq body) ≡ true

@@ -1,6 +1,6 @@
 //! The plain scheme, which anyone can forge.
 ghost use Rattle.std.specs.Prelude.{◌≡◌, ◌^◌, nat_lt};
-ghost use Rattle.depot_model.specs.Plain.{plain_root, plain_signature, plain_verifies};
+ghost use Rattle.depot_model.specs.texts.Plain.{plain_root, plain_signature, plain_verifies};
 ghost use Rattle.depot_sign.specs.PlainLaws.{signed_by_plain_verifies, length-plain_signature};
 
 use depot_base::{Bytes, Hash32, Memory, PublicKey};
@@ -19,7 +19,7 @@ pub struct PlainScheme;
 impl Scheme for PlainScheme {
     ghost verifies = { plain_verifies };
 
-    #[tactic(auto, unfolding(depot_model::specs::Plain::plain_verifies))]
+    #[tactic(auto, unfolding(depot_model::specs::texts::Plain::plain_verifies))]
     fn verify(&self, key: &PublicKey, seq: u32, body: &[u8], signature: &[u8]) -> bool {
         is_leaf(key, seq) && signature == digest_of(key, seq, body).as_slice()
     }
@@ -35,7 +35,7 @@ pub struct PlainSigner {
 impl PlainSigner {
     /// The signer whose key has SHA-256 of this seed as its root, and this height: it has `2^height` leaves. It takes no
     /// memory.
-    #[tactic(auto, unfolding(depot_model::specs::Plain::plain_root))]
+    #[tactic(auto, unfolding(depot_model::specs::texts::Plain::plain_root))]
     pub fn from_seed(alloc: Global, seed: &Hash32, height: u8) -> PlainSigner
         ensures key { ⟦<PlainSigner as Signer>⟧.key_of result
             ≡ record { root = plain_root seed.now; height = height } }
@@ -79,7 +79,7 @@ fn is_leaf(key: &PublicKey, seq: u32) -> bool
 }
 
 /// The signature of a body by a leaf under the key.
-#[tactic(auto, unfolding(depot_model::specs::Plain::plain_signature, depot_base::specs::Cursor::numeral))]
+#[tactic(auto, unfolding(depot_model::specs::texts::Plain::plain_signature, depot_base::specs::Cursor::numeral))]
 fn digest_of(key: &PublicKey, seq: u32, body: &[u8]) -> [u8; 32]
     ensures { result ≡ plain_signature key.now.root seq body.now }
 {

@@ -1,9 +1,9 @@
 -- What an event that asks a node makes of a simulation, and a node's start from its disk.
 use Rattle.std.proofs.Common.{◌≡◌, ℕ, true, eqb, List, [], ◌∷◌, ◌++◌, codes, take, Option, Some, None, refl, sym, ap, subst, ◌∙◌}
 use Rattle.std.specs.Prelude.{IfSome, insert, position}
-use Rattle.depot_model.specs.Journal.{accepted}
-use Rattle.depot_model.specs.Lawful.{IsLawful}
-use Rattle.depot_model.specs.Readers.{Reader}
+use Rattle.depot_model.specs.journals.Journal.{accepted}
+use Rattle.depot_model.specs.journals.Lawful.{IsLawful}
+use Rattle.depot_model.specs.readers.Readers.{Reader}
 use Rattle.depot_requests.specs.Requests.{IsRequest, effect_of}
 use Rattle.depot_requests.specs.declared.request.Request.{Request}
 use Rattle.depot_schedule.specs.EventLines.{event_node}

@@ -6,11 +6,11 @@ use Rattle.std.proofs.lemmas.List.{append-nil, take_more}
 use Rattle.depot_base.specs.declared.key.PublicKey.{PublicKey}
 use Rattle.depot_base.specs.declared.key.RosterEntry.{RosterEntry}
 use Rattle.depot_base.specs.declared.record.Record.TheVariants.{Birth}
-use Rattle.depot_model.specs.Bundle.{Signs}
-use Rattle.depot_model.specs.Lists.{IsIn}
-use Rattle.depot_model.specs.Roster.{Verifies, key_of}
-use Rattle.depot_model.specs.Texts.{hash_of_roster}
-use Rattle.depot_model.proofs.Members.{from_map}
+use Rattle.depot_model.specs.exchange.Bundle.{Signs}
+use Rattle.depot_model.specs.lists.Lists.{IsIn}
+use Rattle.depot_model.specs.texts.Roster.{Verifies, key_of}
+use Rattle.depot_model.specs.texts.Texts.{hash_of_roster}
+use Rattle.depot_model.proofs.lists.Members.{from_map}
 use Rattle.depot_traces.specs.declared.trace.ReadTrace.{ReadTrace}
 use Rattle.depot_schedule.specs.Schedules.{FitEvents, IsSchedule, before_events, with_event}
 use Rattle.depot_schedule.specs.declared.event.Event.{Event}
@@ -18,7 +18,7 @@ use Rattle.depot_schedule.specs.declared.member.Member.{Member}
 use Rattle.depot_schedule.specs.declared.schedule.Schedule.{Schedule}
 use Rattle.depot_world.specs.Run.{Host, fresh_host}
 use Rattle.depot_world.specs.Setups.{SignatureSuite, Setup, roster_entry_of, is_entry_before, roster_of, setup_of, suite_of}
-use Rattle.depot_model.proofs.InsertionLaws.{from_order}
+use Rattle.depot_model.proofs.lists.InsertionLaws.{from_order}
 use Rattle.depot_world.proofs.ScheduleRosters.{setup_has_members}
 use Rattle.depot_simulation.specs.Acting.{AreHosted, IsParticipant, IsHosted, ParticipantView, TellReads, ActorView}
 use Rattle.depot_scenario.specs.MemberSigners.{AreSigners, MemberSigner, member_signer_of, member_signers_of}

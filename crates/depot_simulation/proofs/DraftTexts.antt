@@ -17,23 +17,23 @@ use Rattle.depot_base.specs.Writes.{is_put}
 use Rattle.depot_base.specs.declared.update.Update.{Update}
 use Rattle.depot_base.specs.declared.write.Change.{Change}
 use Rattle.depot_base.specs.declared.write.Write.{Write}
-use Rattle.depot_model.specs.Bundle.{Signs}
-use Rattle.depot_model.specs.History.{by_id, history_hash}
-use Rattle.depot_model.specs.Journal.{has_id}
-use Rattle.depot_model.specs.Lists.{IsIn, is_among}
-use Rattle.depot_model.specs.Log.{firsts, firsts_behind}
-use Rattle.depot_model.specs.Order.{is_named, parents, past}
-use Rattle.depot_model.specs.Own.{entry_of, write_of}
-use Rattle.depot_model.specs.Texts.{IsStatement, IsUpdate, id_of_update, update_body, update_fields, version_of}
-use Rattle.depot_model.specs.Vouching.{rising}
-use Rattle.depot_model.proofs.Members.{all_from, among-append, among_from, any_from, in_last}
-use Rattle.depot_laws.proofs.NewVouchers.{voucher_fits}
-use Rattle.depot_laws.proofs.OwnTexts.{entry_fits, id_is_digest}
-use Rattle.depot_laws.proofs.LawfulRecords.{IsStatement-from_own_voucher}
-use Rattle.depot_laws.proofs.Sorted.{entries_follow}
-use Rattle.depot_model.proofs.RisingUpdates.{HaveOwnIds, rises_by_id, from_by_id, by_id_length as long_by_id}
-use Rattle.depot_model.proofs.ChangeLaws.{changes_written}
-use Rattle.depot_model.proofs.FieldFacts.{writes_fit}
+use Rattle.depot_model.specs.exchange.Bundle.{Signs}
+use Rattle.depot_model.specs.updates.History.{by_id, history_hash}
+use Rattle.depot_model.specs.journals.Journal.{has_id}
+use Rattle.depot_model.specs.lists.Lists.{IsIn, is_among}
+use Rattle.depot_model.specs.texts.Log.{firsts, firsts_behind}
+use Rattle.depot_model.specs.updates.Order.{is_named, parents, past}
+use Rattle.depot_model.specs.checks.Own.{entry_of, write_of}
+use Rattle.depot_model.specs.texts.Texts.{IsStatement, IsUpdate, id_of_update, update_body, update_fields, version_of}
+use Rattle.depot_model.specs.checks.Vouching.{rising}
+use Rattle.depot_model.proofs.lists.Members.{all_from, among-append, among_from, any_from, in_last}
+use Rattle.depot_laws.proofs.records.NewVouchers.{voucher_fits}
+use Rattle.depot_laws.proofs.own_updates.OwnTexts.{entry_fits, id_is_digest}
+use Rattle.depot_laws.proofs.records.LawfulRecords.{IsStatement-from_own_voucher}
+use Rattle.depot_laws.proofs.lists.Sorted.{entries_follow}
+use Rattle.depot_model.proofs.lists.RisingUpdates.{HaveOwnIds, rises_by_id, from_by_id, by_id_length as long_by_id}
+use Rattle.depot_model.proofs.of_updates.ChangeLaws.{changes_written}
+use Rattle.depot_model.proofs.of_texts.FieldFacts.{writes_fit}
 use Rattle.depot_schedule.specs.EventWords.{FitsHistory, first_or}
 use Rattle.depot_schedule.specs.declared.event.HistoryWord.{HistoryWord}
 use Rattle.depot_schedule.specs.declared.event.HistoryWord.TheVariants as history_word

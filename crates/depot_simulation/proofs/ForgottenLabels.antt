@@ -4,9 +4,9 @@ use Rattle.std.specs.List.{slice_get}
 use Rattle.std.specs.declared.alloc.Global.{Global}
 use Rattle.std.proofs.lemmas.Option.{slice_get_within}
 use Rattle.depot_base.proofs.MembershipLaws.{in_left, in_right}
-use Rattle.depot_model.specs.Lists.{IsIn}
-use Rattle.depot_model.specs.Readers.{Reader}
-use Rattle.depot_model.proofs.Elements.{get_front}
+use Rattle.depot_model.specs.lists.Lists.{IsIn}
+use Rattle.depot_model.specs.readers.Readers.{Reader}
+use Rattle.depot_model.proofs.lists.Elements.{get_front}
 use Rattle.depot_schedule.specs.declared.event.Event.{Event}
 use Rattle.depot_world.specs.Forgetting.{IsAlikeFor, GoesAlike, labels_without, with_labels}
 use Rattle.depot_world.specs.Run.{Labelled, Run}

@@ -5,7 +5,7 @@ use Rattle.std.specs.List.{position_or_len}
 use Rattle.std.proofs.lemmas.Bool.Decides.{nat_tests}
 use Rattle.std.proofs.lemmas.Option.{get_or_from_slice_get, slice_get_within}
 use Rattle.depot_base.specs.declared.record.Record.{Record}
-use Rattle.depot_model.specs.Checks.{Setting}
+use Rattle.depot_model.specs.checks.Checks.{Setting}
 use Rattle.depot_world.specs.Run.{Host, own_update, host_in, put_host}
 use Rattle.depot_world.specs.Setups.{Setup}
 use Rattle.depot_simulation.specs.Acting.{AreHosted, IsParticipant, ParticipantView}

@@ -1,15 +1,15 @@
 -- Whatever a correct node does, and wherever a stop falls into it, its journal keeps its records.
 use Rattle.std.proofs.Common.{◌-◌, Bool, true, false, leb, cond, take, drop, length, Option, Some, None, refl}
-use Rattle.depot_model.specs.Bundle.{Signs}
-use Rattle.depot_model.specs.Checks.{Setting}
+use Rattle.depot_model.specs.exchange.Bundle.{Signs}
+use Rattle.depot_model.specs.checks.Checks.{Setting}
 use Rattle.depot_requests.specs.Effects.{Effect}
 use Rattle.depot_requests.specs.Requests.{effect_of}
 use Rattle.depot_requests.specs.declared.request.Request.{Request}
 use Rattle.depot_world.specs.ScheduleStops.{restart_by}
 use Rattle.depot_world.specs.Run.{PendingStop, Host}
 use Rattle.depot_world.specs.ScheduleStops.{EventResult, standing_after, journal_left, stopped_with, result_pending, result_by, event_result}
-use Rattle.depot_model.specs.World.{Correct}
-use Rattle.depot_model.proofs.FeedGrowth.{IsGrown, grown_none}
+use Rattle.depot_model.specs.worlds.World.{Correct}
+use Rattle.depot_model.proofs.of_journals.FeedGrowth.{IsGrown, grown_none}
 use Rattle.depot_requests.proofs.ServedRequests.{served_grows}
 
 -- ---- stops

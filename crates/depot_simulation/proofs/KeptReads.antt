@@ -3,13 +3,13 @@ use Rattle.std.proofs.Common.{◌≡◌, ◌≤◌, ℕ, false, leb, List, [], �
 use Rattle.std.proofs.lemmas.Bool.Decides.{nat_tests}
 use Rattle.std.proofs.lemmas.List.{append-nil, map-append}
 use Rattle.depot_base.specs.declared.record.Record.{Record}
-use Rattle.depot_model.specs.Traces as audits
+use Rattle.depot_model.specs.worlds.Traces as audits
 use Rattle.depot_traces.specs.SeenTraces as seen_traces
 use Rattle.depot_traces.specs.declared.trace.ReadTrace.{ReadTrace}
 use Rattle.depot_world.specs.Audits.{traced_read}
-use Rattle.depot_model.specs.Bundle.{Signs}
-use Rattle.depot_model.specs.Checks.{Setting}
-use Rattle.depot_model.specs.World.{Correct}
+use Rattle.depot_model.specs.exchange.Bundle.{Signs}
+use Rattle.depot_model.specs.checks.Checks.{Setting}
+use Rattle.depot_model.specs.worlds.World.{Correct}
 use Rattle.depot_requests.specs.Effects.{Effect, read_at_end}
 use Rattle.depot_requests.specs.Requests.{effect_of, served}
 use Rattle.depot_requests.specs.declared.request.Request.{Request}

@@ -13,22 +13,22 @@ use Rattle.depot_base.specs.declared.statement.Statement.TheVariants as statemen
 use Rattle.depot_base.specs.declared.update.Dep.{Dep}
 use Rattle.depot_base.specs.declared.update.Update.{Update}
 use Rattle.depot_base.proofs.GeneralLaws.{take_next}
-use Rattle.depot_model.specs.Journal.{accepted, has_id, own, update_in}
-use Rattle.depot_model.specs.Lawful.{IsLawful}
-use Rattle.depot_model.specs.Lists.{IsIn}
-use Rattle.depot_model.specs.Own.{entry_of}
-use Rattle.depot_model.specs.Texts.{IsSigned, IsStatement, IsUpdate, id_of_update}
-use Rattle.depot_model.proofs.BodyLaws.{IsStatement-from_signed, IsUpdate-from_statement}
-use Rattle.depot_model.proofs.Members.{all_at, from_filter, from_map, in_right}
-use Rattle.depot_laws.proofs.OwnTexts.{accepted_fit}
+use Rattle.depot_model.specs.journals.Journal.{accepted, has_id, own, update_in}
+use Rattle.depot_model.specs.journals.Lawful.{IsLawful}
+use Rattle.depot_model.specs.lists.Lists.{IsIn}
+use Rattle.depot_model.specs.checks.Own.{entry_of}
+use Rattle.depot_model.specs.texts.Texts.{IsSigned, IsStatement, IsUpdate, id_of_update}
+use Rattle.depot_model.proofs.of_texts.BodyLaws.{IsStatement-from_signed, IsUpdate-from_statement}
+use Rattle.depot_model.proofs.lists.Members.{all_at, from_filter, from_map, in_right}
+use Rattle.depot_laws.proofs.own_updates.OwnTexts.{accepted_fit}
 use Rattle.depot_schedule.specs.EventWords.{first_or}
 use Rattle.depot_schedule.specs.declared.event.Ref.{Ref}
 use Rattle.depot_schedule.specs.declared.event.Ref.TheVariants as ref
-use Rattle.depot_model.specs.Readers.{Reader}
+use Rattle.depot_model.specs.readers.Readers.{Reader}
 use Rattle.depot_world.specs.Run.{Labelled, Run, Host, first_update, id_referred, made_in, own_update, plain_referred, referred, signed_of, host_in}
 use Rattle.depot_world.specs.FaultySigning.{all_of, all_referred, entries_of}
 use Rattle.depot_world.specs.Setups.{Setup}
-use Rattle.depot_world.proofs.GoodRuns.{found_is}
+use Rattle.depot_world.proofs.of_worlds.GoodRuns.{found_is}
 use Rattle.depot_simulation.specs.Acting.{AreHosted, IsHosted, ParticipantView, ActorView}
 use Rattle.depot_simulation.specs.Playing.{IsSimulationAt, IsPlayed, IsRemembered, participant_by}
 use Rattle.depot_simulation.specs.declared.participant.Participant.{Participant}

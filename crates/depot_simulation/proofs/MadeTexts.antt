@@ -14,11 +14,11 @@ use Rattle.depot_answers.specs.AnswerTexts.{spaced}
 use Rattle.depot_base.specs.declared.statement.Signed.{Signed}
 use Rattle.depot_base.specs.declared.statement.Statement.{Statement}
 use Rattle.depot_base.specs.declared.statement.Statement.TheVariants as statement
-use Rattle.depot_model.specs.Journal.{update_in}
-use Rattle.depot_model.specs.Lists.{IsIn}
-use Rattle.depot_model.specs.Bundle.{Signs}
-use Rattle.depot_model.specs.Texts.{IsSigned}
-use Rattle.depot_model.specs.Vouching.{rising}
+use Rattle.depot_model.specs.journals.Journal.{update_in}
+use Rattle.depot_model.specs.lists.Lists.{IsIn}
+use Rattle.depot_model.specs.exchange.Bundle.{Signs}
+use Rattle.depot_model.specs.texts.Texts.{IsSigned}
+use Rattle.depot_model.specs.checks.Vouching.{rising}
 use Rattle.depot_base.specs.declared.update.Update.{Update}
 use Rattle.depot_schedule.specs.EventLines.{event_label}
 use Rattle.depot_schedule.specs.EventWords.{is_declared, is_faulty}
@@ -28,7 +28,7 @@ use Rattle.depot_schedule.specs.declared.event.HistoryWord.{HistoryWord}
 use Rattle.depot_schedule.specs.declared.event.Ref.{Ref}
 use Rattle.depot_schedule.specs.declared.member.Member.{Member}
 use Rattle.depot_schedule.specs.declared.schedule.Schedule.{Schedule}
-use Rattle.depot_model.specs.Readers.{Reader}
+use Rattle.depot_model.specs.readers.Readers.{Reader}
 use Rattle.depot_world.specs.Run.{Labelled, Run, bytes_of_label, id_referred, made_in, signed_of}
 use Rattle.depot_world.specs.FaultySigning.{Text, all_of, hollow_text, no_reference, proof_of_halves, proof_text, proof_with, voucher_text, vouched_text}
 use Rattle.depot_world.specs.Setups.{Setup}

@@ -7,16 +7,16 @@ use Rattle.std.proofs.lemmas.List.{length-take-le}
 use Rattle.std.proofs.lemmas.Option.{slice_get_within, get_or_from_slice_get}
 use Rattle.depot_base.specs.declared.record.Record.{Record}
 use Rattle.depot_base.specs.declared.update.Update.{Update}
-use Rattle.depot_model.specs.Checks.{Setting}
-use Rattle.depot_model.specs.Journal.{accepted, accepted_by}
-use Rattle.depot_model.specs.Lawful.{IsLawful}
-use Rattle.depot_model.specs.Order.{parents}
-use Rattle.depot_model.specs.Texts.{IsUpdate}
-use Rattle.depot_model.proofs.Elements.{in_at}
-use Rattle.depot_laws.proofs.Causes.{lawful_is_causal}
-use Rattle.depot_laws.proofs.OwnTexts.{accepted_fit}
+use Rattle.depot_model.specs.checks.Checks.{Setting}
+use Rattle.depot_model.specs.journals.Journal.{accepted, accepted_by}
+use Rattle.depot_model.specs.journals.Lawful.{IsLawful}
+use Rattle.depot_model.specs.updates.Order.{parents}
+use Rattle.depot_model.specs.texts.Texts.{IsUpdate}
+use Rattle.depot_model.proofs.lists.Elements.{in_at}
+use Rattle.depot_laws.proofs.records.Causes.{lawful_is_causal}
+use Rattle.depot_laws.proofs.own_updates.OwnTexts.{accepted_fit}
 use Rattle.depot_world.specs.Run.{seen_with}
-use Rattle.depot_model.proofs.FeedGrowth.{IsGrown}
+use Rattle.depot_model.proofs.of_journals.FeedGrowth.{IsGrown}
 use Rattle.depot_simulation.proofs.Remembered.{IdsWereSeen, seen_with-append, seen_at_most, causal_come, parents_of_next}
 
 -- ---- what a journal that grew accepted

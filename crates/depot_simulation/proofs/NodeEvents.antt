@@ -5,18 +5,18 @@ use Rattle.std.proofs.lemmas.List.Edits.{length-remove}
 use Rattle.std.proofs.lemmas.Option.{slice_get_within}
 use Rattle.depot_base.specs.declared.record.Record.{Record}
 use Rattle.depot_base.specs.declared.update.Update.{Update}
-use Rattle.depot_laws.proofs.Causes.{lawful_is_causal}
-use Rattle.depot_model.specs.Journal.{accepted}
-use Rattle.depot_model.specs.Lawful.{IsLawful}
-use Rattle.depot_model.specs.Order.{IsCausal}
-use Rattle.depot_model.specs.Readers.{Reader}
+use Rattle.depot_laws.proofs.records.Causes.{lawful_is_causal}
+use Rattle.depot_model.specs.journals.Journal.{accepted}
+use Rattle.depot_model.specs.journals.Lawful.{IsLawful}
+use Rattle.depot_model.specs.updates.Order.{IsCausal}
+use Rattle.depot_model.specs.readers.Readers.{Reader}
 use Rattle.depot_requests.specs.Effects.{Effect, lines_after_arrow}
 use Rattle.depot_world.specs.Run.{Labelled, Run, Host, host_in, put_host, seen_with, with_host}
 use Rattle.depot_world.specs.ScheduleStops.{EventResult, event_result}
 use Rattle.depot_world.specs.Setups.{Setup}
 use Rattle.depot_world.specs.Transcript.{Done, pending_at, done_at_node, done_by_node}
-use Rattle.depot_model.proofs.FeedGrowth.{IsGrown, grown_none}
-use Rattle.depot_world.proofs.GoodRuns.{found_is}
+use Rattle.depot_model.proofs.of_journals.FeedGrowth.{IsGrown, grown_none}
+use Rattle.depot_world.proofs.of_worlds.GoodRuns.{found_is}
 use Rattle.depot_simulation.specs.Acting.{ActorView, AreHosted, CameTo, IsParticipant, IsHosted, TellReads}
 use Rattle.depot_simulation.specs.Doing.{HasDone, HasLeft, participant_of}
 use Rattle.depot_scenario.specs.Labels.{AreLabels, labels_with}

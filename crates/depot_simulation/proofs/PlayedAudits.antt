@@ -4,20 +4,20 @@ use Rattle.std.specs.List.{AllByRecursion}
 use Rattle.std.proofs.lemmas.List.{append-nil, length-map}
 use Rattle.depot_answers.specs.AnswerTexts.{spaced, text_of_finding}
 use Rattle.depot_base.specs.declared.key.RosterEntry.{RosterEntry}
-use Rattle.depot_model.specs.Audit as audit
-use Rattle.depot_model.specs.Audit.{finding_in}
-use Rattle.depot_model.specs.Items.{AreDistinct}
-use Rattle.depot_model.specs.Lists.{IsIn}
-use Rattle.depot_model.specs.Records.{text_of_record}
-use Rattle.depot_model.specs.Roster.{Verifies, has_node}
-use Rattle.depot_model.specs.Traces as audits
-use Rattle.depot_model.specs.World.{Read}
-use Rattle.depot_model.proofs.Members.{all_from, in_map}
+use Rattle.depot_model.specs.worlds.Audit as audit
+use Rattle.depot_model.specs.worlds.Audit.{finding_in}
+use Rattle.depot_model.specs.lists.Items.{AreDistinct}
+use Rattle.depot_model.specs.lists.Lists.{IsIn}
+use Rattle.depot_model.specs.texts.Records.{text_of_record}
+use Rattle.depot_model.specs.texts.Roster.{Verifies, has_node}
+use Rattle.depot_model.specs.worlds.Traces as audits
+use Rattle.depot_model.specs.worlds.World.{Read}
+use Rattle.depot_model.proofs.lists.Members.{all_from, in_map}
 use Rattle.depot_traces.specs.SeenTraces.{finding_of, read_of, trace_of}
 use Rattle.depot_traces.specs.declared.finding.Finding.{Finding}
 use Rattle.depot_traces.specs.declared.trace.ReadTrace.{ReadTrace}
 use Rattle.depot_traces.specs.declared.trace.Trace.{Trace}
-use Rattle.depot_model.specs.Readers.{Reader}
+use Rattle.depot_model.specs.readers.Readers.{Reader}
 use Rattle.depot_world.specs.Audits.{IsSound, audited, traced_read, trace_by, traces_by}
 use Rattle.depot_world.specs.Run.{Run, Host}
 use Rattle.depot_world.specs.Setups.{Setup}

@@ -7,8 +7,8 @@ use Rattle.depot_base.specs.Faults.{HasCause}
 use Rattle.depot_base.specs.Reading.{AddsFrontOf}
 use Rattle.depot_base.proofs.Writing.{begins_with, begins_further}
 use Rattle.depot_base.proofs.GeneralLaws.{take_next}
-use Rattle.depot_model.specs.Lists.{IsIn}
-use Rattle.depot_model.proofs.Elements.{in_at}
+use Rattle.depot_model.specs.lists.Lists.{IsIn}
+use Rattle.depot_model.proofs.lists.Elements.{in_at}
 use Rattle.depot_outside.specs.Told.{Sinks}
 use Rattle.depot_schedule.specs.declared.event.Event.{Event}
 use Rattle.depot_world.specs.Run.{Run}

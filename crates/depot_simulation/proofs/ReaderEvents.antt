@@ -6,14 +6,14 @@ use Rattle.std.proofs.lemmas.List.{append-nil}
 use Rattle.std.proofs.lemmas.Option.{get_or_from_slice_get}
 use Rattle.depot_answers.specs.AnswerTexts.{spaced, text_of_reader_feed, text_of_trim}
 use Rattle.depot_base.specs.declared.record.Record.{Record}
-use Rattle.depot_model.specs.Checks.{Setting}
-use Rattle.depot_model.specs.ReaderFeeds.{reader_feed_of}
-use Rattle.depot_model.specs.Readers.{Reader, trim_of}
+use Rattle.depot_model.specs.checks.Checks.{Setting}
+use Rattle.depot_model.specs.readers.ReaderFeeds.{reader_feed_of}
+use Rattle.depot_model.specs.readers.Readers.{Reader, trim_of}
 use Rattle.depot_world.specs.Run.{NamedReader, Run, Host, reader_in, host_in}
 use Rattle.depot_world.specs.Setups.{Setup, stands_on}
 use Rattle.depot_requests.specs.Effects.{ended}
 use Rattle.depot_world.specs.Transcript.{Done, answer_of_reader, reader_made, reader_told, tget_by, tgive_by, trim_at, trimmed_with}
-use Rattle.depot_world.proofs.GoodRuns.{found_is}
+use Rattle.depot_world.proofs.of_worlds.GoodRuns.{found_is}
 use Rattle.depot_simulation.specs.Acting.{ActorView}
 use Rattle.depot_simulation.specs.Doing.{HasDone}
 use Rattle.depot_simulation.specs.Playing.{IsSimulationAt, participant_by}

@@ -8,8 +8,8 @@ use Rattle.std.specs.declared.alloc.Global.{Global}
 use Rattle.std.proofs.lemmas.Bool.{both_ways}
 use Rattle.std.proofs.lemmas.Slice.Eq.{bytes_eq-Decides}
 use Rattle.depot_base.proofs.GeneralLaws.{vec_cmp}
-use Rattle.depot_model.specs.ReaderFeeds.{reader_feed_of}
-use Rattle.depot_model.specs.Readers.{Reader}
+use Rattle.depot_model.specs.readers.ReaderFeeds.{reader_feed_of}
+use Rattle.depot_model.specs.readers.Readers.{Reader}
 use Rattle.depot_scenario.specs.Labels.{named_in}
 use Rattle.depot_scenario.proofs.LabelTables.{named_once_put}
 use Rattle.depot_world.specs.Run.{NamedReader, put_reader, reader_in}

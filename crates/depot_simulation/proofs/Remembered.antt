@@ -2,13 +2,13 @@
 use Rattle.std.proofs.Common.{◌≡◌, ℕ, zero, suc, Bool, true, false, cond, List, [], ◌∷◌, ◌++◌, ◌+◌, ◌≤◌, length, take, map, Some, refl, ap, subst, ◌∙◌, inr, length-append, arith}
 use Rattle.std.specs.List.{AllByRecursion, slice_get}
 use Rattle.depot_base.specs.declared.update.Update.{Update}
-use Rattle.depot_model.specs.Journal.{has_id}
-use Rattle.depot_model.specs.Lists.{IsIn}
-use Rattle.depot_model.specs.Order.{parents, IsCausal}
-use Rattle.depot_model.specs.Texts.{id_of_update}
-use Rattle.depot_model.proofs.Members.{in_left, in_last, in_map, all_at, all_from}
-use Rattle.depot_model.proofs.Orders.{causal_push}
-use Rattle.depot_model.proofs.NamedIds.{has_id_from, has_id_to, new_id}
+use Rattle.depot_model.specs.journals.Journal.{has_id}
+use Rattle.depot_model.specs.lists.Lists.{IsIn}
+use Rattle.depot_model.specs.updates.Order.{parents, IsCausal}
+use Rattle.depot_model.specs.texts.Texts.{id_of_update}
+use Rattle.depot_model.proofs.lists.Members.{in_left, in_last, in_map, all_at, all_from}
+use Rattle.depot_model.proofs.of_updates.Orders.{causal_push}
+use Rattle.depot_model.proofs.of_updates.NamedIds.{has_id_from, has_id_to, new_id}
 use Rattle.depot_world.specs.Run.{seen_with}
 use Rattle.depot_simulation.specs.Playing.{WereSeen}
 

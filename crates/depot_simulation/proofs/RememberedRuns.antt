@@ -5,11 +5,11 @@ use Rattle.std.specs.Str.{bytes_eq}
 use Rattle.depot_base.specs.declared.proof.Proof.{Proof}
 use Rattle.depot_base.specs.declared.statement.Signed.{Signed}
 use Rattle.depot_base.specs.declared.update.Update.{Update}
-use Rattle.depot_model.specs.Journal.{accepted, update_in}
-use Rattle.depot_model.specs.Lists.{IsIn}
-use Rattle.depot_model.specs.Order.{parents, IsCausal}
-use Rattle.depot_model.specs.Texts.{IsSigned}
-use Rattle.depot_model.proofs.Members.{from_filter, from_map, in_pushed}
+use Rattle.depot_model.specs.journals.Journal.{accepted, update_in}
+use Rattle.depot_model.specs.lists.Lists.{IsIn}
+use Rattle.depot_model.specs.updates.Order.{parents, IsCausal}
+use Rattle.depot_model.specs.texts.Texts.{IsSigned}
+use Rattle.depot_model.proofs.lists.Members.{from_filter, from_map, in_pushed}
 use Rattle.depot_schedule.specs.declared.member.Member.{Member}
 use Rattle.depot_world.specs.Forgetting.{labels_without, with_labels}
 use Rattle.depot_world.specs.Run.{PendingStop, Host, Labelled, NamedReader, Run, fresh_host, run_of, put_host, seen_with, with_label, with_host}

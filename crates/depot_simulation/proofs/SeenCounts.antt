@@ -5,21 +5,21 @@ use Rattle.depot_base.specs.Writes.{one_change}
 use Rattle.depot_base.specs.declared.limits.TheConstants.{MOST_CORRECT, MOST_LINES, MOST_RECORDS}
 use Rattle.depot_base.specs.declared.proof.Proof.{Proof}
 use Rattle.depot_base.specs.declared.update.Update.{Update}
-use Rattle.depot_laws.proofs.BundleSizes.{few_told}
-use Rattle.depot_laws.proofs.OwnTexts.{lawful_is_short}
-use Rattle.depot_model.specs.Bundle.{Signs}
-use Rattle.depot_model.specs.Journal.{accepted}
-use Rattle.depot_model.specs.Judgement.{first_failed_point, verdict_of}
-use Rattle.depot_model.specs.Lawful.{IsLawful}
-use Rattle.depot_model.specs.Lines.{text_of_point, text_of_verdict}
-use Rattle.depot_model.specs.Lists.{IsIn}
-use Rattle.depot_model.specs.Own.{values_of}
-use Rattle.depot_model.specs.ReaderFeeds.{reader_feed_of}
-use Rattle.depot_model.specs.Readers.{Reader, trim_of}
-use Rattle.depot_model.specs.World.{setting_of}
+use Rattle.depot_laws.proofs.exchanges.BundleSizes.{few_told}
+use Rattle.depot_laws.proofs.own_updates.OwnTexts.{lawful_is_short}
+use Rattle.depot_model.specs.exchange.Bundle.{Signs}
+use Rattle.depot_model.specs.journals.Journal.{accepted}
+use Rattle.depot_model.specs.updates.Judgement.{first_failed_point, verdict_of}
+use Rattle.depot_model.specs.journals.Lawful.{IsLawful}
+use Rattle.depot_model.specs.texts.Lines.{text_of_point, text_of_verdict}
+use Rattle.depot_model.specs.lists.Lists.{IsIn}
+use Rattle.depot_model.specs.checks.Own.{values_of}
+use Rattle.depot_model.specs.readers.ReaderFeeds.{reader_feed_of}
+use Rattle.depot_model.specs.readers.Readers.{Reader, trim_of}
+use Rattle.depot_model.specs.worlds.World.{setting_of}
 use Rattle.depot_model.specs.declared.judgement.JudgeError.{JudgeError}
-use Rattle.depot_model.proofs.FeedGrowth.{IsGrown, grown_none}
-use Rattle.depot_model.proofs.Members.{in_map}
+use Rattle.depot_model.proofs.of_journals.FeedGrowth.{IsGrown, grown_none}
+use Rattle.depot_model.proofs.lists.Members.{in_map}
 use Rattle.depot_schedule.specs.declared.event.Event.{Event}
 use Rattle.depot_schedule.specs.declared.event.Event.TheVariants as event
 use Rattle.depot_scenario.specs.declared.known_updates.KnownUpdates.{KnownUpdates}
@@ -36,7 +36,7 @@ use Rattle.depot_world.specs.Run.{Host, Run, bytes_of_label, reader_in, host_in,
 use Rattle.depot_world.specs.ScheduleStops.{EventResult, event_result}
 use Rattle.depot_world.specs.Setups.{Setup, stands_on, signs_on}
 use Rattle.depot_world.specs.Transcript.{Done, pending_at, done_at_node, done_by_node, done_by_update, done, judged_with, asked_for, run_after, trimmed_with, trim_at, reader_told, tgive_by}
-use Rattle.depot_world.proofs.GoodRuns.{found_is}
+use Rattle.depot_world.proofs.of_worlds.GoodRuns.{found_is}
 use Rattle.depot_world.proofs.ReadCounts.{few_taken}
 use Rattle.depot_simulation.specs.Acting.{ActorView}
 use Rattle.depot_simulation.specs.Doing.{HasLeftSimulation}

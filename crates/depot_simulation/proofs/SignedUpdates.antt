@@ -8,10 +8,10 @@ use Rattle.depot_base.specs.declared.proof.Proof.{Proof}
 use Rattle.depot_base.specs.Writes.{one_change}
 use Rattle.depot_base.specs.declared.update.Update.{Update}
 use Rattle.depot_base.specs.declared.write.Change.{Change}
-use Rattle.depot_model.specs.Bundle.{Signs}
-use Rattle.depot_model.specs.Judgement.{first_failed_point, verdict_of}
-use Rattle.depot_model.specs.Own.{values_of, write_of}
-use Rattle.depot_model.specs.Lines.{text_of_point, text_of_verdict}
+use Rattle.depot_model.specs.exchange.Bundle.{Signs}
+use Rattle.depot_model.specs.updates.Judgement.{first_failed_point, verdict_of}
+use Rattle.depot_model.specs.checks.Own.{values_of, write_of}
+use Rattle.depot_model.specs.texts.Lines.{text_of_point, text_of_verdict}
 use Rattle.depot_model.specs.declared.judgement.JudgeError.{JudgeError}
 use Rattle.depot_lines.specs.Language.{join}
 use Rattle.depot_schedule.specs.EventLines.{event_changes, event_label, event_node}
@@ -19,7 +19,7 @@ use Rattle.depot_schedule.specs.declared.event.Event.{Event}
 use Rattle.depot_schedule.specs.declared.event.Event.TheVariants as event
 use Rattle.depot_schedule.specs.declared.event.HistoryWord.{HistoryWord}
 use Rattle.depot_schedule.specs.declared.event.Ref.{Ref}
-use Rattle.depot_model.specs.Readers.{Reader}
+use Rattle.depot_model.specs.readers.Readers.{Reader}
 use Rattle.depot_world.specs.Run.{Run, bytes_of_label, seen_with}
 use Rattle.depot_world.specs.FaultySigning.{drafted, entries_of, history_by, prev_of_ref, proof_in, updated, with_history}
 use Rattle.depot_world.specs.Setups.{Setup, signs_on}

@@ -1,8 +1,8 @@
 -- What the nodes of a simulation hand in for an audit.
 use Rattle.std.specs.Prelude.{List, map, length, ◌≤◌}
 use Rattle.std.specs.List.{AllByRecursion}
-use Rattle.depot_model.specs.Records.{text_of_record}
-use Rattle.depot_model.specs.Traces as audits
+use Rattle.depot_model.specs.texts.Records.{text_of_record}
+use Rattle.depot_model.specs.worlds.Traces as audits
 use Rattle.depot_traces.specs.SeenTraces.{read_of}
 use Rattle.depot_traces.specs.declared.trace.TheConstants.{MOST_READS}
 use Rattle.depot_simulation.specs.Acting.{HaveTexts, ParticipantView}

@@ -4,11 +4,11 @@ use Rattle.depot_base.specs.Writes.{one_change}
 use Rattle.depot_base.specs.declared.record.Record.{Record}
 use Rattle.depot_base.specs.declared.update.Update.{Update}
 use Rattle.depot_base.specs.declared.write.Change.{Change}
-use Rattle.depot_model.specs.Bundle.{Signs}
-use Rattle.depot_model.specs.Journal.{accepted}
-use Rattle.depot_model.specs.Own.{values_of}
-use Rattle.depot_model.specs.Readers.{Reader}
-use Rattle.depot_model.specs.Traces.{ReadTrace}
+use Rattle.depot_model.specs.exchange.Bundle.{Signs}
+use Rattle.depot_model.specs.journals.Journal.{accepted}
+use Rattle.depot_model.specs.checks.Own.{values_of}
+use Rattle.depot_model.specs.readers.Readers.{Reader}
+use Rattle.depot_model.specs.worlds.Traces.{ReadTrace}
 use Rattle.depot_schedule.specs.declared.event.Event.{Event}
 use Rattle.depot_schedule.specs.declared.event.Event.TheVariants as event
 use Rattle.depot_schedule.specs.declared.event.Ref.{Ref}

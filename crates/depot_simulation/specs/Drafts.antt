@@ -3,7 +3,7 @@ use Rattle.std.specs.Prelude.{◌≡◌, ℕ, ◌<◌, ◌≤◌, ◌^◌, List,
 use Rattle.depot_base.specs.declared.limits.TheConstants.{MOST_ENTRIES}
 use Rattle.depot_base.specs.declared.update.Update.{Update}
 use Rattle.depot_base.specs.declared.write.Change.{Change}
-use Rattle.depot_model.specs.Changes.{AreChanges}
+use Rattle.depot_model.specs.updates.Changes.{AreChanges}
 use Rattle.depot_schedule.specs.Schedules.{FitsEvent}
 use Rattle.depot_schedule.specs.EventWords.{FitsHistory, is_declared}
 use Rattle.depot_schedule.specs.declared.event.Event.TheVariants as event

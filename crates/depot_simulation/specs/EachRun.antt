@@ -2,9 +2,9 @@
 use Rattle.std.specs.Prelude.{◌≡◌, ◌⊎◌, ℕ, List, [], length, Vec}
 use Rattle.std.specs.declared.alloc.Global.{Global}
 use Rattle.depot_base.specs.declared.key.PublicKey.{PublicKey}
-use Rattle.depot_model.specs.Bundle.{Signs}
-use Rattle.depot_model.specs.Readers.{Reader}
-use Rattle.depot_model.specs.Roster.{Verifies}
+use Rattle.depot_model.specs.exchange.Bundle.{Signs}
+use Rattle.depot_model.specs.readers.Readers.{Reader}
+use Rattle.depot_model.specs.texts.Roster.{Verifies}
 use Rattle.depot_outside.specs.Told.{Sinks, Wrote, WroteFront}
 use Rattle.depot_schedule.specs.declared.event.Event.{Event}
 use Rattle.depot_scenario.specs.LabelUses.{AreUses}

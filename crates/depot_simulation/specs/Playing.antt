@@ -5,13 +5,13 @@ use Rattle.depot_base.specs.declared.limits.TheConstants.{MOST_CORRECT, MOST_LIN
 use Rattle.depot_base.specs.declared.statement.Signed.{Signed}
 use Rattle.depot_base.specs.declared.update.Update.{Update}
 use Rattle.depot_base.specs.declared.key.PublicKey.{PublicKey}
-use Rattle.depot_model.specs.Bundle.{Signs}
-use Rattle.depot_model.specs.Journal.{accepted, has_id, update_in}
-use Rattle.depot_model.specs.Lists.{IsIn}
-use Rattle.depot_model.specs.Order.{IsCausal}
-use Rattle.depot_model.specs.Readers.{Reader}
-use Rattle.depot_model.specs.Roster.{Verifies}
-use Rattle.depot_model.specs.Texts.{IsSigned, id_of_update}
+use Rattle.depot_model.specs.exchange.Bundle.{Signs}
+use Rattle.depot_model.specs.journals.Journal.{accepted, has_id, update_in}
+use Rattle.depot_model.specs.lists.Lists.{IsIn}
+use Rattle.depot_model.specs.updates.Order.{IsCausal}
+use Rattle.depot_model.specs.readers.Readers.{Reader}
+use Rattle.depot_model.specs.texts.Roster.{Verifies}
+use Rattle.depot_model.specs.texts.Texts.{IsSigned, id_of_update}
 use Rattle.depot_schedule.specs.declared.event.Event.{Event}
 use Rattle.depot_world.specs.Audits.{IsSound}
 use Rattle.depot_world.specs.Forgetting.{IsAlikeFor}

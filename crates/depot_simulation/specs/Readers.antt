@@ -3,8 +3,8 @@ use Rattle.std.specs.Prelude.{◌≡◌, ℕ, List, [], ◌∷◌, ◌++◌, Opt
 use Rattle.std.specs.Str.{bytes_eq}
 use Rattle.std.specs.declared.alloc.Global.{Global}
 use Rattle.depot_answers.specs.AnswerTexts.{spaced, text_of_reader_feed, text_of_trim}
-use Rattle.depot_model.specs.ReaderFeeds.{reader_feed_of}
-use Rattle.depot_model.specs.Readers.{Reader, TrimAnswer}
+use Rattle.depot_model.specs.readers.ReaderFeeds.{reader_feed_of}
+use Rattle.depot_model.specs.readers.Readers.{Reader, TrimAnswer}
 use Rattle.depot_world.specs.Run.{NamedReader, put_reader, reader_in}
 use Rattle.depot_requests.specs.Effects.{ended}
 use Rattle.depot_world.specs.Transcript.{answer_of_reader, reader_made}

@@ -1,10 +1,10 @@
 //! The updates that faulty nodes sign, and what they vouch for.
 ghost use Rattle.std.specs.Prelude.{◌≡◌, ℕ, true, map, option_map, IfOk, IfSome};
 ghost use Rattle.depot_base.specs.declared.statement.Statement.TheVariants as statement;
-ghost use Rattle.depot_model.specs.Bundle.{Signs};
-ghost use Rattle.depot_model.specs.Own.{entry_of};
-ghost use Rattle.depot_model.specs.Texts.{IsStatement, IsUpdate, id_of_update};
-ghost use Rattle.depot_model.specs.Vouching.{rising};
+ghost use Rattle.depot_model.specs.exchange.Bundle.{Signs};
+ghost use Rattle.depot_model.specs.checks.Own.{entry_of};
+ghost use Rattle.depot_model.specs.texts.Texts.{IsStatement, IsUpdate, id_of_update};
+ghost use Rattle.depot_model.specs.checks.Vouching.{rising};
 ghost use Rattle.depot_world.specs.Run.{id_referred, referred};
 ghost use Rattle.depot_world.specs.FaultySigning.{all_of, all_referred, entries_of, prev_of_ref, updated};
 ghost use Rattle.depot_simulation.specs.Asking.{asks_past};

@@ -1,6 +1,6 @@
 //! How a node leaves its place for an event, and comes back.
 ghost use Rattle.std.specs.Prelude.{◌≡◌, ◌≤◌, ◌+◌, insert, length, take, vec_len, None, MatchOption, OnOk};
-ghost use Rattle.depot_model.specs.Journal.{accepted};
+ghost use Rattle.depot_model.specs.journals.Journal.{accepted};
 ghost use Rattle.depot_world.specs.Run.{seen_with};
 ghost use Rattle.depot_simulation.specs.Doing.{HasLeft, place_of_node};
 ghost use Rattle.depot_simulation.specs.Playing.{WereSeen};

@@ -1,8 +1,8 @@
 //! Events that only make a label.
 ghost use Rattle.std.specs.Prelude.{◌≡◌, [], ℕ, List, None, true, IfOk, IfSome};
 ghost use Rattle.depot_base.specs.Shown.{IsPairKind};
-ghost use Rattle.depot_model.specs.Journal.{update_in};
-ghost use Rattle.depot_model.specs.Texts.{IsSigned};
+ghost use Rattle.depot_model.specs.journals.Journal.{update_in};
+ghost use Rattle.depot_model.specs.texts.Texts.{IsSigned};
 ghost use Rattle.depot_schedule.specs.EventLines.{event_label};
 ghost use Rattle.depot_schedule.specs.declared.event.Event.TheVariants as event;
 ghost use Rattle.depot_world.specs.FaultySigning.{hollow_text, proof_text};

@@ -2,7 +2,7 @@
 ghost use Rattle.std.specs.Prelude.{◌≡◌, ◌++◌, true, IsTrue, OnOk, OnErr, IsErrOf, IfOk};
 ghost use Rattle.depot_base.specs.Faults.{HasCause};
 ghost use Rattle.depot_base.specs.Reading.{AddsFrontOf};
-ghost use Rattle.depot_model.specs.Lists.{IsIn};
+ghost use Rattle.depot_model.specs.lists.Lists.{IsIn};
 ghost use Rattle.depot_schedule.specs.Schedules.{IsSchedule};
 ghost use Rattle.depot_schedule.specs.declared.event.Event.{Event};
 ghost use Rattle.depot_world.specs.Run.{run_of};

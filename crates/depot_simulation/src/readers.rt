@@ -1,6 +1,6 @@
 //! Readers by their names.
 ghost use Rattle.std.specs.Prelude.{◌≡◌, List, Option, [], IfOk, OnOk};
-ghost use Rattle.depot_model.specs.Readers.{Reader};
+ghost use Rattle.depot_model.specs.readers.Readers.{Reader};
 ghost use Rattle.depot_world.specs.Run.{NamedReader, reader_in};
 ghost use Rattle.depot_simulation.specs.Readers.{AreReaders, IsMade, KeepsMade, TakesStream, gone_on, reader_shown, reader_lines};
 

@@ -1,7 +1,7 @@
 //! A reader of a node, which gave up what was trimmed.
 ghost use Rattle.std.specs.Prelude.{◌≡◌, Some, IfOk, OnOk};
-ghost use Rattle.depot_model.specs.ReaderFeeds.{reader_feed_of};
-ghost use Rattle.depot_model.specs.Readers.{Reader};
+ghost use Rattle.depot_model.specs.readers.ReaderFeeds.{reader_feed_of};
+ghost use Rattle.depot_model.specs.readers.Readers.{Reader};
 ghost use Rattle.depot_simulation.specs.Readers.{reader_shown, reader_lines};
 
 use depot_base::{Bytes, Key, Memory};

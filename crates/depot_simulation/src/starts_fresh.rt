@@ -1,6 +1,6 @@
 //! How a correct node begins.
 ghost use Rattle.std.specs.Prelude.{◌≡◌, Some, IfOk};
-ghost use Rattle.depot_model.specs.Roster.{key_of};
+ghost use Rattle.depot_model.specs.texts.Roster.{key_of};
 ghost use Rattle.depot_simulation.specs.Acting.{fresh_view};
 
 use crate::actor::Actor;

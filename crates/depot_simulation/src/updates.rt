@@ -1,8 +1,8 @@
 //! Updates that faulty nodes sign.
 ghost use Rattle.std.specs.Prelude.{◌≡◌, ◌<◌, ◌^◌, ◌∷◌, [], length, true, IfOk, IfSome, OnOk};
-ghost use Rattle.depot_model.specs.Journal.{update_in};
-ghost use Rattle.depot_model.specs.Own.{values_of};
-ghost use Rattle.depot_model.specs.Texts.{IsSigned, IsUpdate};
+ghost use Rattle.depot_model.specs.journals.Journal.{update_in};
+ghost use Rattle.depot_model.specs.checks.Own.{values_of};
+ghost use Rattle.depot_model.specs.texts.Texts.{IsSigned, IsUpdate};
 ghost use Rattle.depot_schedule.specs.EventLines.{event_label};
 ghost use Rattle.depot_schedule.specs.EventWords.{is_declared};
 ghost use Rattle.depot_world.specs.Run.{seen_with};

@@ -3,12 +3,12 @@ use Rattle.std.proofs.Common.{◌≡◌, ℕ, suc, ◌+◌, ◌-◌, ◌<◌, �
 use Rattle.std.specs.Int.{w32, from_be_bytes}
 use Rattle.std.proofs.lemmas.Bool.{cond-false, cond-true, ltb-true, le-ltb, lt-ltb, and_left}
 use Rattle.std.proofs.lemmas.List.{length-append}
-use Rattle.depot_model.specs.Checks.{Setting}
-use Rattle.depot_model.specs.Frames.{FrameAt, whole_frame, open_frame, no_frame, is_tag, least_length, most_length, may_be_within, is_no_flag, goes_astray, payload_in, frame_at}
-use Rattle.depot_model.specs.Feeding.{Feeding, ill_formed, closed_by, fed, fed_byte, fed_at, is_over}
-use Rattle.depot_model.proofs.OpenLaws.{not_astray, still_short, behind_four, cleared, bounds}
-use Rattle.depot_model.proofs.FeedLaws.{fed_in_pieces, frame_alike, one_byte}
-use Rattle.depot_laws.proofs.Feeds.{closed_stays}
+use Rattle.depot_model.specs.checks.Checks.{Setting}
+use Rattle.depot_model.specs.texts.Frames.{FrameAt, whole_frame, open_frame, no_frame, is_tag, least_length, most_length, may_be_within, is_no_flag, goes_astray, payload_in, frame_at}
+use Rattle.depot_model.specs.exchange.Feeding.{Feeding, ill_formed, closed_by, fed, fed_byte, fed_at, is_over}
+use Rattle.depot_model.proofs.of_texts.OpenLaws.{not_astray, still_short, behind_four, cleared, bounds}
+use Rattle.depot_model.proofs.of_journals.FeedLaws.{fed_in_pieces, frame_alike, one_byte}
+use Rattle.depot_laws.proofs.exchanges.Feeds.{closed_stays}
 use Rattle.depot_streams.specs.FrameHeads.{most_frame, bytes_missing}
 
 -- what is in a buffer is in bytes that are the same

@@ -4,19 +4,19 @@ use Rattle.std.specs.Prelude.{IsErrOf}
 use Rattle.std.proofs.lemmas.List.{append-nil}
 use Rattle.depot_base.specs.Calls.{Made}
 use Rattle.depot_base.specs.declared.record.Record.{Record}
-use Rattle.depot_model.specs.Feeding.{Feeding, fed, fed_frame}
-use Rattle.depot_model.specs.Frames.{Frame}
-use Rattle.depot_model.specs.JournalCalls.{IsStable}
-use Rattle.depot_model.specs.Lawful.{IsLawful}
-use Rattle.depot_model.specs.Replicas.{journal_of}
+use Rattle.depot_model.specs.exchange.Feeding.{Feeding, fed, fed_frame}
+use Rattle.depot_model.specs.texts.Frames.{Frame}
+use Rattle.depot_model.specs.journals.JournalCalls.{IsStable}
+use Rattle.depot_model.specs.journals.Lawful.{IsLawful}
+use Rattle.depot_model.specs.journals.Replicas.{journal_of}
 use Rattle.depot_model.specs.declared.node_state.NodeState.{Ghosts}
-use Rattle.depot_model.proofs.FeedGrowth.{feed_grows}
+use Rattle.depot_model.proofs.of_journals.FeedGrowth.{feed_grows}
 use Rattle.depot_streams.specs.declared.feed_error.FeedError.{FeedError}
 use Rattle.depot_streams.specs.declared.feed_error.FeedError.TheVariants as error
 use Rattle.depot_streams.specs.Lasting.{IsLawfulCall}
 use Rattle.depot_streams.specs.NodeCalls.{IsFeedCall, IsFrameCall}
 use Rattle.depot_streams.proofs.FeedRecords.{taken_brings, chunk_brings}
-use Rattle.depot_model.proofs.JournalCallLaws.{never_stopped, runs_on}
+use Rattle.depot_model.proofs.of_journals.JournalCallLaws.{never_stopped, runs_on}
 use Rattle.depot_streams.proofs.LawfulCalls.{idle_on, joined_on, renamed_on}
 use Rattle.depot_streams.proofs.PieceLaws.{IsUnderWay}
 

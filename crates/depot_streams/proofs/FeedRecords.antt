@@ -4,12 +4,12 @@ use Rattle.std.proofs.lemmas.Bool.Decides.{nat_tests}
 use Rattle.std.proofs.lemmas.List.{append-nil}
 use Rattle.depot_base.specs.declared.record.Record.{Record}
 use Rattle.depot_model.specs.declared.taken.Taken.TheVariants.{New, Known}
-use Rattle.depot_model.specs.Checks.{Setting}
-use Rattle.depot_model.specs.Frames.{Frame}
-use Rattle.depot_model.specs.Feeding.{Feeding, after_outcome, passed, says_more, fed, fed_frame, take_frame}
-use Rattle.depot_model.specs.Taking.{Outcome, no_room, answered, appended_by}
-use Rattle.depot_model.proofs.FeedGrowth.{feed_grows}
-use Rattle.depot_model.proofs.FeedLaws.{fed_in_pieces}
+use Rattle.depot_model.specs.checks.Checks.{Setting}
+use Rattle.depot_model.specs.texts.Frames.{Frame}
+use Rattle.depot_model.specs.exchange.Feeding.{Feeding, after_outcome, passed, says_more, fed, fed_frame, take_frame}
+use Rattle.depot_model.specs.checks.Taking.{Outcome, no_room, answered, appended_by}
+use Rattle.depot_model.proofs.of_journals.FeedGrowth.{feed_grows}
+use Rattle.depot_model.proofs.of_journals.FeedLaws.{fed_in_pieces}
 use Rattle.depot_streams.specs.Pieces.{brought_by}
 use Rattle.depot_streams.proofs.PieceLaws.{IsUnderWay}
 

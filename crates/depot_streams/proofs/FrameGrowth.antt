@@ -8,23 +8,23 @@ use Rattle.depot_base.proofs.FormatLaws.{IsBytes}
 use Rattle.depot_model.specs.declared.taken.Taken.{Taken}
 use Rattle.depot_model.specs.declared.taken.TakeError.{TakeError}
 use Rattle.depot_model.specs.declared.taken.TakeError.TheVariants as refused
-use Rattle.depot_model.specs.Checks.{Setting, Given, answer_to, growth}
-use Rattle.depot_model.specs.Room.{full_by}
-use Rattle.depot_model.specs.Limits.{IsCutShort}
+use Rattle.depot_model.specs.checks.Checks.{Setting, Given, answer_to, growth}
+use Rattle.depot_model.specs.checks.Room.{full_by}
+use Rattle.depot_model.specs.checks.Limits.{IsCutShort}
 use Rattle.depot_base.specs.declared.tags.FrameTag.TheVariants as tag
-use Rattle.depot_model.specs.JournalCalls.{Lasts, IsJournalCall}
-use Rattle.depot_model.specs.Replicas.{IsTakeCall, journal_of}
+use Rattle.depot_model.specs.journals.JournalCalls.{Lasts, IsJournalCall}
+use Rattle.depot_model.specs.journals.Replicas.{IsTakeCall, journal_of}
 use Rattle.depot_model.specs.declared.node_state.NodeState.{Ghosts}
-use Rattle.depot_model.proofs.JournalCallLaws.{never_answered, renamed_call}
-use Rattle.depot_model.specs.Lawful.{IsLawful, is_empty}
-use Rattle.depot_model.specs.Frames.{Frame}
-use Rattle.depot_model.specs.Causality.{puts_of}
-use Rattle.depot_model.specs.Feeding.{take_frame, given_by}
-use Rattle.depot_model.specs.Taking.{Form, as_proof, as_statement, as_value, Outcome, outcome_within, outcome_of, appended_by, growth_of_text}
+use Rattle.depot_model.proofs.of_journals.JournalCallLaws.{never_answered, renamed_call}
+use Rattle.depot_model.specs.journals.Lawful.{IsLawful, is_empty}
+use Rattle.depot_model.specs.texts.Frames.{Frame}
+use Rattle.depot_model.specs.worlds.Causality.{puts_of}
+use Rattle.depot_model.specs.exchange.Feeding.{take_frame, given_by}
+use Rattle.depot_model.specs.checks.Taking.{Form, as_proof, as_statement, as_value, Outcome, outcome_within, outcome_of, appended_by, growth_of_text}
 use Rattle.depot_laws.specs.Given.{HasText}
-use Rattle.depot_laws.proofs.Growing.{grown_is_lawful}
-use Rattle.depot_laws.proofs.LawfulFeeds.{given_has_text}
-use Rattle.depot_laws.proofs.TrueReceipts.{growth_puts_none, silent_is_true}
+use Rattle.depot_laws.proofs.records.Growing.{grown_is_lawful}
+use Rattle.depot_laws.proofs.exchanges.LawfulFeeds.{given_has_text}
+use Rattle.depot_laws.proofs.of_audits.TrueReceipts.{growth_puts_none, silent_is_true}
 use Rattle.depot_streams.specs.NodeCalls.{AnswersForOutcome, as_feed_answer, frame_of, IsFrameCall}
 use Rattle.depot_streams.specs.Lasting.{IsToAppend, LastsIn}
 use Rattle.depot_streams.specs.Pieces.{brought_by}

@@ -6,8 +6,8 @@ use Rattle.std.proofs.lemmas.List.{map-append, take_more}
 use Rattle.std.proofs.lemmas.List.Concat.{length-flat_map}
 use Rattle.std.proofs.lemmas.List.Sums.{sum_by-append, sum_by-cons}
 use Rattle.depot_base.specs.Cursor.{numeral}
-use Rattle.depot_model.specs.Frames.{Frame, text_of_frame}
-use Rattle.depot_model.specs.Bundle.{bytes_of_frames}
+use Rattle.depot_model.specs.texts.Frames.{Frame, text_of_frame}
+use Rattle.depot_model.specs.exchange.Bundle.{bytes_of_frames}
 use Rattle.depot_streams.specs.Sendings.{payloads_of, ArePayloads, frames_under}
 
 -- the bytes of a frame: its tag, its length, and its payload

@@ -9,11 +9,11 @@ use Rattle.depot_base.specs.declared.tags.FrameTag.TheVariants as tag
 use Rattle.depot_model.specs.declared.taken.Taken.{Taken}
 use Rattle.depot_model.specs.declared.taken.TakeError.{TakeError}
 use Rattle.depot_model.specs.declared.taken.TakeError.TheVariants as refused
-use Rattle.depot_model.specs.Checks.{Setting}
-use Rattle.depot_model.specs.Frames.{Frame}
-use Rattle.depot_model.specs.Taking.{Outcome, TakesProof, TakesStatement, TakesValue}
-use Rattle.depot_model.specs.Feeding.{Feeding, take_frame, fed_frame, after_outcome, passed, counted, says_more}
-use Rattle.depot_model.proofs.TakeLaws.{IsTold, Tells, proof_frame_tells, statement_frame_tells, value_frame_tells}
+use Rattle.depot_model.specs.checks.Checks.{Setting}
+use Rattle.depot_model.specs.texts.Frames.{Frame}
+use Rattle.depot_model.specs.checks.Taking.{Outcome, TakesProof, TakesStatement, TakesValue}
+use Rattle.depot_model.specs.exchange.Feeding.{Feeding, take_frame, fed_frame, after_outcome, passed, counted, says_more}
+use Rattle.depot_model.proofs.of_journals.TakeLaws.{IsTold, Tells, proof_frame_tells, statement_frame_tells, value_frame_tells}
 use Rattle.depot_streams.specs.declared.feed_error.FeedError.{FeedError}
 use Rattle.depot_streams.specs.declared.feed_error.FeedError.TheVariants as error
 use Rattle.depot_streams.specs.declared.tally.Tally.{Tally}

@@ -2,15 +2,15 @@
 use Rattle.std.proofs.Common.{◌≡◌, ℕ, ◌+◌, false, List, [], ◌++◌, append_assoc, length, take, refl, sym, ap, subst, ◌∙◌, arith}
 use Rattle.std.proofs.lemmas.List.{append-nil, take_all}
 use Rattle.depot_base.specs.declared.record.Record.{Record}
-use Rattle.depot_model.specs.Checks.{Setting}
-use Rattle.depot_model.specs.Lawful.{IsLawful}
-use Rattle.depot_model.specs.Limits.{IsCutShort}
-use Rattle.depot_model.specs.Receipts.{AreReceiptsTrue}
-use Rattle.depot_model.specs.JournalCalls.{IsStable, Lasts}
-use Rattle.depot_model.specs.Replicas.{journal_of}
+use Rattle.depot_model.specs.checks.Checks.{Setting}
+use Rattle.depot_model.specs.journals.Lawful.{IsLawful}
+use Rattle.depot_model.specs.checks.Limits.{IsCutShort}
+use Rattle.depot_model.specs.worlds.Receipts.{AreReceiptsTrue}
+use Rattle.depot_model.specs.journals.JournalCalls.{IsStable, Lasts}
+use Rattle.depot_model.specs.journals.Replicas.{journal_of}
 use Rattle.depot_model.specs.declared.node_state.NodeState.{Ghosts}
 use Rattle.depot_streams.specs.Lasting.{IsToAppend, LastsIn}
-use Rattle.depot_model.proofs.StopLaws.{idle_lasts, lasts_joined, so_many_more}
+use Rattle.depot_model.proofs.of_journals.StopLaws.{idle_lasts, lasts_joined, so_many_more}
 
 -- ---- all or a prefix
 

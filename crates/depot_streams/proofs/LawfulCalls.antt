@@ -2,11 +2,11 @@
 use Rattle.std.proofs.Common.{◌≡◌, ◌↔◌, ℕ, true, false, List, [], ◌++◌, refl, ◌∙◌}
 use Rattle.depot_base.specs.Calls.{Made}
 use Rattle.depot_base.specs.declared.record.Record.{Record}
-use Rattle.depot_model.specs.JournalCalls.{IsStable}
-use Rattle.depot_model.specs.Lawful.{IsLawful}
-use Rattle.depot_model.specs.Replicas.{journal_of}
+use Rattle.depot_model.specs.journals.JournalCalls.{IsStable}
+use Rattle.depot_model.specs.journals.Lawful.{IsLawful}
+use Rattle.depot_model.specs.journals.Replicas.{journal_of}
 use Rattle.depot_model.specs.declared.node_state.NodeState.{Ghosts}
-use Rattle.depot_model.proofs.JournalCallLaws.{idle_call, joined_call, renamed_call, runs_on}
+use Rattle.depot_model.proofs.of_journals.JournalCallLaws.{idle_call, joined_call, renamed_call, runs_on}
 use Rattle.depot_streams.specs.Lasting.{IsLawfulCall}
 use Rattle.depot_streams.proofs.LastingStreams.{joined_in, lasts_so, nothing_in}
 

@@ -3,12 +3,12 @@ use Rattle.std.proofs.Common.{◌≡◌, ℕ, ◌<◌, ◌≤◌, List, [], ◌�
 use Rattle.std.specs.Prelude.{IsErrOf}
 use Rattle.std.proofs.lemmas.List.{append-nil, length-append}
 use Rattle.depot_base.specs.declared.record.Record.{Record}
-use Rattle.depot_model.specs.Checks.{Setting}
-use Rattle.depot_model.specs.Frames.{Frame, whole_frame, open_frame, no_frame, frame_at}
-use Rattle.depot_model.specs.Feeding.{Feeding, Closing, ill_formed, out_of_room, closed_by, fed, fed_at, fed_frame, take_frame, is_over}
-use Rattle.depot_model.specs.Taking.{answered}
-use Rattle.depot_model.specs.Limits.{IsCutShort}
-use Rattle.depot_model.proofs.FeedLaws.{fed_in_pieces, frame_alike}
+use Rattle.depot_model.specs.checks.Checks.{Setting}
+use Rattle.depot_model.specs.texts.Frames.{Frame, whole_frame, open_frame, no_frame, frame_at}
+use Rattle.depot_model.specs.exchange.Feeding.{Feeding, Closing, ill_formed, out_of_room, closed_by, fed, fed_at, fed_frame, take_frame, is_over}
+use Rattle.depot_model.specs.checks.Taking.{answered}
+use Rattle.depot_model.specs.checks.Limits.{IsCutShort}
+use Rattle.depot_model.proofs.of_journals.FeedLaws.{fed_in_pieces, frame_alike}
 use Rattle.depot_streams.specs.declared.feed_error.FeedError.{FeedError}
 use Rattle.depot_streams.specs.declared.feed_error.FeedError.TheVariants as error
 use Rattle.depot_streams.specs.declared.tally.Tally.{Tally}

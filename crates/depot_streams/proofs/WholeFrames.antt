@@ -4,7 +4,7 @@ use Rattle.std.specs.Prelude.{nat_lt}
 use Rattle.std.specs.Int.{w32, from_be_bytes}
 use Rattle.std.proofs.lemmas.Bool.Decides.{nat_tests}
 use Rattle.std.proofs.lemmas.List.{length-drop, length-take, take_all}
-use Rattle.depot_model.specs.Frames.{Frame, whole_frame, open_frame, no_frame, is_tag, goes_astray, frame_at}
+use Rattle.depot_model.specs.texts.Frames.{Frame, whole_frame, open_frame, no_frame, is_tag, goes_astray, frame_at}
 
 enough : (n m : ℕ) → nat_lt m n ≡ false → n ≤ m
 enough n m e = grind (arith, nat_tests)

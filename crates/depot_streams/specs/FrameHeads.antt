@@ -3,7 +3,7 @@ use Rattle.std.specs.Prelude.{◌≡◌, ℕ, ◌+◌, ◌-◌, List, length, ta
 use Rattle.std.specs.Int.{w32, from_be_bytes}
 use Rattle.depot_base.specs.declared.limits.TheConstants.{MOST_PAYLOAD}
 use Rattle.depot_base.specs.Tags.{frame_byte}
-use Rattle.depot_model.specs.Frames.{FrameAt, whole_frame, open_frame, no_frame}
+use Rattle.depot_model.specs.texts.Frames.{FrameAt, whole_frame, open_frame, no_frame}
 use Rattle.depot_streams.specs.declared.frame.FrameStart.{FrameStart}
 use Rattle.depot_streams.specs.declared.frame.FrameStart.TheVariants as starts
 use Rattle.depot_streams.specs.declared.frame.FrameAt.{FrameAt as Place}

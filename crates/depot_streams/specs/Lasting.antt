@@ -1,11 +1,11 @@
 -- What a call of several node calls appends, and its crash images.
 use Rattle.std.specs.Prelude.{◌≡◌, ℕ, List, ◌++◌, take}
 use Rattle.depot_base.specs.declared.record.Record.{Record}
-use Rattle.depot_model.specs.Checks.{Setting}
-use Rattle.depot_model.specs.JournalCalls.{Lasts}
-use Rattle.depot_model.specs.Lawful.{IsLawful}
-use Rattle.depot_model.specs.Receipts.{AreReceiptsTrue}
-use Rattle.depot_model.specs.Replicas.{IsNodeCall, journal_of}
+use Rattle.depot_model.specs.checks.Checks.{Setting}
+use Rattle.depot_model.specs.journals.JournalCalls.{Lasts}
+use Rattle.depot_model.specs.journals.Lawful.{IsLawful}
+use Rattle.depot_model.specs.worlds.Receipts.{AreReceiptsTrue}
+use Rattle.depot_model.specs.journals.Replicas.{IsNodeCall, journal_of}
 use Rattle.depot_model.specs.declared.node_state.NodeState.{Ghosts}
 
 -- The call was to append these; with them the journal is lawful, and its receipts stay true. It has appended them all,

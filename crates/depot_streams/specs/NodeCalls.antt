@@ -8,14 +8,14 @@ use Rattle.depot_base.specs.declared.check.Check.{Check}
 use Rattle.depot_model.specs.declared.taken.Taken.{Taken}
 use Rattle.depot_model.specs.declared.taken.TakeError.{TakeError}
 use Rattle.depot_model.specs.declared.taken.TakeError.TheVariants as refused
-use Rattle.depot_model.specs.Checks.{Setting}
-use Rattle.depot_model.specs.Taking.{Outcome, no_room}
-use Rattle.depot_model.proofs.TakeLaws.{IsTold, IsBrokenOff}
+use Rattle.depot_model.specs.checks.Checks.{Setting}
+use Rattle.depot_model.specs.checks.Taking.{Outcome, no_room}
+use Rattle.depot_model.proofs.of_journals.TakeLaws.{IsTold, IsBrokenOff}
 use Rattle.depot_streams.specs.declared.feed_error.FeedError.{FeedError}
 use Rattle.depot_streams.specs.declared.feed_error.FeedError.TheVariants as error
 use Rattle.depot_streams.specs.declared.tally.Tally.{Tally}
-use Rattle.depot_model.specs.Frames.{Frame}
-use Rattle.depot_model.specs.Feeding.{Feeding, take_frame, fed, fed_frame, closed_by, out_of_room}
+use Rattle.depot_model.specs.texts.Frames.{Frame}
+use Rattle.depot_model.specs.exchange.Feeding.{Feeding, take_frame, fed, fed_frame, closed_by, out_of_room}
 use Rattle.depot_model.specs.declared.node_state.NodeState.{Ghosts}
 use Rattle.depot_streams.specs.FrameHeads.{most_frame}
 use Rattle.depot_streams.specs.Lasting.{IsLawfulCall}

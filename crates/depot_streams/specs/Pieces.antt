@@ -6,11 +6,11 @@ use Rattle.depot_model.specs.declared.taken.Taken.{Taken}
 use Rattle.depot_model.specs.declared.bundle.Refusal.{Refusal}
 use Rattle.depot_model.specs.declared.bundle.Report.{Report}
 use Rattle.depot_model.specs.declared.bundle.Ending.TheVariants as ending
-use Rattle.depot_model.specs.Checks.{Setting}
-use Rattle.depot_model.specs.Frames.{Frame, frame_at, whole_frame}
-use Rattle.depot_model.specs.Taking.{answered, appended_by}
-use Rattle.depot_model.specs.Limits.{IsCutShort}
-use Rattle.depot_model.specs.Feeding.{Feeding, ill_formed, out_of_room, is_over, fed, take_frame, ending_by}
+use Rattle.depot_model.specs.checks.Checks.{Setting}
+use Rattle.depot_model.specs.texts.Frames.{Frame, frame_at, whole_frame}
+use Rattle.depot_model.specs.checks.Taking.{answered, appended_by}
+use Rattle.depot_model.specs.checks.Limits.{IsCutShort}
+use Rattle.depot_model.specs.exchange.Feeding.{Feeding, ill_formed, out_of_room, is_over, fed, take_frame, ending_by}
 use Rattle.depot_streams.specs.declared.feed_error.FeedError.{FeedError}
 use Rattle.depot_streams.specs.declared.feed_error.FeedError.TheVariants as error
 

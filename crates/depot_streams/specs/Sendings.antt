@@ -3,8 +3,8 @@ use Rattle.std.specs.Prelude.{◌≡◌, ℕ, ◌+◌, ◌≤◌, List, ◌++◌
 use Rattle.std.specs.Borrow.{Bor}
 use Rattle.std.specs.List.{AllByRecursion, flat_map}
 use Rattle.depot_base.specs.declared.limits.TheConstants.{MOST_BUNDLE, MOST_BUNDLE_FRAMES, MOST_PAYLOAD}
-use Rattle.depot_model.specs.Frames.{Frame, text_of_frame}
-use Rattle.depot_model.specs.Bundle.{Parcel, frames_of, bytes_of_frames, sent_foreign}
+use Rattle.depot_model.specs.texts.Frames.{Frame, text_of_frame}
+use Rattle.depot_model.specs.exchange.Bundle.{Parcel, frames_of, bytes_of_frames, sent_foreign}
 use Rattle.depot_streams.specs.declared.sending.Sending.{Sending}
 
 -- ---- parcels that fit

@@ -1,9 +1,9 @@
 //! A stream of frames, in pieces.
 ghost use Rattle.std.specs.Prelude.{◌≡◌, ◌<◌, ◌≤◌, ◌+◌, false, length, OnOk, IfOk};
 ghost use Rattle.depot_base.specs.declared.limits.TheConstants.{MOST_PAYLOAD};
-ghost use Rattle.depot_model.specs.Frames.{frame_at, open_frame};
-ghost use Rattle.depot_model.specs.JournalCalls.{IsStable};
-ghost use Rattle.depot_model.specs.Replicas.{journal_of};
+ghost use Rattle.depot_model.specs.texts.Frames.{frame_at, open_frame};
+ghost use Rattle.depot_model.specs.journals.JournalCalls.{IsStable};
+ghost use Rattle.depot_model.specs.journals.Replicas.{journal_of};
 ghost use Rattle.depot_streams.specs.FrameHeads.{bytes_missing};
 ghost use Rattle.depot_streams.specs.Pieces.{Feeds, at_work, no_stream, report_of_stream};
 ghost use Rattle.depot_streams.specs.NodeCalls.{feeding_by, stream_by, stream_after, IsTally, IsFeedCall};
@@ -31,7 +31,7 @@ pub struct Feed {
 
 impl Model for Feed {
     ghost use Rattle.std.specs.Prelude.{◌≡◌};
-    ghost use Rattle.depot_model.specs.Frames.{frame_at, open_frame};
+    ghost use Rattle.depot_model.specs.texts.Frames.{frame_at, open_frame};
     ghost use Rattle.depot_streams.specs.Pieces.{Stream};
     ghost use Rattle.depot_streams.specs.NodeCalls.{stream_by, IsTally};
 

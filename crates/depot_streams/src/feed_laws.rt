@@ -1,8 +1,8 @@
 //! What holds of all feeds. Each law is a function that does nothing; its contract is the law.
 ghost use Rattle.std.specs.Prelude.{◌≡◌, ◌++◌, ℕ, List, None, Result};
 ghost use Rattle.depot_base.specs.declared.record.Record.{Record};
-ghost use Rattle.depot_model.specs.Checks.{Setting};
-ghost use Rattle.depot_model.specs.Feeding.{Feeding, report_of};
+ghost use Rattle.depot_model.specs.checks.Checks.{Setting};
+ghost use Rattle.depot_model.specs.exchange.Feeding.{Feeding, report_of};
 ghost use Rattle.depot_streams.specs.declared.feed_error.FeedError.{FeedError};
 ghost use Rattle.depot_streams.specs.Pieces.{Stream, Feeds, FeedsBoth, stream_of, at_work, report_of_stream};
 

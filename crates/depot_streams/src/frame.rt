@@ -2,7 +2,7 @@
 ghost use Rattle.std.specs.Prelude.{◌≡◌, ◌≤◌, ◌++◌, ◌-◌, take, drop, length, replicate};
 ghost use Rattle.std.specs.Int.{w32, from_be_bytes};
 ghost use Rattle.depot_base.specs.Tags.{frame_byte};
-ghost use Rattle.depot_model.specs.Frames.{frame_at, least_length, most_length, is_no_flag, goes_astray};
+ghost use Rattle.depot_model.specs.texts.Frames.{frame_at, least_length, most_length, is_no_flag, goes_astray};
 ghost use Rattle.depot_streams.specs.FrameHeads.{bytes_missing, IsFrameStart, StandsAt};
 
 use depot_base::FrameTag;
@@ -99,7 +99,7 @@ fn goes_astray(tag: FrameTag, bytes: &[u8]) -> bool
 
 /// What these bytes are, from the start of a frame. That they are no frame's is reported at the first byte that decides
 /// it.
-#[tactic(auto, unfolding(depot_model::specs::Frames::frame_at))]
+#[tactic(auto, unfolding(depot_model::specs::texts::Frames::frame_at))]
 pub fn frame_start(bytes: &[u8]) -> FrameStart<'_>
     ensures { IsFrameStart (frame_at bytes.now) result }
 {

@@ -2,7 +2,7 @@
 ghost use Rattle.std.specs.Prelude.{◌≡◌, ◌++◌, ◌≤◌, length, OnOk};
 ghost use Rattle.depot_base.specs.declared.limits.TheConstants.{MOST_PAYLOAD};
 ghost use Rattle.depot_base.specs.Tags.{frame_byte};
-ghost use Rattle.depot_model.specs.Frames.{text_of_frame};
+ghost use Rattle.depot_model.specs.texts.Frames.{text_of_frame};
 
 use depot_base::{Bytes, FrameTag, Memory};
 

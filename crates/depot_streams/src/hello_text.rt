@@ -6,7 +6,7 @@ ghost use Rattle.depot_base.specs.Cursor.{numeral};
 ghost use Rattle.depot_base.specs.Format.{list_of, whole};
 ghost use Rattle.depot_base.specs.Parts.{node_number, node_rises, digests};
 ghost use Rattle.depot_base.specs.Reading.{Reads, Gives, Decodes};
-ghost use Rattle.depot_model.specs.Hello.{hello, hello_leaf, hello_leaf_rises, IsHello, text_of_hello};
+ghost use Rattle.depot_model.specs.exchange.Hello.{hello, hello_leaf, hello_leaf_rises, IsHello, text_of_hello};
 
 use depot_base::entry::{Entry, entries_in, put_entries};
 use depot_base::fault::{Fault, answer};
@@ -44,7 +44,7 @@ fn hashes_in(alloc: Global, fields: &mut Fields<'_>, count: u16) -> Result<Ids, 
 }
 
 /// Reads a hello.
-#[tactic(auto, unfolding(depot_model::specs::Hello::hello))]
+#[tactic(auto, unfolding(depot_model::specs::exchange::Hello::hello))]
 fn hello_in(alloc: Global, fields: &mut Fields<'_>) -> Result<Hello, Fault>
     ensures { Reads result fields.new (hello.read fields.old) }
 {
@@ -94,7 +94,7 @@ pub fn put_list<E: Entry>(out: &mut Bytes, list: &[E]) -> Result<(), Memory>
 }
 
 /// Writes a hello.
-#[tactic(auto, using(depot_base::proofs::Writing::texts), unfolding(depot_model::specs::Hello::hello, depot_base::specs::Format::number, depot_base::specs::Format::bytes_of, depot_base::specs::Format::list_of))]
+#[tactic(auto, using(depot_base::proofs::Writing::texts), unfolding(depot_model::specs::exchange::Hello::hello, depot_base::specs::Format::number, depot_base::specs::Format::bytes_of, depot_base::specs::Format::list_of))]
 fn put_hello(out: &mut Bytes, hello: &Hello) -> Result<(), Memory>
     requires { IsHello hello.now }
     ensures { OnOk result (out.new ≡ out.old ++ text_of_hello hello.now) }

@@ -3,8 +3,8 @@ ghost use Rattle.std.specs.Prelude.{◌≡◌, ◌++◌, ◌≤◌, ◌+◌, ◌
 ghost use Rattle.std.specs.List.{flat_map};
 ghost use Rattle.depot_base.specs.declared.limits.TheConstants.{MOST_PAYLOAD, MOST_WRITES};
 ghost use Rattle.depot_base.specs.Tags.{frame_byte};
-ghost use Rattle.depot_model.specs.Frames.{text_of_frame};
-ghost use Rattle.depot_model.specs.Bundle.{bytes_of_frames};
+ghost use Rattle.depot_model.specs.texts.Frames.{text_of_frame};
+ghost use Rattle.depot_model.specs.exchange.Bundle.{bytes_of_frames};
 ghost use Rattle.depot_streams.specs.Sendings.{Holds, IsShort, Adds, ArePayloads, payloads_of, frames_under};
 
 use crate::frame_text::put_frame;

@@ -3,9 +3,9 @@ ghost use Rattle.std.specs.Prelude.{◌≡◌, ◌≢◌, ◌<◌, ◌≤◌, �
 ghost use Rattle.std.specs.Vec.{vec_capacity};
 ghost use Rattle.depot_base.specs.declared.limits.TheConstants.{MOST_FRAMES};
 ghost use Rattle.depot_base.specs.declared.record.Record.{Record};
-ghost use Rattle.depot_model.specs.Feeding.{take_frame, says_more, passed, counted};
-ghost use Rattle.depot_model.specs.JournalCalls.{IsStable};
-ghost use Rattle.depot_model.specs.Replicas.{journal_of};
+ghost use Rattle.depot_model.specs.exchange.Feeding.{take_frame, says_more, passed, counted};
+ghost use Rattle.depot_model.specs.journals.JournalCalls.{IsStable};
+ghost use Rattle.depot_model.specs.journals.Replicas.{journal_of};
 ghost use Rattle.depot_streams.specs.FrameHeads.{most_frame};
 ghost use Rattle.depot_streams.specs.Pieces.{at_work, no_stream};
 ghost use Rattle.depot_streams.specs.NodeCalls.{stream_by, IsTally, as_feed_answer, frame_of, AnswersForOutcome, TakesFrame, IsFrameCall};

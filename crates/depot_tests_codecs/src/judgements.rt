@@ -1,7 +1,7 @@
 //! A fork of node 9 before a judge, by the plain scheme. The texts are made by Python's hashlib, independently of the
 //! program.
 ghost use Rattle.std.specs.Prelude.{IfOk};
-ghost use Rattle.depot_model.specs.Texts.{IsProof, IsSigned};
+ghost use Rattle.depot_model.specs.texts.Texts.{IsProof, IsSigned};
 
 use crate::hex::bytes;
 use crate::text_tests::is_text;

@@ -1,5 +1,5 @@
 //! Texts of records from outside: one of each kind, and a table of faults.
-ghost use Rattle.depot_model.specs.Records.{IsRecord};
+ghost use Rattle.depot_model.specs.texts.Records.{IsRecord};
 
 use crate::hex::bytes;
 use crate::text_tests::{

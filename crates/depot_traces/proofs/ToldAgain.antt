@@ -1,6 +1,6 @@
 -- A trace that is seen and written again is the same, so the text of what is seen of it is its own.
 use Rattle.std.proofs.Common.{◌≡◌, List, [], ◌∷◌, map, refl, sym, ap, ◌∙◌}
-use Rattle.depot_model.specs.Traces as traces
+use Rattle.depot_model.specs.worlds.Traces as traces
 use Rattle.depot_traces.specs.SeenTraces.{sighting_of, answered_of, read_of, trace_of}
 use Rattle.depot_traces.specs.ToldTraces.{told_shown, told_answered, told_read, told_trace, file_of_trace}
 use Rattle.depot_traces.specs.TraceTexts.{text_of_trace}

@@ -1,9 +1,9 @@
 -- How the definitions of audits see traces and findings.
 use Rattle.std.specs.Prelude.{map}
-use Rattle.depot_model.specs.Audit.{the_write, the_read, yes_found, unlawful, answer_found, circle_found, unordered_found, unseen_found, wrong_found, split_found, named_found}
-use Rattle.depot_model.specs.Audit as audits
-use Rattle.depot_model.specs.Contents.{Sighting, held_value, not_held, gone}
-use Rattle.depot_model.specs.Traces as traces
+use Rattle.depot_model.specs.worlds.Audit.{the_write, the_read, yes_found, unlawful, answer_found, circle_found, unordered_found, unseen_found, wrong_found, split_found, named_found}
+use Rattle.depot_model.specs.worlds.Audit as audits
+use Rattle.depot_model.specs.texts.Contents.{Sighting, held_value, not_held, gone}
+use Rattle.depot_model.specs.worlds.Traces as traces
 use Rattle.depot_traces.specs.declared.finding.Finding.{Finding}
 use Rattle.depot_traces.specs.declared.finding.Finding.TheVariants as finding
 use Rattle.depot_traces.specs.declared.finding.Op.{Op}

@@ -1,7 +1,7 @@
 -- The text of a trace as the definitions of audits have it.
 use Rattle.std.specs.Prelude.{ℕ, List, map}
-use Rattle.depot_model.specs.Contents.{Sighting, held_value, not_held, gone}
-use Rattle.depot_model.specs.Traces as traces
+use Rattle.depot_model.specs.texts.Contents.{Sighting, held_value, not_held, gone}
+use Rattle.depot_model.specs.worlds.Traces as traces
 use Rattle.depot_traces.specs.TraceTexts.{text_of_trace}
 use Rattle.depot_traces.specs.declared.trace.Answered.{Answered}
 use Rattle.depot_traces.specs.declared.trace.ReadTrace.{ReadTrace}

@@ -9,31 +9,31 @@ use Rattle.std.proofs.lemmas.List.{append-nil, length-append, length-map}
 use Rattle.depot_base.specs.declared.record.Record.{Record}
 use Rattle.depot_base.specs.declared.update.Update.{Update}
 use Rattle.depot_base.proofs.GeneralLaws.{filter_short}
-use Rattle.depot_model.specs.Contents.{keys_written}
+use Rattle.depot_model.specs.texts.Contents.{keys_written}
 use Rattle.depot_graph.specs.Kept.{updates_in}
-use Rattle.depot_model.specs.Bundle.{is_covered}
-use Rattle.depot_model.specs.Checks.{Setting}
-use Rattle.depot_model.specs.Items.{place_of_id, updates_at}
-use Rattle.depot_model.specs.Journal.{accepted, has_id}
-use Rattle.depot_model.specs.LatestList.{latest_in}
-use Rattle.depot_model.specs.Lawful.{IsLawful}
-use Rattle.depot_model.specs.Lists.{IsIn}
-use Rattle.depot_model.specs.Order.{IsCausal, Precedes, AreLatestIn, parents}
-use Rattle.depot_model.specs.Texts.{id_of_update}
-use Rattle.depot_model.specs.Trimming.{below, is_latest_below, is_trimmed, trimmed}
-use Rattle.depot_model.proofs.Elements.{from_option, in_at, in_option}
-use Rattle.depot_model.proofs.LatestLaws.{one_latest_list}
-use Rattle.depot_model.proofs.LatestWrites.{latest_are_listed}
-use Rattle.depot_model.proofs.Members.{in_left, in_last, from_map, in_map, map_same, from_filter, in_filter, any_from, any_to}
-use Rattle.depot_model.proofs.NamedIds.{has_id_from, has_id_to}
-use Rattle.depot_model.proofs.Orders.{one_of_id, parent_precedes, causal_front, causal_push, parents_of_last}
+use Rattle.depot_model.specs.exchange.Bundle.{is_covered}
+use Rattle.depot_model.specs.checks.Checks.{Setting}
+use Rattle.depot_model.specs.lists.Items.{place_of_id, updates_at}
+use Rattle.depot_model.specs.journals.Journal.{accepted, has_id}
+use Rattle.depot_model.specs.updates.LatestList.{latest_in}
+use Rattle.depot_model.specs.journals.Lawful.{IsLawful}
+use Rattle.depot_model.specs.lists.Lists.{IsIn}
+use Rattle.depot_model.specs.updates.Order.{IsCausal, Precedes, AreLatestIn, parents}
+use Rattle.depot_model.specs.texts.Texts.{id_of_update}
+use Rattle.depot_model.specs.readers.Trimming.{below, is_latest_below, is_trimmed, trimmed}
+use Rattle.depot_model.proofs.lists.Elements.{from_option, in_at, in_option}
+use Rattle.depot_model.proofs.of_updates.LatestLaws.{one_latest_list}
+use Rattle.depot_model.proofs.of_updates.LatestWrites.{latest_are_listed}
+use Rattle.depot_model.proofs.lists.Members.{in_left, in_last, from_map, in_map, map_same, from_filter, in_filter, any_from, any_to}
+use Rattle.depot_model.proofs.of_updates.NamedIds.{has_id_from, has_id_to}
+use Rattle.depot_model.proofs.of_updates.Orders.{one_of_id, parent_precedes, causal_front, causal_push, parents_of_last}
 use Rattle.depot_graph.proofs.Front.{apart}
 use Rattle.depot_graph.proofs.ItemPlaces.{has_place, has_no_place, own_place}
-use Rattle.depot_laws.proofs.Causes.{lawful_is_causal}
-use Rattle.depot_laws.proofs.PrunedReadings.{filter_both}
-use Rattle.depot_laws.proofs.Splits.{from_end, flat_gives, given_by}
-use Rattle.depot_laws.proofs.Superseded.{below_closed}
-use Rattle.depot_laws.proofs.Worlds.{giver_in}
+use Rattle.depot_laws.proofs.records.Causes.{lawful_is_causal}
+use Rattle.depot_laws.proofs.of_readers.PrunedReadings.{filter_both}
+use Rattle.depot_laws.proofs.lists.Splits.{from_end, flat_gives, given_by}
+use Rattle.depot_laws.proofs.of_readers.Superseded.{below_closed}
+use Rattle.depot_laws.proofs.of_worlds.Worlds.{giver_in}
 use Rattle.depot_trim.specs.Trimmings.{is_given_up_below, given_up}
 use Rattle.depot_trim.proofs.ReaderReads.{has_id_filter}
 use Rattle.depot_trim.proofs.SoFar.{filter_next, halves, take_next}

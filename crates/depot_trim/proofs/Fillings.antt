@@ -12,19 +12,19 @@ use Rattle.depot_base.specs.declared.statement.Statement.TheVariants as statemen
 use Rattle.depot_base.specs.declared.update.Update.{Update}
 use Rattle.depot_base.specs.declared.voucher.Voucher.{Voucher}
 use Rattle.depot_base.proofs.GeneralLaws.{at_place, filter_short}
-use Rattle.depot_model.specs.Checks.{Setting}
-use Rattle.depot_model.specs.Journal.{accepted, accepted_by, foreign, has_id, is_convicted}
-use Rattle.depot_model.specs.Lawful.{IsLawful}
-use Rattle.depot_model.specs.Lists.{IsIn}
-use Rattle.depot_model.specs.Order.{IsCausal}
-use Rattle.depot_model.specs.Pruning.{pruned_statement, pruned_by, pruned}
-use Rattle.depot_model.specs.Records.{text_of_record}
-use Rattle.depot_model.specs.Roster.{Verifies}
-use Rattle.depot_model.specs.Texts.{IsUpdate, id_of_update}
+use Rattle.depot_model.specs.checks.Checks.{Setting}
+use Rattle.depot_model.specs.journals.Journal.{accepted, accepted_by, foreign, has_id, is_convicted}
+use Rattle.depot_model.specs.journals.Lawful.{IsLawful}
+use Rattle.depot_model.specs.lists.Lists.{IsIn}
+use Rattle.depot_model.specs.updates.Order.{IsCausal}
+use Rattle.depot_model.specs.readers.Pruning.{pruned_statement, pruned_by, pruned}
+use Rattle.depot_model.specs.texts.Records.{text_of_record}
+use Rattle.depot_model.specs.texts.Roster.{Verifies}
+use Rattle.depot_model.specs.texts.Texts.{IsUpdate, id_of_update}
 use Rattle.depot_base.proofs.MembershipLaws.{in_right}
-use Rattle.depot_laws.proofs.OwnTexts.{accepted_fit}
-use Rattle.depot_laws.proofs.PrunedReadings.{accepted_same, foreign_left, is_left}
-use Rattle.depot_laws.proofs.Splits.{accepted_push, lawful_front}
+use Rattle.depot_laws.proofs.own_updates.OwnTexts.{accepted_fit}
+use Rattle.depot_laws.proofs.of_readers.PrunedReadings.{accepted_same, foreign_left, is_left}
+use Rattle.depot_laws.proofs.lists.Splits.{accepted_push, lawful_front}
 use Rattle.depot_accept.specs.StateView.{View, IsStateOf, setting}
 use Rattle.depot_readings.proofs.BoundLaws.{few_updates, few_statements}
 use Rattle.depot_readings.proofs.StateGrowth.{fits_behind}

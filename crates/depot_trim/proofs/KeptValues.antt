@@ -13,16 +13,16 @@ use Rattle.depot_base.specs.declared.update.NamedValue.{NamedValue}
 use Rattle.depot_base.specs.declared.update.Update.{Update}
 use Rattle.depot_base.proofs.GeneralLaws.{or_none, same_bytes}
 use Rattle.depot_base.specs.Sized.{IsValue}
-use Rattle.depot_model.specs.Checks.{Setting}
-use Rattle.depot_model.specs.Contents.{names_value}
-use Rattle.depot_model.specs.Lawful.{IsLawful}
+use Rattle.depot_model.specs.checks.Checks.{Setting}
+use Rattle.depot_model.specs.texts.Contents.{names_value}
+use Rattle.depot_model.specs.journals.Lawful.{IsLawful}
 use Rattle.depot_model.specs.declared.taken.Taken.{Taken}
 use Rattle.depot_model.specs.declared.taken.Taken.TheVariants as taken
-use Rattle.depot_model.specs.Journal.{first_values, held, is_wanted, value_by, value_with}
-use Rattle.depot_model.specs.Lists.{IsIn, is_among, when}
-use Rattle.depot_model.specs.Readers.{is_named_by}
-use Rattle.depot_model.proofs.Members.{among-append}
-use Rattle.depot_laws.proofs.WantedValues.{value_fits}
+use Rattle.depot_model.specs.journals.Journal.{first_values, held, is_wanted, value_by, value_with}
+use Rattle.depot_model.specs.lists.Lists.{IsIn, is_among, when}
+use Rattle.depot_model.specs.readers.Readers.{is_named_by}
+use Rattle.depot_model.proofs.lists.Members.{among-append}
+use Rattle.depot_laws.proofs.records.WantedValues.{value_fits}
 use Rattle.depot_readings.specs.Named.{is_value_named}
 use Rattle.depot_trim.specs.Trimmings.{held_of, kept_of}
 

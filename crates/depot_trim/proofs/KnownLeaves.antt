@@ -4,8 +4,8 @@ use Rattle.std.specs.Prelude.{slice_get}
 use Rattle.std.specs.Option.{option_map_or}
 use Rattle.depot_base.specs.declared.update.Update.{Update}
 use Rattle.depot_model.specs.declared.hello.HelloLeaf.{HelloLeaf}
-use Rattle.depot_model.specs.Items.{place_of_id}
-use Rattle.depot_model.specs.Opening.{is_update_of}
+use Rattle.depot_model.specs.lists.Items.{place_of_id}
+use Rattle.depot_model.specs.readers.Opening.{is_update_of}
 use Rattle.depot_accept.proofs.NamedUpdates.{named_found, named_lost}
 
 -- one that has a place is an update of its writer where that wrote it

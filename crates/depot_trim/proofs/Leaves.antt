@@ -10,21 +10,21 @@ use Rattle.depot_base.specs.declared.record.Record.{Record}
 use Rattle.depot_base.specs.declared.update.Update.{Update}
 use Rattle.depot_model.specs.declared.hello.Hello.{Hello}
 use Rattle.depot_model.specs.declared.hello.HelloLeaf.{HelloLeaf}
-use Rattle.depot_model.specs.Checkpoints.{Checkpoint, checkpoint, IsCheckpoint, text_of_checkpoint}
-use Rattle.depot_model.specs.Checks.{Setting}
-use Rattle.depot_model.specs.Hello.{hello, hello_leaf, hello_leaf_rises, IsHello, named_leaf, leaves_named, hello_of}
-use Rattle.depot_model.specs.History.{leaves_of, by_id}
-use Rattle.depot_model.specs.Journal.{accepted}
-use Rattle.depot_model.specs.Lawful.{IsLawful, IsAllowed, is_empty}
-use Rattle.depot_model.specs.Opening.{checkpoint_of, MadeCheckpoint, no_leaves, many_leaves, made_text, make_of}
-use Rattle.depot_model.specs.Texts.{IsRoster, hash_of_roster}
-use Rattle.depot_model.proofs.RisingUpdates.{by_id_length}
-use Rattle.depot_laws.proofs.Births.{roster_hash_is_digest, digest_from_length}
-use Rattle.depot_laws.proofs.Causes.{accepts, record_joins, lawful_is_causal}
-use Rattle.depot_laws.proofs.FewLeaves.{few_leaves}
-use Rattle.depot_laws.proofs.HelloTexts.{byte_fits, hello_fits}
-use Rattle.depot_laws.proofs.LeafCounts.{leaves_push}
-use Rattle.depot_laws.proofs.Splits.{lawful_from_end}
+use Rattle.depot_model.specs.readers.Checkpoints.{Checkpoint, checkpoint, IsCheckpoint, text_of_checkpoint}
+use Rattle.depot_model.specs.checks.Checks.{Setting}
+use Rattle.depot_model.specs.exchange.Hello.{hello, hello_leaf, hello_leaf_rises, IsHello, named_leaf, leaves_named, hello_of}
+use Rattle.depot_model.specs.updates.History.{leaves_of, by_id}
+use Rattle.depot_model.specs.journals.Journal.{accepted}
+use Rattle.depot_model.specs.journals.Lawful.{IsLawful, IsAllowed, is_empty}
+use Rattle.depot_model.specs.readers.Opening.{checkpoint_of, MadeCheckpoint, no_leaves, many_leaves, made_text, make_of}
+use Rattle.depot_model.specs.texts.Texts.{IsRoster, hash_of_roster}
+use Rattle.depot_model.proofs.lists.RisingUpdates.{by_id_length}
+use Rattle.depot_laws.proofs.records.Births.{roster_hash_is_digest, digest_from_length}
+use Rattle.depot_laws.proofs.records.Causes.{accepts, record_joins, lawful_is_causal}
+use Rattle.depot_laws.proofs.records.FewLeaves.{few_leaves}
+use Rattle.depot_laws.proofs.exchanges.HelloTexts.{byte_fits, hello_fits}
+use Rattle.depot_laws.proofs.records.LeafCounts.{leaves_push}
+use Rattle.depot_laws.proofs.lists.Splits.{lawful_from_end}
 use Rattle.depot_readings.proofs.VoucherRecords.{none_left}
 
 -- ---- there are some

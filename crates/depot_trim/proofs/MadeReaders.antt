@@ -5,14 +5,14 @@ use Rattle.std.proofs.lemmas.List.{append-nil}
 use Rattle.depot_base.specs.declared.key.RosterEntry.{RosterEntry}
 use Rattle.depot_base.specs.declared.record.Record.{Record}
 use Rattle.depot_base.specs.declared.update.Update.{Update}
-use Rattle.depot_model.specs.Checks.{Setting}
-use Rattle.depot_model.specs.Journal.{accepted, held, value_with}
-use Rattle.depot_model.specs.Lawful.{IsLawful, is_empty}
-use Rattle.depot_model.specs.Opening.{Opened, opened, opened_text}
-use Rattle.depot_model.specs.Pruning.{pruned}
-use Rattle.depot_model.specs.Readers.{unsigned, reading, reader_of, left_of, is_named_by, kept, unsigned_node, trimmed_unless, trimmed_as, trim_of}
-use Rattle.depot_model.specs.Roster.{Verifies}
-use Rattle.depot_model.specs.Trimming.{is_signed_by, trimmed}
+use Rattle.depot_model.specs.checks.Checks.{Setting}
+use Rattle.depot_model.specs.journals.Journal.{accepted, held, value_with}
+use Rattle.depot_model.specs.journals.Lawful.{IsLawful, is_empty}
+use Rattle.depot_model.specs.readers.Opening.{Opened, opened, opened_text}
+use Rattle.depot_model.specs.readers.Pruning.{pruned}
+use Rattle.depot_model.specs.readers.Readers.{unsigned, reading, reader_of, left_of, is_named_by, kept, unsigned_node, trimmed_unless, trimmed_as, trim_of}
+use Rattle.depot_model.specs.texts.Roster.{Verifies}
+use Rattle.depot_model.specs.readers.Trimming.{is_signed_by, trimmed}
 use Rattle.depot_accept.specs.StateView.{IsStateOf, setting}
 use Rattle.depot_readings.specs.Counts.{AreCountsOf}
 use Rattle.depot_readings.specs.Named.{AreNamed}

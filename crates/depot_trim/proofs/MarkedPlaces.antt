@@ -19,10 +19,10 @@ use Rattle.depot_base.specs.declared.statement.Statement.TheVariants as statemen
 use Rattle.depot_base.specs.declared.update.Dep.{Dep}
 use Rattle.depot_base.specs.declared.update.Update.{Update}
 use Rattle.depot_base.specs.declared.voucher.Voucher.{Voucher}
-use Rattle.depot_model.specs.Lists.{when, is_among}
-use Rattle.depot_model.specs.Order.{prevs, parents}
-use Rattle.depot_model.specs.Texts.{id_of_update}
-use Rattle.depot_model.specs.Trimming.{names}
+use Rattle.depot_model.specs.lists.Lists.{when, is_among}
+use Rattle.depot_model.specs.updates.Order.{prevs, parents}
+use Rattle.depot_model.specs.texts.Texts.{id_of_update}
+use Rattle.depot_model.specs.readers.Trimming.{names}
 use Rattle.depot_trim.specs.declared.marks.UpdateMark.{UpdateMark}
 use Rattle.depot_trim.specs.declared.marks.Name.{Name}
 use Rattle.depot_trim.specs.declared.marks.Name.TheVariants as name

@@ -6,10 +6,10 @@ use Rattle.std.proofs.lemmas.List.Folds.{list_any-append}
 use Rattle.depot_base.specs.declared.update.Update.{Update}
 use Rattle.depot_base.specs.declared.statement.Statement.{Statement}
 use Rattle.depot_base.specs.declared.statement.Statement.TheVariants as statement
-use Rattle.depot_model.specs.Texts.{id_of_update}
-use Rattle.depot_model.specs.Lists.{is_among}
-use Rattle.depot_model.specs.Order.{prevs, parents}
-use Rattle.depot_model.specs.Trimming.{names}
+use Rattle.depot_model.specs.texts.Texts.{id_of_update}
+use Rattle.depot_model.specs.lists.Lists.{is_among}
+use Rattle.depot_model.specs.updates.Order.{prevs, parents}
+use Rattle.depot_model.specs.readers.Trimming.{names}
 use Rattle.depot_trim.specs.declared.marks.UpdateMark.{UpdateMark}
 use Rattle.depot_trim.specs.ReaderView.{mark_of}
 use Rattle.depot_trim.specs.Naming.{names_mark}

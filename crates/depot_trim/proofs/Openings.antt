@@ -7,13 +7,13 @@ use Rattle.depot_base.specs.declared.record.Record.{Record}
 use Rattle.depot_base.specs.declared.update.Update.{Update}
 use Rattle.depot_base.proofs.Combined.{whole_again, whole_stops}
 use Rattle.depot_model.specs.declared.hello.HelloLeaf.{HelloLeaf}
-use Rattle.depot_model.specs.Checkpoints.{Checkpoint, checkpoint, IsCheckpoint, text_of_checkpoint}
-use Rattle.depot_model.specs.Checks.{Setting}
-use Rattle.depot_model.specs.Journal.{accepted}
-use Rattle.depot_model.specs.Opening.{unknown_leaf, ids_of, Opened, ill_at, of_roster, opened_unless, opened_as, opened_text}
-use Rattle.depot_model.specs.Taking.{at_start}
-use Rattle.depot_model.specs.Texts.{hash_of_roster}
-use Rattle.depot_model.proofs.CheckpointLaws.{checkpoint_lawful}
+use Rattle.depot_model.specs.readers.Checkpoints.{Checkpoint, checkpoint, IsCheckpoint, text_of_checkpoint}
+use Rattle.depot_model.specs.checks.Checks.{Setting}
+use Rattle.depot_model.specs.journals.Journal.{accepted}
+use Rattle.depot_model.specs.readers.Opening.{unknown_leaf, ids_of, Opened, ill_at, of_roster, opened_unless, opened_as, opened_text}
+use Rattle.depot_model.specs.checks.Taking.{at_start}
+use Rattle.depot_model.specs.texts.Texts.{hash_of_roster}
+use Rattle.depot_model.proofs.of_texts.CheckpointLaws.{checkpoint_lawful}
 use Rattle.depot_trim.specs.Opens.{Opens, IsOfOther, IsCheckpointRead}
 use Rattle.depot_trim.specs.declared.opening.OpenError.{OpenError}
 use Rattle.depot_trim.specs.declared.opening.OpenError.TheVariants as failed

@@ -4,12 +4,12 @@ use Rattle.depot_base.specs.declared.record.Record.{Record}
 use Rattle.depot_base.specs.declared.record.Record.TheVariants.{Birth, OwnPut, OwnVoucher, Foreign, Conviction, Held}
 use Rattle.depot_base.specs.declared.update.Update.{Update}
 use Rattle.depot_base.proofs.GeneralLaws.{filter_short}
-use Rattle.depot_model.specs.Checks.{Setting}
-use Rattle.depot_model.specs.Journal.{accepted, foreign, foreign_by}
-use Rattle.depot_model.specs.Lawful.{IsLawful}
-use Rattle.depot_model.specs.Pruning.{pruned}
-use Rattle.depot_laws.proofs.OwnTexts.{lawful_is_short}
-use Rattle.depot_laws.proofs.PrunedReadings.{is_left, foreign_left}
+use Rattle.depot_model.specs.checks.Checks.{Setting}
+use Rattle.depot_model.specs.journals.Journal.{accepted, foreign, foreign_by}
+use Rattle.depot_model.specs.journals.Lawful.{IsLawful}
+use Rattle.depot_model.specs.readers.Pruning.{pruned}
+use Rattle.depot_laws.proofs.own_updates.OwnTexts.{lawful_is_short}
+use Rattle.depot_laws.proofs.of_readers.PrunedReadings.{is_left, foreign_left}
 use Rattle.depot_readings.proofs.LeafLaws.{few_accepted}
 
 one_foreign : (r : Record) → length (foreign_by r) ≤ 1

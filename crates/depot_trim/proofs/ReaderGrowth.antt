@@ -15,18 +15,18 @@ use Rattle.depot_base.specs.declared.update.Update.{Update}
 use Rattle.depot_base.specs.Statement.{writer_of}
 use Rattle.depot_model.specs.declared.taken.Taken.{Taken}
 use Rattle.depot_model.specs.declared.taken.Taken.TheVariants.{New, Known}
-use Rattle.depot_model.specs.Checks.{Setting, Given, given_statement, given_proof, given_value, opponent, named_opponent, is_kept, answer_to, due, added, exposed, growth_by, growth}
-use Rattle.depot_model.specs.Conviction.{proof_of}
-use Rattle.depot_model.specs.Journal.{accepted, accepted_by, foreign, has_id, is_convicted, is_vouched, update_in}
-use Rattle.depot_model.specs.Lists.{IsIn}
-use Rattle.depot_model.specs.Readers.{Reader, left_of, kept, with_more}
-use Rattle.depot_model.specs.Texts.{id_of_update}
-use Rattle.depot_model.specs.Trimming.{is_trimmed}
-use Rattle.depot_model.proofs.Members.{from_filter}
-use Rattle.depot_model.proofs.NamedIds.{has_id_from, has_id_to}
-use Rattle.depot_laws.proofs.PrunedReadings.{filter_both}
-use Rattle.depot_laws.proofs.Splits.{flat_left}
-use Rattle.depot_laws.proofs.Taken.{new_is}
+use Rattle.depot_model.specs.checks.Checks.{Setting, Given, given_statement, given_proof, given_value, opponent, named_opponent, is_kept, answer_to, due, added, exposed, growth_by, growth}
+use Rattle.depot_model.specs.updates.Conviction.{proof_of}
+use Rattle.depot_model.specs.journals.Journal.{accepted, accepted_by, foreign, has_id, is_convicted, is_vouched, update_in}
+use Rattle.depot_model.specs.lists.Lists.{IsIn}
+use Rattle.depot_model.specs.readers.Readers.{Reader, left_of, kept, with_more}
+use Rattle.depot_model.specs.texts.Texts.{id_of_update}
+use Rattle.depot_model.specs.readers.Trimming.{is_trimmed}
+use Rattle.depot_model.proofs.lists.Members.{from_filter}
+use Rattle.depot_model.proofs.of_updates.NamedIds.{has_id_from, has_id_to}
+use Rattle.depot_laws.proofs.of_readers.PrunedReadings.{filter_both}
+use Rattle.depot_laws.proofs.lists.Splits.{flat_left}
+use Rattle.depot_laws.proofs.records.Taken.{new_is}
 use Rattle.depot_trim.specs.ReaderView.{WasTrimmed}
 
 -- ---- what was trimmed

@@ -11,26 +11,26 @@ use Rattle.std.proofs.lemmas.Bool.{false_from_ne_true, both_ways}
 use Rattle.std.proofs.lemmas.Grind.{flat_map-append}
 use Rattle.depot_base.specs.declared.record.Record.{Record}
 use Rattle.depot_base.specs.declared.update.Update.{Update}
-use Rattle.depot_model.specs.Items.{place_of_id, updates_at}
-use Rattle.depot_model.specs.Journal.{accepted, accepted_by, has_id, named}
-use Rattle.depot_model.specs.Lawful.{IsLawful}
-use Rattle.depot_model.specs.Lists.{IsIn}
-use Rattle.depot_model.specs.Order.{IsCausal, AreLatestIn, IsLatest, Precedes}
-use Rattle.depot_model.specs.Readers.{Reader, left_of, kept}
-use Rattle.depot_model.specs.Roster.{Verifies}
-use Rattle.depot_model.specs.Texts.{id_of_update}
-use Rattle.depot_model.specs.Trimming.{is_trimmed}
+use Rattle.depot_model.specs.lists.Items.{place_of_id, updates_at}
+use Rattle.depot_model.specs.journals.Journal.{accepted, accepted_by, has_id, named}
+use Rattle.depot_model.specs.journals.Lawful.{IsLawful}
+use Rattle.depot_model.specs.lists.Lists.{IsIn}
+use Rattle.depot_model.specs.updates.Order.{IsCausal, AreLatestIn, IsLatest, Precedes}
+use Rattle.depot_model.specs.readers.Readers.{Reader, left_of, kept}
+use Rattle.depot_model.specs.texts.Roster.{Verifies}
+use Rattle.depot_model.specs.texts.Texts.{id_of_update}
+use Rattle.depot_model.specs.readers.Trimming.{is_trimmed}
 use Rattle.depot_base.proofs.GeneralLaws.{at_place}
-use Rattle.depot_model.proofs.Elements.{in_at, in_option}
-use Rattle.depot_model.proofs.Members.{from_filter, in_filter}
-use Rattle.depot_model.proofs.NamedIds.{has_id_from, has_id_to, named_is, named_some}
-use Rattle.depot_model.proofs.Orders.{one_of_id, causal_front}
+use Rattle.depot_model.proofs.lists.Elements.{in_at, in_option}
+use Rattle.depot_model.proofs.lists.Members.{from_filter, in_filter}
+use Rattle.depot_model.proofs.of_updates.NamedIds.{has_id_from, has_id_to, named_is, named_some}
+use Rattle.depot_model.proofs.of_updates.Orders.{one_of_id, causal_front}
 use Rattle.depot_graph.proofs.Front.{apart}
 use Rattle.depot_graph.proofs.ItemPlaces.{has_place, has_no_place}
-use Rattle.depot_laws.proofs.Causes.{lawful_is_causal}
-use Rattle.depot_laws.proofs.NeverLatest.{never_latest}
-use Rattle.depot_laws.proofs.PrunedReadings.{accepted_same, filter_both}
-use Rattle.depot_laws.proofs.Splits.{flat_gives}
+use Rattle.depot_laws.proofs.records.Causes.{lawful_is_causal}
+use Rattle.depot_laws.proofs.of_readers.NeverLatest.{never_latest}
+use Rattle.depot_laws.proofs.of_readers.PrunedReadings.{accepted_same, filter_both}
+use Rattle.depot_laws.proofs.lists.Splits.{flat_gives}
 use Rattle.depot_trim.specs.ReaderView.{mark_of, WasTrimmed, IsReaderOf}
 use Rattle.depot_trim.specs.ReaderAnswers.{IsKeptItem}
 use Rattle.depot_trim.specs.declared.marks.UpdateMark.{UpdateMark}

@@ -13,22 +13,22 @@ use Rattle.depot_base.specs.declared.record.Record.{Record}
 use Rattle.depot_base.specs.declared.statement.Signed.{Signed}
 use Rattle.depot_base.specs.declared.update.Update.{Update}
 use Rattle.depot_model.specs.declared.taken.Taken.{Taken}
-use Rattle.depot_model.specs.Checks.{Setting, Given, given_statement, given_proof, growth}
-use Rattle.depot_model.specs.Journal.{accepted, accepted_by, is_wanted, value_with}
-use Rattle.depot_model.specs.Lawful.{IsLawful}
-use Rattle.depot_model.specs.Order.{IsCausal}
-use Rattle.depot_model.specs.Pruning.{pruned, below_of, AnswersAlike}
-use Rattle.depot_model.specs.Readers.{Reader, ReaderOutcome, kept, has_value, with_more, told, told_as_node, too_full}
-use Rattle.depot_model.specs.Room.{full_by}
-use Rattle.depot_model.specs.Roster.{Verifies}
-use Rattle.depot_model.specs.Texts.{IsSigned, IsProof, id_of_update, id_of_statement}
-use Rattle.depot_model.specs.Trimming.{names}
-use Rattle.depot_model.proofs.BodyLaws.{body_is_text}
-use Rattle.depot_laws.proofs.Causes.{lawful_is_causal}
-use Rattle.depot_laws.proofs.FewLeaves.{few_foreign as few_leaves}
-use Rattle.depot_laws.proofs.Growing.{grown_is_lawful, still_some}
-use Rattle.depot_laws.proofs.PrunedAnswers.{proofs_alike}
-use Rattle.depot_laws.proofs.PrunedGrowth.{pruned_grows}
+use Rattle.depot_model.specs.checks.Checks.{Setting, Given, given_statement, given_proof, growth}
+use Rattle.depot_model.specs.journals.Journal.{accepted, accepted_by, is_wanted, value_with}
+use Rattle.depot_model.specs.journals.Lawful.{IsLawful}
+use Rattle.depot_model.specs.updates.Order.{IsCausal}
+use Rattle.depot_model.specs.readers.Pruning.{pruned, below_of, AnswersAlike}
+use Rattle.depot_model.specs.readers.Readers.{Reader, ReaderOutcome, kept, has_value, with_more, told, told_as_node, too_full}
+use Rattle.depot_model.specs.checks.Room.{full_by}
+use Rattle.depot_model.specs.texts.Roster.{Verifies}
+use Rattle.depot_model.specs.texts.Texts.{IsSigned, IsProof, id_of_update, id_of_statement}
+use Rattle.depot_model.specs.readers.Trimming.{names}
+use Rattle.depot_model.proofs.of_texts.BodyLaws.{body_is_text}
+use Rattle.depot_laws.proofs.records.Causes.{lawful_is_causal}
+use Rattle.depot_laws.proofs.records.FewLeaves.{few_foreign as few_leaves}
+use Rattle.depot_laws.proofs.records.Growing.{grown_is_lawful, still_some}
+use Rattle.depot_laws.proofs.of_readers.PrunedAnswers.{proofs_alike}
+use Rattle.depot_laws.proofs.of_readers.PrunedGrowth.{pruned_grows}
 use Rattle.depot_accept.specs.StateView.{IsStateOf, setting}
 use Rattle.depot_accept.specs.AfterSignature.{IsCheckedAfterSignature}
 use Rattle.depot_accept.specs.CheckResults.{IsChecked}

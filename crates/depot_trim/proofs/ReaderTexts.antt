@@ -7,11 +7,11 @@ use Rattle.depot_base.specs.declared.check.Check.TheVariants as check
 use Rattle.depot_base.specs.declared.proof.Proof.{Proof}
 use Rattle.depot_base.specs.declared.statement.Signed.{Signed}
 use Rattle.depot_base.proofs.ClosedLaws.{LawfulClosed, closing_lawful, rest_lawful}
-use Rattle.depot_model.specs.Checks.{Given, given_statement, given_proof, given_value}
-use Rattle.depot_model.specs.Readers.{Reader, told, told_as, reader_outcome, reader_takes}
-use Rattle.depot_model.specs.Taking.{at_start, as_statement, as_proof, as_value, given_as}
-use Rattle.depot_model.specs.Texts.{signed, proof, IsSigned, IsProof, text_of_signed, text_of_proof}
-use Rattle.depot_model.proofs.TextLaws.{signed_lawful, proof_lawful}
+use Rattle.depot_model.specs.checks.Checks.{Given, given_statement, given_proof, given_value}
+use Rattle.depot_model.specs.readers.Readers.{Reader, told, told_as, reader_outcome, reader_takes}
+use Rattle.depot_model.specs.checks.Taking.{at_start, as_statement, as_proof, as_value, given_as}
+use Rattle.depot_model.specs.texts.Texts.{signed, proof, IsSigned, IsProof, text_of_signed, text_of_proof}
+use Rattle.depot_model.proofs.of_texts.TextLaws.{signed_lawful, proof_lawful}
 
 -- what a text of a form gives
 abbrev read_by : {V : Type 0} → Closed V → (V → Given) → List ℕ → Result Given ℕ

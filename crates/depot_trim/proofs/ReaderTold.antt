@@ -12,18 +12,18 @@ use Rattle.depot_base.specs.declared.statement.Signed.{Signed}
 use Rattle.depot_base.specs.declared.update.Update.{Update}
 use Rattle.depot_model.specs.declared.taken.Taken.{Taken}
 use Rattle.depot_model.specs.declared.taken.Taken.TheVariants.{New, Known}
-use Rattle.depot_model.specs.Checks.{Setting, Given, given_statement, given_proof, given_value, is_known, answer_to, growth_by, growth}
-use Rattle.depot_model.specs.Journal.{is_wanted}
-use Rattle.depot_model.specs.Lawful.{IsLawful}
-use Rattle.depot_model.specs.Lists.{first}
-use Rattle.depot_model.specs.Pruning.{pruned, checks_to_signature, below_of, AnswersAlike}
-use Rattle.depot_model.specs.Readers.{Reader, kept, has_value, with_more, told_unless, told_as_node, told_above, told_of_value, reader_outcome, stands_below, too_full, told}
-use Rattle.depot_model.specs.Room.{full_by}
-use Rattle.depot_model.specs.Roster.{has_node}
-use Rattle.depot_model.specs.Texts.{id_of_update}
-use Rattle.depot_model.specs.Trimming.{names}
-use Rattle.depot_laws.proofs.PrunedAnswers.{statements_alike}
-use Rattle.depot_laws.proofs.PrunedReadings.{kept_same}
+use Rattle.depot_model.specs.checks.Checks.{Setting, Given, given_statement, given_proof, given_value, is_known, answer_to, growth_by, growth}
+use Rattle.depot_model.specs.journals.Journal.{is_wanted}
+use Rattle.depot_model.specs.journals.Lawful.{IsLawful}
+use Rattle.depot_model.specs.lists.Lists.{first}
+use Rattle.depot_model.specs.readers.Pruning.{pruned, checks_to_signature, below_of, AnswersAlike}
+use Rattle.depot_model.specs.readers.Readers.{Reader, kept, has_value, with_more, told_unless, told_as_node, told_above, told_of_value, reader_outcome, stands_below, too_full, told}
+use Rattle.depot_model.specs.checks.Room.{full_by}
+use Rattle.depot_model.specs.texts.Roster.{has_node}
+use Rattle.depot_model.specs.texts.Texts.{id_of_update}
+use Rattle.depot_model.specs.readers.Trimming.{names}
+use Rattle.depot_laws.proofs.of_readers.PrunedAnswers.{statements_alike}
+use Rattle.depot_laws.proofs.of_readers.PrunedReadings.{kept_same}
 use Rattle.depot_trim.specs.ReaderView.{WasTrimmed}
 use Rattle.depot_trim.proofs.ReaderGrowth.{trimmed_within, none_more}
 

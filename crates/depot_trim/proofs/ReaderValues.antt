@@ -9,10 +9,10 @@ use Rattle.depot_base.specs.declared.update.Update.{Update}
 use Rattle.depot_base.specs.declared.write.Wrote.{Wrote}
 use Rattle.depot_base.specs.declared.write.Wrote.TheVariants.{Put, Gone}
 use Rattle.depot_base.proofs.GeneralLaws.{same_at}
-use Rattle.depot_model.specs.Contents.{held_value, not_held}
-use Rattle.depot_model.specs.Journal.{accepted, value_with}
-use Rattle.depot_model.specs.Lists.{when}
-use Rattle.depot_model.specs.Readers.{Reader, seen_among, seen_by_reader}
+use Rattle.depot_model.specs.texts.Contents.{held_value, not_held}
+use Rattle.depot_model.specs.journals.Journal.{accepted, value_with}
+use Rattle.depot_model.specs.lists.Lists.{when}
+use Rattle.depot_model.specs.readers.Readers.{Reader, seen_among, seen_by_reader}
 use Rattle.depot_trim.specs.Trimmings.{held_of}
 use Rattle.depot_queries.specs.ShownValues.{value_seen}
 

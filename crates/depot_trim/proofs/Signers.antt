@@ -3,17 +3,17 @@ use Rattle.std.proofs.Common.{◌≡◌, ◌∙◌, ◌&&◌, ℕ, Bool, true, f
 use Rattle.std.specs.Prelude.{slice_get}
 use Rattle.std.proofs.lemmas.Bool.{false_from_ne_true}
 use Rattle.depot_base.specs.declared.update.Update.{Update}
-use Rattle.depot_model.specs.Checkpoints.{checkpoint_key}
-use Rattle.depot_model.specs.Items.{place_of_id, PrecedesAt}
-use Rattle.depot_model.specs.Journal.{has_id}
-use Rattle.depot_model.specs.Lists.{IsIn}
-use Rattle.depot_model.specs.Order.{IsCausal, Precedes, past}
-use Rattle.depot_model.specs.ReadTests.{is_value_of}
-use Rattle.depot_model.specs.Texts.{id_of_update}
-use Rattle.depot_model.proofs.Elements.{in_at}
-use Rattle.depot_model.proofs.NamedIds.{has_id_from, has_id_to}
-use Rattle.depot_model.proofs.Orders.{one_of_id}
-use Rattle.depot_model.proofs.Pasts.{past_in, past_of_listed}
+use Rattle.depot_model.specs.readers.Checkpoints.{checkpoint_key}
+use Rattle.depot_model.specs.lists.Items.{place_of_id, PrecedesAt}
+use Rattle.depot_model.specs.journals.Journal.{has_id}
+use Rattle.depot_model.specs.lists.Lists.{IsIn}
+use Rattle.depot_model.specs.updates.Order.{IsCausal, Precedes, past}
+use Rattle.depot_model.specs.worlds.ReadTests.{is_value_of}
+use Rattle.depot_model.specs.texts.Texts.{id_of_update}
+use Rattle.depot_model.proofs.lists.Elements.{in_at}
+use Rattle.depot_model.proofs.of_updates.NamedIds.{has_id_from, has_id_to}
+use Rattle.depot_model.proofs.of_updates.Orders.{one_of_id}
+use Rattle.depot_model.proofs.of_updates.Pasts.{past_in, past_of_listed}
 use Rattle.depot_graph.proofs.ItemPlaces.{has_place, has_no_place}
 use Rattle.depot_trim.specs.Trimmings.{has_all_in_past, signs_as}
 

@@ -1,13 +1,13 @@
 -- What prevents signing a checkpoint, and the call that signs one.
 use Rattle.std.proofs.Common.{◌≡◌, ◌≢◌, ◌↔◌, List, ℕ, Result, Ok, Err, IsErrOf, IsErrAnd, refl, sym, subst}
 use Rattle.depot_base.specs.declared.record.Record.{Record}
-use Rattle.depot_model.specs.Checks.{Setting}
-use Rattle.depot_model.specs.Putting.{IsPutCall}
+use Rattle.depot_model.specs.checks.Checks.{Setting}
+use Rattle.depot_model.specs.checks.Putting.{IsPutCall}
 use Rattle.depot_model.specs.declared.node_state.NodeState.{Ghosts}
 use Rattle.depot_model.specs.declared.put_answers.PutDone.{PutDone}
 use Rattle.depot_model.specs.declared.put_answers.PutError.{PutError}
 use Rattle.depot_model.specs.declared.put_answers.PutError.TheVariants as put
-use Rattle.depot_model.proofs.JournalCallLaws.{renamed_call}
+use Rattle.depot_model.proofs.of_journals.JournalCallLaws.{renamed_call}
 use Rattle.depot_trim.specs.Signing.{IsDue, IsSigningCall, as_signed, signing_changes}
 use Rattle.depot_trim.specs.declared.sign_error.CheckpointError.{CheckpointError}
 use Rattle.depot_trim.specs.declared.sign_error.CheckpointError.TheVariants as sign

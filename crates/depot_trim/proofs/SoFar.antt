@@ -11,8 +11,8 @@ use Rattle.std.proofs.lemmas.List.Folds.{list_any-append}
 use Rattle.std.proofs.lemmas.Option.{slice_get_within, get_or_from_slice_get}
 use Rattle.depot_base.proofs.GeneralLaws.{at_place, or_none}
 use Rattle.depot_base.specs.declared.update.Update.{Update}
-use Rattle.depot_model.specs.Items.{place_of_id, places_of}
-use Rattle.depot_laws.proofs.PrunedReadings.{filter_both}
+use Rattle.depot_model.specs.lists.Items.{place_of_id, places_of}
+use Rattle.depot_laws.proofs.of_readers.PrunedReadings.{filter_both}
 
 -- what a loop has at a place is there
 pub element_at : {X : Type 0} (xs : List X) (i : ℕ) (x : X) → i < length xs → x ≡ slice_index_or xs i x → slice_get xs i ≡ Some x

@@ -11,12 +11,12 @@ use Rattle.depot_base.specs.declared.statement.Signed.{Signed}
 use Rattle.depot_base.proofs.GeneralLaws.{all_both}
 use Rattle.depot_model.specs.declared.taken.Taken.{Taken}
 use Rattle.depot_model.specs.declared.taken.Taken.TheVariants.{New, Known}
-use Rattle.depot_model.specs.Checks.{Setting, Given, given_statement, given_proof, given_value, opponent, named_opponent, answer_to, due, added, exposed, growth_by, growth}
-use Rattle.depot_model.specs.Conviction.{proof_of}
-use Rattle.depot_model.specs.Journal.{foreign, is_convicted, is_vouched}
-use Rattle.depot_model.specs.Lawful.{IsLawful}
-use Rattle.depot_laws.proofs.Splits.{lawful_front}
-use Rattle.depot_model.proofs.Members.{all_at}
+use Rattle.depot_model.specs.checks.Checks.{Setting, Given, given_statement, given_proof, given_value, opponent, named_opponent, answer_to, due, added, exposed, growth_by, growth}
+use Rattle.depot_model.specs.updates.Conviction.{proof_of}
+use Rattle.depot_model.specs.journals.Journal.{foreign, is_convicted, is_vouched}
+use Rattle.depot_model.specs.journals.Lawful.{IsLawful}
+use Rattle.depot_laws.proofs.lists.Splits.{lawful_front}
+use Rattle.depot_model.proofs.lists.Members.{all_at}
 use Rattle.depot_readings.specs.NewRecords.{AreNew}
 use Rattle.depot_readings.specs.Taken.{IsTaken}
 use Rattle.depot_readings.proofs.StateGrowth.{accused_is_listed}

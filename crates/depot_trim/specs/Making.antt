@@ -1,8 +1,8 @@
 -- What a node answers where it is to make a checkpoint.
 use Rattle.std.specs.Prelude.{◌≡◌, ℕ, List, Result, Ok, Err}
 use Rattle.depot_base.specs.declared.record.Record.{Record}
-use Rattle.depot_model.specs.Checks.{Setting}
-use Rattle.depot_model.specs.Opening.{no_leaves, many_leaves, made_text, make_of}
+use Rattle.depot_model.specs.checks.Checks.{Setting}
+use Rattle.depot_model.specs.readers.Opening.{no_leaves, many_leaves, made_text, make_of}
 use Rattle.depot_trim.specs.declared.make_error.MakeError.{MakeError}
 use Rattle.depot_trim.specs.declared.make_error.MakeError.TheVariants as refused
 

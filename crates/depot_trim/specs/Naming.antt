@@ -3,9 +3,9 @@ use Rattle.std.specs.Prelude.{ℕ, List, Bool, false, ◌&&◌, ◌||◌, ◌==�
 use Rattle.depot_base.specs.Statement.{writer_of, seq_of}
 use Rattle.depot_base.specs.declared.statement.Statement.{Statement}
 use Rattle.depot_base.specs.declared.statement.Statement.TheVariants as statement
-use Rattle.depot_model.specs.Lists.{is_among}
-use Rattle.depot_model.specs.Order.{parents}
-use Rattle.depot_model.specs.Trimming.{has_prev}
+use Rattle.depot_model.specs.lists.Lists.{is_among}
+use Rattle.depot_model.specs.updates.Order.{parents}
+use Rattle.depot_model.specs.readers.Trimming.{has_prev}
 use Rattle.depot_trim.specs.declared.marks.UpdateMark.{UpdateMark}
 
 -- an id is that of a parent of it

@@ -2,10 +2,10 @@
 use Rattle.std.specs.Prelude.{◌≡◌, ℕ, List, Result, Ok, Err}
 use Rattle.depot_base.specs.Format.{FirstFault}
 use Rattle.depot_base.specs.declared.record.Record.{Record}
-use Rattle.depot_model.specs.Checkpoints.{Checkpoint, checkpoint, IsCheckpoint, text_of_checkpoint}
-use Rattle.depot_model.specs.Checks.{Setting}
-use Rattle.depot_model.specs.Opening.{ids_of, ill_at, of_roster, with_unknown, opened, opened_text}
-use Rattle.depot_model.specs.Texts.{hash_of_roster}
+use Rattle.depot_model.specs.readers.Checkpoints.{Checkpoint, checkpoint, IsCheckpoint, text_of_checkpoint}
+use Rattle.depot_model.specs.checks.Checks.{Setting}
+use Rattle.depot_model.specs.readers.Opening.{ids_of, ill_at, of_roster, with_unknown, opened, opened_text}
+use Rattle.depot_model.specs.texts.Texts.{hash_of_roster}
 use Rattle.depot_trim.specs.declared.opening.OpenError.{OpenError}
 use Rattle.depot_trim.specs.declared.opening.OpenError.TheVariants as failed
 

@@ -3,14 +3,14 @@ use Rattle.std.specs.Prelude.{◌≡◌, ℕ, List, Result, Ok, Err, Some, slice
 use Rattle.depot_base.specs.declared.record.Record.{Record}
 use Rattle.depot_base.specs.declared.update.Update.{Update}
 use Rattle.depot_model.specs.declared.taken.Taken.{Taken}
-use Rattle.depot_model.specs.Checks.{Setting}
-use Rattle.depot_model.specs.Journal.{accepted}
-use Rattle.depot_model.specs.Lists.{IsIn}
-use Rattle.depot_model.specs.Opening.{ill_at, of_roster, with_unknown}
-use Rattle.depot_model.specs.Readers.{Reader, ReaderOutcome, kept, unopened, unsigned, reading, trim_of, stands_below, too_full, told, reader_takes}
-use Rattle.depot_model.specs.Roster.{Verifies}
-use Rattle.depot_model.specs.Taking.{Form}
-use Rattle.depot_model.specs.Texts.{hash_of_roster}
+use Rattle.depot_model.specs.checks.Checks.{Setting}
+use Rattle.depot_model.specs.journals.Journal.{accepted}
+use Rattle.depot_model.specs.lists.Lists.{IsIn}
+use Rattle.depot_model.specs.readers.Opening.{ill_at, of_roster, with_unknown}
+use Rattle.depot_model.specs.readers.Readers.{Reader, ReaderOutcome, kept, unopened, unsigned, reading, trim_of, stands_below, too_full, told, reader_takes}
+use Rattle.depot_model.specs.texts.Roster.{Verifies}
+use Rattle.depot_model.specs.checks.Taking.{Form}
+use Rattle.depot_model.specs.texts.Texts.{hash_of_roster}
 use Rattle.depot_trim.specs.declared.trim_error.TrimError.{TrimError}
 use Rattle.depot_trim.specs.declared.trim_error.TrimError.TheVariants as refused
 use Rattle.depot_trim.specs.declared.trim_error.TrimTake.{TrimTake}

@@ -3,11 +3,11 @@ use Rattle.std.specs.Prelude.{◌≡◌, ℕ, List, Option, None, Result, Ok, Er
 use Rattle.depot_base.specs.declared.check.Check.{Check}
 use Rattle.depot_base.specs.declared.record.Record.{Record}
 use Rattle.depot_model.specs.declared.taken.Taken.{Taken}
-use Rattle.depot_model.specs.Checks.{Given, given_statement, given_proof, given_value, growth}
-use Rattle.depot_model.specs.Journal.{accepted}
-use Rattle.depot_model.specs.Readers.{Reader, with_more}
-use Rattle.depot_model.specs.Room.{full_by}
-use Rattle.depot_model.specs.Roster.{Verifies}
+use Rattle.depot_model.specs.checks.Checks.{Given, given_statement, given_proof, given_value, growth}
+use Rattle.depot_model.specs.journals.Journal.{accepted}
+use Rattle.depot_model.specs.readers.Readers.{Reader, with_more}
+use Rattle.depot_model.specs.checks.Room.{full_by}
+use Rattle.depot_model.specs.texts.Roster.{Verifies}
 use Rattle.depot_laws.specs.Given.{HasText}
 use Rattle.depot_readings.specs.LeavesWith.{leaves_with}
 use Rattle.depot_decide.specs.Deciding.{IsDecided}

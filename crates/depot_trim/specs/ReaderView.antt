@@ -2,13 +2,13 @@
 use Rattle.std.specs.Prelude.{◌≡◌, ℕ, List, ◌++◌, map, false}
 use Rattle.depot_base.specs.declared.record.Record.{Record}
 use Rattle.depot_base.specs.declared.update.Update.{Update}
-use Rattle.depot_model.specs.Journal.{value_with}
-use Rattle.depot_model.specs.Lawful.{IsLawful, is_empty}
-use Rattle.depot_model.specs.Pruning.{pruned}
-use Rattle.depot_model.specs.Readers.{Reader, kept}
-use Rattle.depot_model.specs.Roster.{Verifies}
-use Rattle.depot_model.specs.Texts.{id_of_update}
-use Rattle.depot_model.specs.Trimming.{trimmed}
+use Rattle.depot_model.specs.journals.Journal.{value_with}
+use Rattle.depot_model.specs.journals.Lawful.{IsLawful, is_empty}
+use Rattle.depot_model.specs.readers.Pruning.{pruned}
+use Rattle.depot_model.specs.readers.Readers.{Reader, kept}
+use Rattle.depot_model.specs.texts.Roster.{Verifies}
+use Rattle.depot_model.specs.texts.Texts.{id_of_update}
+use Rattle.depot_model.specs.readers.Trimming.{trimmed}
 use Rattle.depot_accept.specs.StateView.{IsStateOf, setting}
 use Rattle.depot_readings.specs.Counts.{AreCountsOf}
 use Rattle.depot_readings.specs.Named.{AreNamed}

@@ -3,15 +3,15 @@ use Rattle.std.specs.Prelude.{◌≡◌, ◌≢◌, ℕ, List, Result, Ok, Err, 
 use Rattle.depot_base.specs.Writes.{one_change}
 use Rattle.depot_base.specs.declared.record.Record.{Record}
 use Rattle.depot_base.specs.declared.write.Change.{Change}
-use Rattle.depot_model.specs.Checkpoints.{checkpoint_key}
-use Rattle.depot_model.specs.Checks.{Setting}
-use Rattle.depot_model.specs.Putting.{Puts, put_records}
-use Rattle.depot_model.specs.Replicas.{IsNodeCall}
+use Rattle.depot_model.specs.readers.Checkpoints.{checkpoint_key}
+use Rattle.depot_model.specs.checks.Checks.{Setting}
+use Rattle.depot_model.specs.checks.Putting.{Puts, put_records}
+use Rattle.depot_model.specs.journals.Replicas.{IsNodeCall}
 use Rattle.depot_model.specs.declared.node_state.NodeState.{Ghosts}
 use Rattle.depot_model.specs.declared.put_answers.PutDone.{PutDone}
 use Rattle.depot_model.specs.declared.put_answers.PutError.{PutError}
 use Rattle.depot_model.specs.declared.put_answers.PutError.TheVariants as put
-use Rattle.depot_model.specs.Opening.{ill_at, with_unknown, opened, opened_text}
+use Rattle.depot_model.specs.readers.Opening.{ill_at, with_unknown, opened, opened_text}
 use Rattle.depot_trim.specs.Opens.{IsOfOther}
 use Rattle.depot_trim.specs.declared.opening.OpenError.{OpenError}
 use Rattle.depot_trim.specs.declared.opening.OpenError.TheVariants as open_error

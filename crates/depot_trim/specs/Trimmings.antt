@@ -6,18 +6,18 @@ use Rattle.depot_base.specs.declared.record.Record.{Record}
 use Rattle.depot_base.specs.declared.update.NamedValue.{NamedValue}
 use Rattle.depot_base.specs.declared.update.Update.{Update}
 use Rattle.depot_model.specs.declared.hello.HelloLeaf.{HelloLeaf}
-use Rattle.depot_model.specs.Checkpoints.{checkpoint_key}
-use Rattle.depot_model.specs.Checks.{Setting}
-use Rattle.depot_model.specs.Journal.{accepted, has_id, value_with}
-use Rattle.depot_model.specs.LatestList.{latest_in}
-use Rattle.depot_model.specs.Lawful.{IsLawful}
-use Rattle.depot_model.specs.Lists.{when}
-use Rattle.depot_model.specs.Order.{past}
-use Rattle.depot_model.specs.Pruning.{pruned}
-use Rattle.depot_model.specs.ReadTests.{is_value_of}
-use Rattle.depot_model.specs.Roster.{Verifies}
-use Rattle.depot_model.specs.Texts.{id_of_update}
-use Rattle.depot_model.specs.Trimming.{is_latest_below, trimmed}
+use Rattle.depot_model.specs.readers.Checkpoints.{checkpoint_key}
+use Rattle.depot_model.specs.checks.Checks.{Setting}
+use Rattle.depot_model.specs.journals.Journal.{accepted, has_id, value_with}
+use Rattle.depot_model.specs.updates.LatestList.{latest_in}
+use Rattle.depot_model.specs.journals.Lawful.{IsLawful}
+use Rattle.depot_model.specs.lists.Lists.{when}
+use Rattle.depot_model.specs.updates.Order.{past}
+use Rattle.depot_model.specs.readers.Pruning.{pruned}
+use Rattle.depot_model.specs.worlds.ReadTests.{is_value_of}
+use Rattle.depot_model.specs.texts.Roster.{Verifies}
+use Rattle.depot_model.specs.texts.Texts.{id_of_update}
+use Rattle.depot_model.specs.readers.Trimming.{is_latest_below, trimmed}
 use Rattle.depot_accept.specs.StateView.{View, IsStateOf, setting}
 use Rattle.depot_trim.specs.declared.opening.OpenError.{OpenError}
 use Rattle.depot_trim.specs.declared.opening.OpenError.TheVariants as open_error

@@ -3,8 +3,8 @@ use Rattle.std.specs.Prelude.{◌≡◌, ◌||◌, ℕ, List, Bool}
 use Rattle.std.specs.List.{filter}
 use Rattle.depot_base.specs.declared.record.Record.{Record}
 use Rattle.depot_base.specs.declared.update.Update.{Update}
-use Rattle.depot_model.specs.Journal.{accepted, held, value_with}
-use Rattle.depot_model.specs.Readers.{left_of, is_named_by}
+use Rattle.depot_model.specs.journals.Journal.{accepted, held, value_with}
+use Rattle.depot_model.specs.readers.Readers.{left_of, is_named_by}
 use Rattle.depot_kept.specs.Values as values
 use Rattle.depot_kept.specs.declared.values.Values.{Values}
 use Rattle.depot_trim.specs.Trimmings.{given_up, kept_of}

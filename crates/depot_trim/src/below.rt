@@ -2,12 +2,12 @@
 ghost use Rattle.std.specs.Prelude.{◌≡◌, ◌<◌, List, [], ◌∷◌, ◌++◌, length, map, filter, IfOk, OnOk, Some, slice_get};
 ghost use Rattle.depot_base.specs.declared.record.Record.{Record};
 ghost use Rattle.depot_base.specs.declared.update.Update.{Update};
-ghost use Rattle.depot_model.specs.Bundle.{is_covered};
-ghost use Rattle.depot_model.specs.Checks.{Setting};
-ghost use Rattle.depot_model.specs.Journal.{accepted};
-ghost use Rattle.depot_model.specs.Lawful.{IsLawful};
-ghost use Rattle.depot_model.specs.Order.{IsCausal};
-ghost use Rattle.depot_model.specs.Texts.{IsUpdate, id_of_update};
+ghost use Rattle.depot_model.specs.exchange.Bundle.{is_covered};
+ghost use Rattle.depot_model.specs.checks.Checks.{Setting};
+ghost use Rattle.depot_model.specs.journals.Journal.{accepted};
+ghost use Rattle.depot_model.specs.journals.Lawful.{IsLawful};
+ghost use Rattle.depot_model.specs.updates.Order.{IsCausal};
+ghost use Rattle.depot_model.specs.texts.Texts.{IsUpdate, id_of_update};
 ghost use Rattle.depot_trim.specs.Trimmings.{IsAnswerAt, ids_in, is_given_up_below, is_latest_of};
 
 use crate::leaf_items::leaf_items;

@@ -1,8 +1,8 @@
 //! What is decided of what a reader is given is carried out.
 ghost use Rattle.std.specs.Prelude.{◌≡◌, OnOk, OnErr};
-ghost use Rattle.depot_model.specs.Checks.{Given};
-ghost use Rattle.depot_model.specs.Journal.{accepted};
-ghost use Rattle.depot_model.specs.Readers.{Reader, told_as_node};
+ghost use Rattle.depot_model.specs.checks.Checks.{Given};
+ghost use Rattle.depot_model.specs.journals.Journal.{accepted};
+ghost use Rattle.depot_model.specs.readers.Readers.{Reader, told_as_node};
 ghost use Rattle.depot_decide.specs.Deciding.{AreJoined};
 ghost use Rattle.depot_readings.specs.LeavesWith.{leaves_with};
 ghost use Rattle.depot_trim.specs.ReaderAnswers.{Becomes};

@@ -2,7 +2,7 @@
 ghost use Rattle.std.specs.Prelude.{◌≡◌, ◌++◌, OnOk, IfOk};
 ghost use Rattle.depot_base.specs.Format.{whole};
 ghost use Rattle.depot_base.specs.Reading.{Reads, Gives, Decodes};
-ghost use Rattle.depot_model.specs.Checkpoints.{checkpoint, IsCheckpoint, text_of_checkpoint};
+ghost use Rattle.depot_model.specs.readers.Checkpoints.{checkpoint, IsCheckpoint, text_of_checkpoint};
 
 use depot_base::fault::{Fault, answer};
 use depot_base::reading::{at_end, hash_in, u8_in, u16_in};
@@ -26,7 +26,7 @@ pub struct Checkpoint {
 }
 
 impl Model for Checkpoint {
-    ghost use Rattle.depot_model.specs.Checkpoints.{Checkpoint as Named};
+    ghost use Rattle.depot_model.specs.readers.Checkpoints.{Checkpoint as Named};
 
     ghost Value = { Named };
 
@@ -34,7 +34,7 @@ impl Model for Checkpoint {
 }
 
 /// A checkpoint.
-#[tactic(auto, unfolding(depot_model::specs::Checkpoints::checkpoint))]
+#[tactic(auto, unfolding(depot_model::specs::readers::Checkpoints::checkpoint))]
 fn checkpoint_in(alloc: Global, fields: &mut Fields<'_>) -> Result<Checkpoint, Fault>
     ensures { Reads result fields.new (checkpoint.read fields.old) }
 {
@@ -63,7 +63,7 @@ pub fn decode_checkpoint(alloc: Global, text: &[u8]) -> Result<Checkpoint, Decod
 }
 
 /// Writes a checkpoint.
-#[tactic(auto, using(depot_base::proofs::Writing::texts), unfolding(depot_model::specs::Checkpoints::checkpoint, depot_base::specs::Format::number, depot_base::specs::Format::bytes_of, depot_base::specs::Format::list_of))]
+#[tactic(auto, using(depot_base::proofs::Writing::texts), unfolding(depot_model::specs::readers::Checkpoints::checkpoint, depot_base::specs::Format::number, depot_base::specs::Format::bytes_of, depot_base::specs::Format::list_of))]
 fn put_checkpoint(out: &mut Bytes, checkpoint: &Checkpoint) -> Result<(), Memory>
     requires { IsCheckpoint checkpoint.now }
     ensures { OnOk result (out.new ≡ out.old ++ text_of_checkpoint checkpoint.now) }

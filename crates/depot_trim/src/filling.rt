@@ -4,11 +4,11 @@ ghost use Rattle.depot_base.specs.declared.record.Record.{Record};
 ghost use Rattle.depot_base.specs.declared.record.Record.TheVariants.{Foreign};
 ghost use Rattle.depot_base.specs.declared.statement.Statement.TheVariants as statements;
 ghost use Rattle.depot_base.specs.declared.update.Update.{Update};
-ghost use Rattle.depot_model.specs.Journal.{accepted, own_by};
-ghost use Rattle.depot_model.specs.Order.{IsCausal};
-ghost use Rattle.depot_model.specs.Pruning.{pruned};
-ghost use Rattle.depot_model.specs.Records.{IsRecord, text_of_record};
-ghost use Rattle.depot_model.specs.Texts.{IsSigned, IsUpdate, id_of_statement, id_of_update};
+ghost use Rattle.depot_model.specs.journals.Journal.{accepted, own_by};
+ghost use Rattle.depot_model.specs.updates.Order.{IsCausal};
+ghost use Rattle.depot_model.specs.readers.Pruning.{pruned};
+ghost use Rattle.depot_model.specs.texts.Records.{IsRecord, text_of_record};
+ghost use Rattle.depot_model.specs.texts.Texts.{IsSigned, IsUpdate, id_of_statement, id_of_update};
 ghost use Rattle.depot_accept.specs.StateView.{IsStateOf, setting};
 ghost use Rattle.depot_trim.specs.Trimmings.{given_up, MayFill, Fills};
 
@@ -162,7 +162,7 @@ fn is_next_given_up<S: Scheme>(state: &State<S>, trimmed: &[bool]) -> bool
 }
 
 /// The id of a statement whose body is available.
-#[tactic(auto, using(depot_model::proofs::BodyLaws::body_is_text), unfolding(depot_model::specs::Texts::id_of_statement))]
+#[tactic(auto, using(depot_model::proofs::of_texts::BodyLaws::body_is_text), unfolding(depot_model::specs::texts::Texts::id_of_statement))]
 fn id_of_body(signed: &Signed) -> Hash32
     requires { IsSigned signed.now }
     ensures { result ≡ id_of_statement signed.now.statement }

@@ -2,9 +2,9 @@
 ghost use Rattle.std.specs.Prelude.{◌≡◌, ◌++◌, [], ◌∷◌, ℕ, List, false, Some, IfOk, OnOk};
 ghost use Rattle.depot_base.specs.Sized.{IsValue};
 ghost use Rattle.depot_base.specs.declared.update.Update.{Update};
-ghost use Rattle.depot_model.specs.Contents.{names_value};
-ghost use Rattle.depot_model.specs.Journal.{accepted, held};
-ghost use Rattle.depot_model.specs.Readers.{left_of};
+ghost use Rattle.depot_model.specs.texts.Contents.{names_value};
+ghost use Rattle.depot_model.specs.journals.Journal.{accepted, held};
+ghost use Rattle.depot_model.specs.readers.Readers.{left_of};
 ghost use Rattle.depot_readings.specs.Named.{is_value_named, AreNamed};
 ghost use Rattle.depot_trim.specs.Trimmings.{given_up, held_of};
 ghost use Rattle.depot_trim.specs.ValuesLeft.{AreValuesLeft, KeepsMore};

@@ -1,7 +1,7 @@
 //! The leaves of a checkpoint, by their items.
 ghost use Rattle.std.specs.Prelude.{◌≡◌, ◌<◌, length, IfOk};
 ghost use Rattle.std.specs.List.{AllByRecursion};
-ghost use Rattle.depot_model.specs.Items.{places_of};
+ghost use Rattle.depot_model.specs.lists.Items.{places_of};
 ghost use Rattle.depot_trim.specs.Trimmings.{ids_in};
 
 use depot_base::Memory;

@@ -4,7 +4,7 @@ ghost use Rattle.std.specs.BTreeMap.{get};
 ghost use Rattle.std.specs.List.{list_any};
 ghost use Rattle.std.specs.Option.{option_or};
 ghost use Rattle.std.specs.Str.{bytes_eq};
-ghost use Rattle.depot_model.specs.Lists.{when};
+ghost use Rattle.depot_model.specs.lists.Lists.{when};
 ghost use Rattle.depot_trim.specs.declared.marks.Name.{Name};
 ghost use Rattle.depot_trim.specs.MarkedNames.{name_cmp, same_name, has_name, first_place, AreFirsts};
 

@@ -2,10 +2,10 @@
 ghost use Rattle.std.specs.Prelude.{◌≡◌, ◌&&◌, ◌||◌, ◌==◌, List, map, find, option_map, option_and_then, slice_get};
 ghost use Rattle.std.specs.Str.{bytes_eq};
 ghost use Rattle.depot_base.specs.declared.update.Update.{Update};
-ghost use Rattle.depot_model.specs.Lists.{is_among};
-ghost use Rattle.depot_model.specs.Order.{prevs, parents};
-ghost use Rattle.depot_model.specs.Texts.{id_of_update};
-ghost use Rattle.depot_model.specs.Trimming.{names};
+ghost use Rattle.depot_model.specs.lists.Lists.{is_among};
+ghost use Rattle.depot_model.specs.updates.Order.{prevs, parents};
+ghost use Rattle.depot_model.specs.texts.Texts.{id_of_update};
+ghost use Rattle.depot_model.specs.readers.Trimming.{names};
 ghost use Rattle.depot_trim.specs.MarkedNames.{first_place, earlier_of};
 ghost use Rattle.depot_trim.specs.ReaderView.{mark_of};
 ghost use Rattle.depot_trim.specs.Naming.{names_mark};

@@ -1,7 +1,7 @@
 //! A checkpoint's text is opened by a node.
 ghost use Rattle.std.specs.Prelude.{◌≡◌, not};
-ghost use Rattle.depot_model.specs.Journal.{accepted};
-ghost use Rattle.depot_model.specs.Opening.{is_update_of, unknown_leaf};
+ghost use Rattle.depot_model.specs.journals.Journal.{accepted};
+ghost use Rattle.depot_model.specs.readers.Opening.{is_update_of, unknown_leaf};
 ghost use Rattle.depot_trim.specs.Opens.{Opens, IsCheckpointRead};
 
 use crate::checkpoint_text::{Checkpoint, decode_checkpoint};
@@ -62,7 +62,7 @@ fn read(alloc: Global, text: &[u8]) -> Result<Checkpoint, OpenError>
 }
 
 /// The first of these leaves that isn't an update of its writer in the graph, by its id.
-#[tactic(auto, unfolding(depot_model::specs::Opening::unknown_leaf))]
+#[tactic(auto, unfolding(depot_model::specs::readers::Opening::unknown_leaf))]
 fn first_unknown(graph: &Graph, leaves: &[HelloLeaf]) -> Option<Hash32>
     ensures { result ≡ unknown_leaf (⟦<Graph as Past>⟧.updates graph.now) leaves.now }
 {

@@ -1,8 +1,8 @@
 //! A node signs a checkpoint.
 ghost use Rattle.std.specs.Prelude.{◌≡◌, IfOk};
 ghost use Rattle.depot_base.specs.Sized.{IsValue};
-ghost use Rattle.depot_model.specs.Journal.{accepted};
-ghost use Rattle.depot_model.specs.Checkpoints.{checkpoint_key};
+ghost use Rattle.depot_model.specs.journals.Journal.{accepted};
+ghost use Rattle.depot_model.specs.readers.Checkpoints.{checkpoint_key};
 ghost use Rattle.depot_trim.specs.Signing.{IsDue, IsSigningCall, SignsCheckpoint, as_checkpoint_error, as_signed, as_unopened};
 
 use crate::keys::checkpoint_key;

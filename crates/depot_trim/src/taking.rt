@@ -1,11 +1,11 @@
 //! A reader takes what it is given.
 ghost use Rattle.std.specs.Prelude.{◌≡◌};
 ghost use Rattle.depot_base.specs.Sized.{IsValue};
-ghost use Rattle.depot_model.specs.Checks.{given_statement, given_value};
-ghost use Rattle.depot_model.specs.Pruning.{pruned};
-ghost use Rattle.depot_model.specs.Readers.{Reader, reader_outcome};
-ghost use Rattle.depot_model.specs.Taking.{as_statement, as_proof, as_value};
-ghost use Rattle.depot_model.specs.Texts.{IsSigned, id_of_statement, text_of_signed};
+ghost use Rattle.depot_model.specs.checks.Checks.{given_statement, given_value};
+ghost use Rattle.depot_model.specs.readers.Pruning.{pruned};
+ghost use Rattle.depot_model.specs.readers.Readers.{Reader, reader_outcome};
+ghost use Rattle.depot_model.specs.checks.Taking.{as_statement, as_proof, as_value};
+ghost use Rattle.depot_model.specs.texts.Texts.{IsSigned, id_of_statement, text_of_signed};
 ghost use Rattle.depot_accept.specs.ToSignature.{PassesEarly};
 ghost use Rattle.depot_trim.specs.ReaderView.{IsReaderOf};
 ghost use Rattle.depot_trim.specs.ReaderAnswers.{Becomes, ReaderTakes};

@@ -1,11 +1,11 @@
 //! A reader that gave up what was trimmed.
 ghost use Rattle.std.specs.Prelude.{◌≡◌, ℕ, List, length, All, Some, option_copied, slice_get};
 ghost use Rattle.depot_base.specs.declared.update.Update.{Update};
-ghost use Rattle.depot_model.specs.Items.{updates_at};
-ghost use Rattle.depot_model.specs.Journal.{accepted, named, value_with};
-ghost use Rattle.depot_model.specs.Contents.{Writes};
-ghost use Rattle.depot_model.specs.Order.{AreLatestIn};
-ghost use Rattle.depot_model.specs.Readers.{Reader, kept, seen_by_reader};
+ghost use Rattle.depot_model.specs.lists.Items.{updates_at};
+ghost use Rattle.depot_model.specs.journals.Journal.{accepted, named, value_with};
+ghost use Rattle.depot_model.specs.texts.Contents.{Writes};
+ghost use Rattle.depot_model.specs.updates.Order.{AreLatestIn};
+ghost use Rattle.depot_model.specs.readers.Readers.{Reader, kept, seen_by_reader};
 ghost use Rattle.depot_kept.specs.Values.{held_in};
 ghost use Rattle.depot_queries.specs.ShownValues.{value_seen};
 ghost use Rattle.depot_trim.specs.ReaderView.{IsReaderOf};

@@ -1,11 +1,11 @@
 //! Which nodes of the roster signed a checkpoint.
 ghost use Rattle.std.specs.Prelude.{◌≡◌, ◌<◌, ◌↔◌, length, not, IfOk, IsTrue};
 ghost use Rattle.sha2.specs.Sha256.{sha256};
-ghost use Rattle.depot_model.specs.Checkpoints.{checkpoint_key};
-ghost use Rattle.depot_model.specs.Items.{PrecedesAt};
-ghost use Rattle.depot_model.specs.Journal.{has_id};
-ghost use Rattle.depot_model.specs.Order.{past};
-ghost use Rattle.depot_model.specs.ReadTests.{is_value_of};
+ghost use Rattle.depot_model.specs.readers.Checkpoints.{checkpoint_key};
+ghost use Rattle.depot_model.specs.lists.Items.{PrecedesAt};
+ghost use Rattle.depot_model.specs.journals.Journal.{has_id};
+ghost use Rattle.depot_model.specs.updates.Order.{past};
+ghost use Rattle.depot_model.specs.worlds.ReadTests.{is_value_of};
 ghost use Rattle.depot_trim.specs.Trimmings.{IsAnswerAt, first_unsigned, has_all_in_past, has_signed, ids_in, signs_as};
 
 use crate::keys::checkpoint_key;

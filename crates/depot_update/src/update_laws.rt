@@ -3,8 +3,8 @@ ghost use Rattle.std.specs.Prelude.{◌≡◌, ◌↔◌};
 ghost use Rattle.depot_base.specs.Reading.{IsPrefixFree, IsReadInOneWay, IsClosedReadInOneWay};
 ghost use Rattle.depot_base.specs.declared.update.Update.{Update};
 ghost use Rattle.depot_base.specs.declared.statement.Statement.TheVariants as statements;
-ghost use Rattle.depot_model.specs.Texts.{update_body, statement, signed, proof, IsUpdate, IsStatement, text_of_update, text_of_statement};
-ghost use Rattle.depot_model.specs.Records.{record_text};
+ghost use Rattle.depot_model.specs.texts.Texts.{update_body, statement, signed, proof, IsUpdate, IsStatement, text_of_update, text_of_statement};
+ghost use Rattle.depot_model.specs.texts.Records.{record_text};
 
 /// No body of an update is a prefix of the body of another.
 pub fn updates_are_prefix_free()

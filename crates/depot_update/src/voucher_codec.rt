@@ -3,7 +3,7 @@ ghost use Rattle.std.specs.Prelude.{◌≡◌, ◌++◌, OnOk};
 ghost use Rattle.depot_base.specs.Parts.{digests};
 ghost use Rattle.depot_base.specs.Format.{whole};
 ghost use Rattle.depot_base.specs.Reading.{Reads, Gives};
-ghost use Rattle.depot_model.specs.Texts.{voucher_fields, voucher_body};
+ghost use Rattle.depot_model.specs.texts.Texts.{voucher_fields, voucher_body};
 
 use depot_base::entry::{entries_in, put_entries};
 use depot_base::fault::Fault;
@@ -22,7 +22,7 @@ fn ids_in(alloc: Global, fields: &mut Fields<'_>, count: u16) -> Result<Ids, Fau
 }
 
 /// Reads the fields of a voucher after its version and kind.
-#[tactic(auto, unfolding(depot_model::specs::Texts::voucher_fields))]
+#[tactic(auto, unfolding(depot_model::specs::texts::Texts::voucher_fields))]
 pub(crate) fn voucher_fields_in(alloc: Global, fields: &mut Fields<'_>) -> Result<Voucher, Fault>
     ensures { Reads result fields.new (voucher_fields.read fields.old) }
 {
@@ -34,7 +34,7 @@ pub(crate) fn voucher_fields_in(alloc: Global, fields: &mut Fields<'_>) -> Resul
 }
 
 /// Reads the body of a voucher, where nothing else may be.
-#[tactic(auto, unfolding(depot_model::specs::Texts::voucher_body))]
+#[tactic(auto, unfolding(depot_model::specs::texts::Texts::voucher_body))]
 fn voucher_in(alloc: Global, fields: &mut Fields<'_>) -> Result<Voucher, Fault>
     ensures { Reads result fields.new (voucher_body.read fields.old) }
 {
@@ -52,7 +52,7 @@ pub(crate) fn whole_voucher(alloc: Global, fields: &mut Fields<'_>) -> Result<Vo
 }
 
 /// Writes the fields of a voucher after its version and kind.
-#[tactic(auto, using(depot_base::proofs::Writing::texts), unfolding(depot_model::specs::Texts::voucher_fields, depot_base::specs::Format::number, depot_base::specs::Format::list_of))]
+#[tactic(auto, using(depot_base::proofs::Writing::texts), unfolding(depot_model::specs::texts::Texts::voucher_fields, depot_base::specs::Format::number, depot_base::specs::Format::list_of))]
 pub(crate) fn put_voucher_fields(out: &mut Bytes, voucher: &Voucher) -> Result<(), Memory>
     requires { voucher_fields.fits voucher.now }
     ensures { OnOk result (out.new ≡ out.old ++ voucher_fields.text voucher.now) }
@@ -65,7 +65,7 @@ pub(crate) fn put_voucher_fields(out: &mut Bytes, voucher: &Voucher) -> Result<(
 }
 
 /// Writes the body of a voucher.
-#[tactic(auto, using(depot_base::proofs::Writing::texts), unfolding(depot_model::specs::Texts::voucher_body, depot_base::specs::Format::number))]
+#[tactic(auto, using(depot_base::proofs::Writing::texts), unfolding(depot_model::specs::texts::Texts::voucher_body, depot_base::specs::Format::number))]
 pub(crate) fn put_voucher(out: &mut Bytes, voucher: &Voucher) -> Result<(), Memory>
     requires { voucher_body.fits voucher.now }
     ensures { OnOk result (out.new ≡ out.old ++ voucher_body.text voucher.now) }

@@ -1,7 +1,7 @@
 -- What a note does to a node.
 use Rattle.std.specs.Prelude.{◌≡◌, ℕ, List, ◌++◌}
 use Rattle.depot_base.specs.Writes.{one_change}
-use Rattle.depot_model.specs.Putting.{put_records}
+use Rattle.depot_model.specs.checks.Putting.{put_records}
 use Rattle.depot_model.specs.declared.node_state.NodeState.{Ghosts}
 
 -- The journal has grown by the next own update, which gives the key this value.

@@ -1,7 +1,7 @@
 //! Whom a proof convicts.
 ghost use Rattle.std.specs.Prelude.{IfOk, IfSome};
 ghost use Rattle.depot_base.specs.declared.proof.Kind.{Kind};
-ghost use Rattle.depot_model.specs.Conviction.{Convicts};
+ghost use Rattle.depot_model.specs.updates.Conviction.{Convicts};
 
 use depot_base::{Memory, NodeId};
 use depot_judge::judge;

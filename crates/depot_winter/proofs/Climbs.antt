@@ -2,7 +2,7 @@
 use Rattle.std.proofs.Common.{◌≡◌, ℕ, suc, ◌+◌, ◌-◌, ◌*◌, ◌/◌, ◌%◌, ◌<◌, ◌≤◌, ◌⊎◌, inl, inr, List, take, drop, arith, if◌then◌else◌, ◌==◌}
 use Rattle.std.proofs.lemmas.List.{drop-drop}
 use Rattle.std.proofs.lemmas.Bool.{cases_eq, cond-true, cond-false, eq-eqb, ne_eqb}
-use Rattle.depot_model.specs.Winternitz.{climb, inner_node, sibling}
+use Rattle.depot_model.specs.texts.Winternitz.{climb, inner_node, sibling}
 
 -- a left child has its sibling after it, and a right child before it
 pub sibling_cases : (k : ℕ) → ((k % 2 ≡ 0) × (sibling k ≡ k + 1)) ⊎ ((k % 2 ≡ 1) × (sibling k ≡ k - 1))

@@ -4,7 +4,7 @@ use Rattle.std.specs.List.{flat_map}
 use Rattle.std.proofs.lemmas.List.{take-append-drop, length-take, length-drop, length-append, set-append_right, take_all, take_at}
 use Rattle.std.proofs.lemmas.List.Elements.{All-nil, All-cons, All-head, All-tail, All-append, All-from_get_or, All-take, All-same}
 use Rattle.std.proofs.lemmas.List.Sums.{sum_by-cons}
-use Rattle.depot_model.specs.Winternitz.{nibbles, checksum, three_digits, digits_of}
+use Rattle.depot_model.specs.texts.Winternitz.{nibbles, checksum, three_digits, digits_of}
 
 -- what a digest is: 32 bytes
 pub record IsDigest (digest : List ℕ) : Type 0 where

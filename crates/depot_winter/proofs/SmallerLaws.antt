@@ -4,7 +4,7 @@ use Rattle.std.specs.List.{flat_map}
 use Rattle.std.proofs.lemmas.List.{get_or_append_left, get_or-append_right, get_or_past}
 use Rattle.std.proofs.lemmas.List.Elements.{All-head, All-tail}
 use Rattle.std.proofs.lemmas.Bool.{cases_lt}
-use Rattle.depot_model.specs.Winternitz.{nibbles, checksum, three_digits, digits_of}
+use Rattle.depot_model.specs.texts.Winternitz.{nibbles, checksum, three_digits, digits_of}
 use Rattle.depot_winter.specs.Smaller.{HasSmallerDigit}
 use Rattle.depot_winter.proofs.DigitLemmas.{IsDigest, digest_from_digits, length-nibbles, length-digits_of, checksum-cons}
 

@@ -1,6 +1,6 @@
 -- How two digests compare, digit by digit.
 use Rattle.std.specs.Prelude.{ℕ, ◌<◌, List, slice_index}
-use Rattle.depot_model.specs.Winternitz.{digits_of}
+use Rattle.depot_model.specs.texts.Winternitz.{digits_of}
 
 -- at this place the second digest's digit is smaller than the first's
 abbrev pub IsSmallerAt : List ℕ → List ℕ → ℕ → Type 0

@@ -1,6 +1,6 @@
 //! The digits of a digest, in base 16.
 ghost use Rattle.std.specs.Prelude.{◌≡◌, ◌≢◌, ◌<◌, ◌↔◌, All, IfSome, IsNone};
-ghost use Rattle.depot_model.specs.Winternitz.{digits_of};
+ghost use Rattle.depot_model.specs.texts.Winternitz.{digits_of};
 ghost use Rattle.depot_winter.specs.Smaller.{HasSmallerDigit, IsFirstSmaller};
 
 use depot_base::Hash32;

@@ -2,7 +2,7 @@
 ghost use Rattle.std.specs.Prelude.{◌≡◌, ◌+◌, ◌*◌, ◌<◌, ◌≤◌, ◌++◌, true, OnOk};
 ghost use Rattle.depot_base.specs.declared.limits.TheConstants.{BOTTOM_HEIGHT};
 ghost use Rattle.depot_model.specs.declared.layer.Layer.TheVariants.{Bottom};
-ghost use Rattle.depot_model.specs.Winternitz.{digest_of, layer_part};
+ghost use Rattle.depot_model.specs.texts.Winternitz.{digest_of, layer_part};
 ghost use Rattle.depot_winter.specs.KeptBottom.{top_part};
 
 use crate::kept_tree::Tree;

@@ -15,17 +15,17 @@ use Rattle.depot_base.specs.declared.limits.TheConstants.{MOST_VALUE}
 use Rattle.depot_base.specs.declared.statement.Signed.{Signed}
 use Rattle.depot_base.specs.declared.update.Update.{Update}
 use Rattle.depot_base.specs.declared.write.Change.{Change}
-use Rattle.depot_model.specs.Bundle.{Signs}
-use Rattle.depot_model.specs.Journal.{update_in}
-use Rattle.depot_model.specs.Judgement.{first_failed_point, verdict_of}
-use Rattle.depot_model.specs.Lines.{text_of_point, text_of_verdict}
-use Rattle.depot_model.specs.Lists.{IsIn, when}
-use Rattle.depot_model.specs.Own.{values_of}
-use Rattle.depot_model.specs.ReaderFeeds.{reader_feed_of}
-use Rattle.depot_model.specs.Readers.{Reader, trim_of}
-use Rattle.depot_model.specs.Texts.{id_of_update}
+use Rattle.depot_model.specs.exchange.Bundle.{Signs}
+use Rattle.depot_model.specs.journals.Journal.{update_in}
+use Rattle.depot_model.specs.updates.Judgement.{first_failed_point, verdict_of}
+use Rattle.depot_model.specs.texts.Lines.{text_of_point, text_of_verdict}
+use Rattle.depot_model.specs.lists.Lists.{IsIn, when}
+use Rattle.depot_model.specs.checks.Own.{values_of}
+use Rattle.depot_model.specs.readers.ReaderFeeds.{reader_feed_of}
+use Rattle.depot_model.specs.readers.Readers.{Reader, trim_of}
+use Rattle.depot_model.specs.texts.Texts.{id_of_update}
 use Rattle.depot_model.specs.declared.judgement.JudgeError.{JudgeError}
-use Rattle.depot_model.proofs.Members.{map_same}
+use Rattle.depot_model.proofs.lists.Members.{map_same}
 use Rattle.depot_schedule.specs.EventWords.{first_or}
 use Rattle.depot_schedule.specs.declared.event.Event.{Event}
 use Rattle.depot_schedule.specs.declared.event.Event.TheVariants as event
@@ -34,7 +34,7 @@ use Rattle.depot_schedule.specs.declared.event.Ref.{Ref}
 use Rattle.depot_schedule.specs.declared.event.Ref.TheVariants as ref
 use Rattle.depot_answers.specs.AnswerTexts.{spaced}
 use Rattle.depot_world.specs.Audits.{IsSound, audited}
-use Rattle.depot_model.specs.Vouching.{rising}
+use Rattle.depot_model.specs.checks.Vouching.{rising}
 use Rattle.depot_requests.specs.Effects.{Effect}
 use Rattle.depot_requests.specs.Requests.{effect_of}
 use Rattle.depot_requests.specs.declared.request.Request.{Request}

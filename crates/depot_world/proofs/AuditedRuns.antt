@@ -5,28 +5,28 @@ use Rattle.std.specs.List.{flat_map}
 use Rattle.depot_base.specs.declared.key.RosterEntry.{RosterEntry}
 use Rattle.depot_base.specs.declared.record.Record.{Record}
 use Rattle.depot_base.specs.declared.update.Update.{Update}
-use Rattle.depot_model.specs.Audit.{Op, Finding, yes_found, unlawful, answer_found, circle_found, unordered_found, unseen_found, wrong_found, split_found, named_found, observed, operations, op_of, reads_of, pair_of, circle, is_unordered, unordered, is_unseen_by, unseen, is_exact, wrong_at, wrong, first_break, split_finding, names_one_of, named_node, finding_in}
-use Rattle.depot_model.specs.Causality.{Operation, write, read_at}
-use Rattle.depot_model.specs.Checks.{Setting}
-use Rattle.depot_model.specs.Items.{AreDistinct}
-use Rattle.depot_model.specs.Journal.{accepted, convicted, seen_under}
-use Rattle.depot_model.specs.Insertion.{insert_by, order_by}
-use Rattle.depot_model.specs.LatestList.{latest_in}
-use Rattle.depot_model.specs.Lawful.{IsLawful}
-use Rattle.depot_model.specs.Lists.{IsIn, first}
-use Rattle.depot_model.specs.Order.{Precedes}
-use Rattle.depot_model.specs.Roster.{Verifies, has_node}
-use Rattle.depot_model.specs.ShownWrites.{shown_of}
-use Rattle.depot_model.specs.Traces.{ReadTrace, Trace, answered, AreRightReads, traced_node, put_by_node, by_node, AreNodesOf, AreTraced, IsFindingOf}
-use Rattle.depot_model.specs.World.{Shown, Read, Correct, World, setting_of, IsRead, NeverFall, IsCorrect, IsWorld}
-use Rattle.depot_model.proofs.FirstLaws.{Shows, shows_when, shows_map, shows_first}
-use Rattle.depot_model.proofs.InsertionLaws.{from_order}
-use Rattle.depot_model.proofs.LatestLaws.{one_latest_list}
-use Rattle.depot_model.proofs.LatestWrites.{latest_are_listed}
-use Rattle.depot_model.proofs.Members.{all_at, from_map}
-use Rattle.depot_laws.proofs.Causes.{lawful_is_causal}
-use Rattle.depot_laws.proofs.OneFinding.{one_finding}
-use Rattle.depot_laws.proofs.Splits.{lawful_front}
+use Rattle.depot_model.specs.worlds.Audit.{Op, Finding, yes_found, unlawful, answer_found, circle_found, unordered_found, unseen_found, wrong_found, split_found, named_found, observed, operations, op_of, reads_of, pair_of, circle, is_unordered, unordered, is_unseen_by, unseen, is_exact, wrong_at, wrong, first_break, split_finding, names_one_of, named_node, finding_in}
+use Rattle.depot_model.specs.worlds.Causality.{Operation, write, read_at}
+use Rattle.depot_model.specs.checks.Checks.{Setting}
+use Rattle.depot_model.specs.lists.Items.{AreDistinct}
+use Rattle.depot_model.specs.journals.Journal.{accepted, convicted, seen_under}
+use Rattle.depot_model.specs.lists.Insertion.{insert_by, order_by}
+use Rattle.depot_model.specs.updates.LatestList.{latest_in}
+use Rattle.depot_model.specs.journals.Lawful.{IsLawful}
+use Rattle.depot_model.specs.lists.Lists.{IsIn, first}
+use Rattle.depot_model.specs.updates.Order.{Precedes}
+use Rattle.depot_model.specs.texts.Roster.{Verifies, has_node}
+use Rattle.depot_model.specs.journals.ShownWrites.{shown_of}
+use Rattle.depot_model.specs.worlds.Traces.{ReadTrace, Trace, answered, AreRightReads, traced_node, put_by_node, by_node, AreNodesOf, AreTraced, IsFindingOf}
+use Rattle.depot_model.specs.worlds.World.{Shown, Read, Correct, World, setting_of, IsRead, NeverFall, IsCorrect, IsWorld}
+use Rattle.depot_model.proofs.lists.FirstLaws.{Shows, shows_when, shows_map, shows_first}
+use Rattle.depot_model.proofs.lists.InsertionLaws.{from_order}
+use Rattle.depot_model.proofs.of_updates.LatestLaws.{one_latest_list}
+use Rattle.depot_model.proofs.of_updates.LatestWrites.{latest_are_listed}
+use Rattle.depot_model.proofs.lists.Members.{all_at, from_map}
+use Rattle.depot_laws.proofs.records.Causes.{lawful_is_causal}
+use Rattle.depot_laws.proofs.of_audits.OneFinding.{one_finding}
+use Rattle.depot_laws.proofs.lists.Splits.{lawful_front}
 use Rattle.depot_world.specs.Audits.{traced_read, trace_by, comes_before, traces_by, audited}
 use Rattle.depot_world.specs.Run.{Run, Host, world_by}
 use Rattle.depot_world.specs.Setups.{Setup}

@@ -6,19 +6,19 @@ use Rattle.sha2.specs.Sha256.{sha256}
 use Rattle.depot_base.specs.declared.record.Record.{Record}
 use Rattle.depot_base.specs.declared.update.Update.{Update}
 use Rattle.depot_model.specs.declared.hello.HelloLeaf.{HelloLeaf}
-use Rattle.depot_model.specs.Checkpoints.{checkpoint_key, text_of_checkpoint}
-use Rattle.depot_model.specs.Checks.{Setting}
-use Rattle.depot_model.specs.Hello.{named_leaf}
-use Rattle.depot_model.specs.History.{leaves_of, by_id}
-use Rattle.depot_model.specs.Journal.{accepted}
-use Rattle.depot_model.specs.Lists.{IsIn}
-use Rattle.depot_model.specs.Opening.{no_leaves, many_leaves, made_text, make_of, checkpoint_of}
-use Rattle.depot_model.specs.Texts.{hash_of_roster, text_of_roster}
-use Rattle.depot_model.proofs.Members.{from_map}
+use Rattle.depot_model.specs.readers.Checkpoints.{checkpoint_key, text_of_checkpoint}
+use Rattle.depot_model.specs.checks.Checks.{Setting}
+use Rattle.depot_model.specs.exchange.Hello.{named_leaf}
+use Rattle.depot_model.specs.updates.History.{leaves_of, by_id}
+use Rattle.depot_model.specs.journals.Journal.{accepted}
+use Rattle.depot_model.specs.lists.Lists.{IsIn}
+use Rattle.depot_model.specs.readers.Opening.{no_leaves, many_leaves, made_text, make_of, checkpoint_of}
+use Rattle.depot_model.specs.texts.Texts.{hash_of_roster, text_of_roster}
+use Rattle.depot_model.proofs.lists.Members.{from_map}
 use Rattle.depot_requests.specs.Effects.{checkpoint_changes}
-use Rattle.depot_world.proofs.ByteOwn.{IsByteChange}
-use Rattle.depot_world.proofs.ByteTexts.{only_checkpoint, only_id}
-use Rattle.depot_world.proofs.OnlyBytes.{OnlyBytes, only_both, only_sha256}
+use Rattle.depot_world.proofs.of_bytes.ByteOwn.{IsByteChange}
+use Rattle.depot_world.proofs.of_bytes.ByteTexts.{only_checkpoint, only_id}
+use Rattle.depot_world.proofs.of_bytes.OnlyBytes.{OnlyBytes, only_both, only_sha256}
 
 only_key : (text : List ℕ) → OnlyBytes (checkpoint_key text)
 unfolding checkpoint_key

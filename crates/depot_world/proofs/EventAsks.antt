@@ -2,9 +2,9 @@
 use Rattle.std.proofs.Common.{◌≡◌, ℕ, ◌≤◌, List, length, Option, Some, None, refl, arith}
 use Rattle.std.specs.Prelude.{IfSome, map, option_map}
 use Rattle.depot_base.specs.declared.update.Update.{Update}
-use Rattle.depot_laws.proofs.RisingBytes.{rising_rises, rising_short, rising_some}
-use Rattle.depot_model.specs.Texts.{id_of_update}
-use Rattle.depot_model.specs.Vouching.{rising}
+use Rattle.depot_laws.proofs.lists.RisingBytes.{rising_rises, rising_short, rising_some}
+use Rattle.depot_model.specs.texts.Texts.{id_of_update}
+use Rattle.depot_model.specs.checks.Vouching.{rising}
 use Rattle.depot_requests.specs.Requests.{AreIds, IsRequest}
 use Rattle.depot_requests.specs.declared.request.Request.{Request}
 use Rattle.depot_requests.specs.declared.request.Request.TheVariants as request
@@ -13,9 +13,9 @@ use Rattle.depot_schedule.specs.declared.event.Event.TheVariants as event
 use Rattle.depot_world.specs.EventRequests.{piece_of, request_in}
 use Rattle.depot_world.specs.FaultySigning.{all_referred}
 use Rattle.depot_world.specs.Run.{Run, referred}
-use Rattle.depot_world.proofs.ByteLabels.{LabelsHold, bytes_hold}
+use Rattle.depot_world.proofs.of_bytes.ByteLabels.{LabelsHold, bytes_hold}
 use Rattle.depot_world.proofs.EventFacts.{BringsBytes}
-use Rattle.depot_world.proofs.GoodRequests.{IsByteRequest, IsGoodRequest}
+use Rattle.depot_world.proofs.of_worlds.GoodRequests.{IsByteRequest, IsGoodRequest}
 use Rattle.depot_world.proofs.ReceiptChanges.{ids_of, many_ids, receipts_are_bytes, receipts_are_changes, referred_as_many}
 
 some_piece : (size : Option ℕ) → IfSome size (λ n. 1 ≤ n) → 1 ≤ piece_of size

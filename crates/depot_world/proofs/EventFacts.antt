@@ -7,7 +7,7 @@ use Rattle.std.specs.Prelude.{IfSome}
 use Rattle.std.proofs.lemmas.Bool.{leb-true}
 use Rattle.depot_base.specs.Writes.{one_change}
 use Rattle.depot_base.specs.declared.write.Change.{Change}
-use Rattle.depot_model.specs.Changes.{AreChanges}
+use Rattle.depot_model.specs.updates.Changes.{AreChanges}
 use Rattle.depot_schedule.specs.declared.event.Event.{Event}
 use Rattle.depot_schedule.specs.declared.event.Event.TheVariants as event
 use Rattle.depot_lines.specs.declared.changes.Keys.{Keys}
@@ -23,8 +23,8 @@ use Rattle.depot_lines.specs.Vocabulary.{key_by, value, raw_bytes, changes, Fits
 use Rattle.depot_schedule.specs.EventWords.{FitsHistory}
 use Rattle.depot_lines.specs.PutKeys.{WriteNoReceipts}
 use Rattle.depot_lines.proofs.ChangeWords.{changes_are, one_is, put_no_receipt, puts_no_receipts}
-use Rattle.depot_world.proofs.ByteOwn.{IsByteChange}
-use Rattle.depot_world.proofs.OnlyBytes.{OnlyBytes, from_places}
+use Rattle.depot_world.proofs.of_bytes.ByteOwn.{IsByteChange}
+use Rattle.depot_world.proofs.of_bytes.OnlyBytes.{OnlyBytes, from_places}
 
 -- changes that a node may be asked for, of bytes
 pub record AreByteChanges (cs : List Change) : Type 0 where

@@ -6,36 +6,36 @@ use Rattle.depot_base.specs.Format.{number, bytes_of, inner, list_of}
 use Rattle.depot_base.specs.Parts.{dep, roster_entry}
 use Rattle.depot_base.specs.Zeros.{zeros}
 use Rattle.depot_base.specs.declared.update.Update.{Update}
-use Rattle.depot_model.specs.Causality.{IsForkJoinCausal, ConvictsNoCorrectNode}
-use Rattle.depot_model.specs.Checkpoints.{is_checkpoint_key}
-use Rattle.depot_model.specs.History.{leaves_of, put_by_id, by_id, history_text, history_hash}
-use Rattle.depot_model.specs.Journal.{has_id, prev_of, named, first_values}
-use Rattle.depot_model.specs.Limits.{spent_by, tips_of, collides_by, limit_of_own, limit_of_put}
-use Rattle.depot_model.specs.Lists.{IsIn}
-use Rattle.depot_model.specs.Order.{past}
-use Rattle.depot_model.specs.Own.{precedes_named, next_entries, next_own, leaf_count}
-use Rattle.depot_model.specs.Plain.{plain_root}
-use Rattle.depot_model.specs.Receipts.{receipt_of}
-use Rattle.depot_model.specs.Records.{birth, own_put, tagged, record_text}
-use Rattle.depot_model.specs.Room.{foreign_leaves, full_with}
-use Rattle.depot_model.specs.Roster.{key_of}
-use Rattle.depot_model.specs.Texts.{update_fields, update_body, roster, id_of_update, hash_of_roster, text_of_update}
-use Rattle.depot_model.specs.World.{Correct, Read, IsAuthentic, IsCollisionFree, writes_of, hashed_texts, signed_met}
-use Rattle.depot_model.proofs.Members.{in_map}
-use Rattle.depot_laws.proofs.Worlds.{body_hashed}
+use Rattle.depot_model.specs.worlds.Causality.{IsForkJoinCausal, ConvictsNoCorrectNode}
+use Rattle.depot_model.specs.readers.Checkpoints.{is_checkpoint_key}
+use Rattle.depot_model.specs.updates.History.{leaves_of, put_by_id, by_id, history_text, history_hash}
+use Rattle.depot_model.specs.journals.Journal.{has_id, prev_of, named, first_values}
+use Rattle.depot_model.specs.checks.Limits.{spent_by, tips_of, collides_by, limit_of_own, limit_of_put}
+use Rattle.depot_model.specs.lists.Lists.{IsIn}
+use Rattle.depot_model.specs.updates.Order.{past}
+use Rattle.depot_model.specs.checks.Own.{precedes_named, next_entries, next_own, leaf_count}
+use Rattle.depot_model.specs.texts.Plain.{plain_root}
+use Rattle.depot_model.specs.worlds.Receipts.{receipt_of}
+use Rattle.depot_model.specs.texts.Records.{birth, own_put, tagged, record_text}
+use Rattle.depot_model.specs.checks.Room.{foreign_leaves, full_with}
+use Rattle.depot_model.specs.texts.Roster.{key_of}
+use Rattle.depot_model.specs.texts.Texts.{update_fields, update_body, roster, id_of_update, hash_of_roster, text_of_update}
+use Rattle.depot_model.specs.worlds.World.{Correct, Read, IsAuthentic, IsCollisionFree, writes_of, hashed_texts, signed_met}
+use Rattle.depot_model.proofs.lists.Members.{in_map}
+use Rattle.depot_laws.proofs.of_worlds.Worlds.{body_hashed}
 use Rattle.depot_schedule.specs.declared.event.Event.TheVariants as event
 use Rattle.depot_schedule.specs.declared.schedule.Schedule.{Schedule}
 use Rattle.depot_schedule.specs.EventLines.{put_line, get_line}
 use Rattle.depot_schedule.specs.Schedules.{IsSchedule}
 use Rattle.depot_requests.specs.Requests.{effect_of, served}
-use Rattle.depot_model.specs.Insertion.{insert_by, order_by}
-use Rattle.depot_model.specs.LatestList.{latest_in}
+use Rattle.depot_model.specs.lists.Insertion.{insert_by, order_by}
+use Rattle.depot_model.specs.updates.LatestList.{latest_in}
 use Rattle.depot_world.specs.Run.{run_of, world_by, host_in, seen_with, put_host, with_host}
 use Rattle.depot_world.specs.ScheduleStops.{event_result}
 use Rattle.depot_world.specs.Setups.{suite_of, seed_of, setup_of}
 use Rattle.depot_world.specs.Transcript.{done_at_node, done, run_after, world_of}
-use Rattle.depot_world.proofs.GoodWorlds.{schedule_world_is_causal, schedule_world_convicts_none}
-use Rattle.depot_world.proofs.OnlyBytes.{by_places}
+use Rattle.depot_world.proofs.of_worlds.GoodWorlds.{schedule_world_is_causal, schedule_world_convicts_none}
+use Rattle.depot_world.proofs.of_bytes.OnlyBytes.{by_places}
 
 -- one node puts, and reads what it put
 abbrev pub put_and_get : Schedule

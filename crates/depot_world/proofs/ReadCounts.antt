@@ -3,15 +3,15 @@ use Rattle.std.proofs.Common.{◌≡◌, ◌-◌, ℕ, ◌+◌, ◌≤◌, Bool,
 use Rattle.depot_base.specs.Writes.{one_change}
 use Rattle.depot_base.specs.declared.proof.Proof.{Proof}
 use Rattle.depot_base.specs.declared.update.Update.{Update}
-use Rattle.depot_model.specs.Bundle.{Signs}
-use Rattle.depot_model.specs.Checks.{Setting}
-use Rattle.depot_model.specs.Judgement.{first_failed_point, verdict_of}
-use Rattle.depot_model.specs.Lines.{text_of_point, text_of_verdict}
-use Rattle.depot_model.specs.Lists.{IsIn}
-use Rattle.depot_model.specs.Own.{values_of}
-use Rattle.depot_model.specs.ReaderFeeds.{reader_feed_of}
-use Rattle.depot_model.specs.Readers.{Reader, trim_of}
-use Rattle.depot_model.specs.World.{Correct, Read}
+use Rattle.depot_model.specs.exchange.Bundle.{Signs}
+use Rattle.depot_model.specs.checks.Checks.{Setting}
+use Rattle.depot_model.specs.updates.Judgement.{first_failed_point, verdict_of}
+use Rattle.depot_model.specs.texts.Lines.{text_of_point, text_of_verdict}
+use Rattle.depot_model.specs.lists.Lists.{IsIn}
+use Rattle.depot_model.specs.checks.Own.{values_of}
+use Rattle.depot_model.specs.readers.ReaderFeeds.{reader_feed_of}
+use Rattle.depot_model.specs.readers.Readers.{Reader, trim_of}
+use Rattle.depot_model.specs.worlds.World.{Correct, Read}
 use Rattle.depot_model.specs.declared.judgement.JudgeError.{JudgeError}
 use Rattle.depot_answers.specs.AnswerTexts.{spaced}
 use Rattle.depot_requests.specs.Requests.{effect_of, reads_after}
@@ -28,7 +28,7 @@ use Rattle.depot_world.specs.Run.{PendingStop, Host, Run, bytes_of_label, reader
 use Rattle.depot_world.specs.ScheduleStops.{EventResult, journal_left, stopped_with, result_by, result_pending, event_result}
 use Rattle.depot_world.specs.Setups.{Setup, stands_on, signs_on}
 use Rattle.depot_world.specs.Transcript.{Done, pending_at, done_at_node, done_by_node, done_by_update, done, judged_with, asked_for, run_after, trimmed_with, trim_at, reader_told, tgive_by}
-use Rattle.depot_world.proofs.GoodRuns.{numbers_of, found_is, from_put_host, same_numbers}
+use Rattle.depot_world.proofs.of_worlds.GoodRuns.{numbers_of, found_is, from_put_host, same_numbers}
 
 -- ---- lists
 

@@ -6,21 +6,21 @@ use Rattle.sha2.proofs.Facts256.{length-sha256}
 use Rattle.depot_base.specs.Sized.{IsKey, IsValue}
 use Rattle.depot_base.specs.Writes.{value_in_change}
 use Rattle.depot_base.specs.declared.update.Update.{Update}
-use Rattle.depot_model.specs.Changes.{AreChanges}
-use Rattle.depot_model.specs.Lists.{IsIn}
-use Rattle.depot_model.specs.Receipts.{receipt_key, receipt_changes}
-use Rattle.depot_model.specs.Texts.{id_of_update, text_of_update}
-use Rattle.depot_model.specs.Vouching.{rising}
-use Rattle.depot_model.proofs.Members.{from_map}
-use Rattle.depot_laws.proofs.TrueReceipts.{keys_rise}
-use Rattle.depot_laws.proofs.Groups.{from_rising}
-use Rattle.depot_laws.proofs.RisingBytes.{rising_rises, rising_short, rising_some}
+use Rattle.depot_model.specs.updates.Changes.{AreChanges}
+use Rattle.depot_model.specs.lists.Lists.{IsIn}
+use Rattle.depot_model.specs.worlds.Receipts.{receipt_key, receipt_changes}
+use Rattle.depot_model.specs.texts.Texts.{id_of_update, text_of_update}
+use Rattle.depot_model.specs.checks.Vouching.{rising}
+use Rattle.depot_model.proofs.lists.Members.{from_map}
+use Rattle.depot_laws.proofs.of_audits.TrueReceipts.{keys_rise}
+use Rattle.depot_laws.proofs.lists.Groups.{from_rising}
+use Rattle.depot_laws.proofs.lists.RisingBytes.{rising_rises, rising_short, rising_some}
 use Rattle.depot_schedule.specs.declared.event.Ref.{Ref}
 use Rattle.depot_world.specs.FaultySigning.{all_of, all_referred}
 use Rattle.depot_world.specs.Run.{Run, referred}
-use Rattle.depot_world.proofs.ByteOwn.{IsByteChange}
-use Rattle.depot_world.proofs.ByteTexts.{only_id}
-use Rattle.depot_world.proofs.OnlyBytes.{OnlyBytes, only_both}
+use Rattle.depot_world.proofs.of_bytes.ByteOwn.{IsByteChange}
+use Rattle.depot_world.proofs.of_bytes.ByteTexts.{only_id}
+use Rattle.depot_world.proofs.of_bytes.OnlyBytes.{OnlyBytes, only_both}
 
 -- ---- ids that rise
 

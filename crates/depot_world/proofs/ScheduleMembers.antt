@@ -3,9 +3,9 @@ use Rattle.std.proofs.Common.{◌≡◌, ℕ, ◌+◌, ◌<◌, ◌≤◌, Bool,
 use Rattle.std.specs.Prelude.{filter}
 use Rattle.std.proofs.lemmas.Bool.{and_parts, not-true}
 use Rattle.std.proofs.lemmas.Bool.Decides.{Decides-eqb, nat_tests}
-use Rattle.depot_model.specs.Items.{AreDistinct}
-use Rattle.depot_model.specs.Lists.{IsIn}
-use Rattle.depot_model.proofs.Members.{all_at, all_from, any_from, in_left, in_last, in_map, from_map, from_filter}
+use Rattle.depot_model.specs.lists.Items.{AreDistinct}
+use Rattle.depot_model.specs.lists.Lists.{IsIn}
+use Rattle.depot_model.proofs.lists.Members.{all_at, all_from, any_from, in_left, in_last, in_map, from_map, from_filter}
 use Rattle.depot_schedule.specs.declared.member.Member.{Member}
 use Rattle.depot_schedule.specs.declared.schedule.Schedule.{Schedule}
 use Rattle.depot_schedule.specs.Schedules.{FitMembers, IsSchedule, has_correct, may_join, with_member, before_members, count_correct}

@@ -6,22 +6,22 @@ use Rattle.sha2.proofs.Facts256.{length-sha256}
 use Rattle.depot_base.specs.Format.{number, bytes_of, list_of}
 use Rattle.depot_base.specs.Parts.{roster_entry, roster_entry_rises}
 use Rattle.depot_base.specs.declared.key.RosterEntry.{RosterEntry}
-use Rattle.depot_model.specs.Items.{AreDistinct}
-use Rattle.depot_model.specs.Lists.{IsIn}
-use Rattle.depot_model.specs.Plain.{plain_root}
-use Rattle.depot_model.specs.Roster.{key_of, has_node}
-use Rattle.depot_model.specs.Texts.{roster, IsRoster}
-use Rattle.depot_model.specs.Winternitz.{node, root_layer, root_height}
-use Rattle.depot_model.proofs.Members.{from_map, all_at, all_from, in_map}
-use Rattle.depot_model.proofs.RisingLists.{RisesByTest}
-use Rattle.depot_laws.proofs.RisingBytes.{rising_follow}
+use Rattle.depot_model.specs.lists.Items.{AreDistinct}
+use Rattle.depot_model.specs.lists.Lists.{IsIn}
+use Rattle.depot_model.specs.texts.Plain.{plain_root}
+use Rattle.depot_model.specs.texts.Roster.{key_of, has_node}
+use Rattle.depot_model.specs.texts.Texts.{roster, IsRoster}
+use Rattle.depot_model.specs.texts.Winternitz.{node, root_layer, root_height}
+use Rattle.depot_model.proofs.lists.Members.{from_map, all_at, all_from, in_map}
+use Rattle.depot_model.proofs.lists.RisingLists.{RisesByTest}
+use Rattle.depot_laws.proofs.lists.RisingBytes.{rising_follow}
 use Rattle.depot_schedule.specs.declared.member.Member.{Member}
 use Rattle.depot_schedule.specs.declared.schedule.Schedule.{Schedule}
 use Rattle.depot_schedule.specs.Schedules.{IsSchedule}
-use Rattle.depot_model.proofs.TreeNodes.{length-node}
-use Rattle.depot_model.specs.Insertion.{order_by}
+use Rattle.depot_model.proofs.of_texts.TreeNodes.{length-node}
+use Rattle.depot_model.specs.lists.Insertion.{order_by}
 use Rattle.depot_world.specs.Setups.{SignatureSuite, suite_of, seed_of, roster_entry_of, is_entry_before, roster_of, setup_of}
-use Rattle.depot_model.proofs.InsertionLaws.{IsOrderOf, AllDiffer, from_order, in_order, long_order, order_rises}
+use Rattle.depot_model.proofs.lists.InsertionLaws.{IsOrderOf, AllDiffer, from_order, in_order, long_order, order_rises}
 use Rattle.depot_world.proofs.ScheduleMembers.{nodes_of, members_are, some_member}
 
 -- ---- roots

@@ -4,35 +4,35 @@ use Rattle.depot_base.specs.Closed.{rest_of}
 use Rattle.depot_base.specs.Cursor.{numeral}
 use Rattle.depot_base.specs.Format.{number, bytes_of, inner, list_of}
 use Rattle.depot_base.specs.Parts.{dep, roster_entry}
-use Rattle.depot_model.specs.Bundle.{signed_with, is_covered, candidates, records_where, values_behind, candidate_parcels, parcels, fitting, sent_for, sent_foreign, unvouched, bundle_frames, bundle_of, bundle_answer}
-use Rattle.depot_model.specs.Checkpoints.{checkpoint_key, is_checkpoint_key, checkpoint as checkpoint_format}
-use Rattle.depot_model.specs.Checks.{sight, content_checks, opponent, forked, refused_as_convicted, statement_checks, proof_checks, first_failed_check, is_known, answer_to, due, named_opponent, added, growth}
-use Rattle.depot_model.specs.Contradictions.{is_of_kind, contradicts, kind_of}
-use Rattle.depot_model.specs.Conviction.{proof_of}
-use Rattle.depot_model.specs.Feeding.{given_by, take_frame, fed_frame, fed_byte, fed, ending_of, report_of}
-use Rattle.depot_model.specs.Frames.{frame_at}
-use Rattle.depot_model.specs.Hello.{hello_leaf, hello, convicted_nodes, lacking, record_place, hello_of}
-use Rattle.depot_model.specs.History.{leaves_of, put_by_id, by_id, history_text, history_hash}
-use Rattle.depot_model.specs.Items.{places_where}
-use Rattle.depot_model.specs.Journal.{first_values, has_id, named, prev_of, is_convicted, is_vouched, holds_hash, holds, seen_under, is_wanted}
-use Rattle.depot_model.specs.Judgement.{points}
-use Rattle.depot_model.specs.Limits.{spent_by, tips_of, collides_by, limit_of_own, limit_of_put}
-use Rattle.depot_model.specs.Log.{text_of_log, firsts_behind, orphan_behind}
-use Rattle.depot_model.specs.Opening.{checkpoint_of, make_of, unknown_leaf, opened_text}
-use Rattle.depot_model.specs.Order.{past, IsCausal}
-use Rattle.depot_model.specs.Own.{precedes_named, next_entries, next_own, leaf_count}
-use Rattle.depot_model.specs.Plain.{plain_root, plain_signature, plain_verifies}
-use Rattle.depot_model.specs.Pruning.{below_of}
-use Rattle.depot_model.specs.ReaderFeeds.{frames_from, reader_fed, reader_feed_of}
-use Rattle.depot_model.specs.Readers.{kept, reader_of, unsigned_node, trim_of, told_as_node, told_of_value, reader_outcome, reader_takes, seen_by_reader}
-use Rattle.depot_model.specs.Trimming.{is_signed_by, is_trimmed, names}
-use Rattle.depot_model.specs.Records.{birth, own_put, tagged, record_text}
-use Rattle.depot_model.specs.Room.{foreign_leaves, full_with}
-use Rattle.depot_model.specs.Receipts.{receipt_of}
-use Rattle.depot_model.specs.Roster.{key_of, is_signed}
-use Rattle.depot_model.specs.Taking.{given_as, answer_to_text, growth_of_text}
-use Rattle.depot_model.specs.Texts.{update_fields, voucher_fields, update_body, voucher_body, statement, signed, proof, roster, id_of_update, id_of_statement, hash_of_roster}
-use Rattle.depot_model.specs.Vouching.{put_rising, rising, groups_behind, groups_of, new_vouchers, limit_of_new, limit_of_vouchers}
+use Rattle.depot_model.specs.exchange.Bundle.{signed_with, is_covered, candidates, records_where, values_behind, candidate_parcels, parcels, fitting, sent_for, sent_foreign, unvouched, bundle_frames, bundle_of, bundle_answer}
+use Rattle.depot_model.specs.readers.Checkpoints.{checkpoint_key, is_checkpoint_key, checkpoint as checkpoint_format}
+use Rattle.depot_model.specs.checks.Checks.{sight, content_checks, opponent, forked, refused_as_convicted, statement_checks, proof_checks, first_failed_check, is_known, answer_to, due, named_opponent, added, growth}
+use Rattle.depot_model.specs.updates.Contradictions.{is_of_kind, contradicts, kind_of}
+use Rattle.depot_model.specs.updates.Conviction.{proof_of}
+use Rattle.depot_model.specs.exchange.Feeding.{given_by, take_frame, fed_frame, fed_byte, fed, ending_of, report_of}
+use Rattle.depot_model.specs.texts.Frames.{frame_at}
+use Rattle.depot_model.specs.exchange.Hello.{hello_leaf, hello, convicted_nodes, lacking, record_place, hello_of}
+use Rattle.depot_model.specs.updates.History.{leaves_of, put_by_id, by_id, history_text, history_hash}
+use Rattle.depot_model.specs.lists.Items.{places_where}
+use Rattle.depot_model.specs.journals.Journal.{first_values, has_id, named, prev_of, is_convicted, is_vouched, holds_hash, holds, seen_under, is_wanted}
+use Rattle.depot_model.specs.updates.Judgement.{points}
+use Rattle.depot_model.specs.checks.Limits.{spent_by, tips_of, collides_by, limit_of_own, limit_of_put}
+use Rattle.depot_model.specs.texts.Log.{text_of_log, firsts_behind, orphan_behind}
+use Rattle.depot_model.specs.readers.Opening.{checkpoint_of, make_of, unknown_leaf, opened_text}
+use Rattle.depot_model.specs.updates.Order.{past, IsCausal}
+use Rattle.depot_model.specs.checks.Own.{precedes_named, next_entries, next_own, leaf_count}
+use Rattle.depot_model.specs.texts.Plain.{plain_root, plain_signature, plain_verifies}
+use Rattle.depot_model.specs.readers.Pruning.{below_of}
+use Rattle.depot_model.specs.readers.ReaderFeeds.{frames_from, reader_fed, reader_feed_of}
+use Rattle.depot_model.specs.readers.Readers.{kept, reader_of, unsigned_node, trim_of, told_as_node, told_of_value, reader_outcome, reader_takes, seen_by_reader}
+use Rattle.depot_model.specs.readers.Trimming.{is_signed_by, is_trimmed, names}
+use Rattle.depot_model.specs.texts.Records.{birth, own_put, tagged, record_text}
+use Rattle.depot_model.specs.checks.Room.{foreign_leaves, full_with}
+use Rattle.depot_model.specs.worlds.Receipts.{receipt_of}
+use Rattle.depot_model.specs.texts.Roster.{key_of, is_signed}
+use Rattle.depot_model.specs.checks.Taking.{given_as, answer_to_text, growth_of_text}
+use Rattle.depot_model.specs.texts.Texts.{update_fields, voucher_fields, update_body, voucher_body, statement, signed, proof, roster, id_of_update, id_of_statement, hash_of_roster}
+use Rattle.depot_model.specs.checks.Vouching.{put_rising, rising, groups_behind, groups_of, new_vouchers, limit_of_new, limit_of_vouchers}
 use Rattle.depot_lines.specs.declared.line_fault.LineFault.TheVariants as is
 use Rattle.depot_schedule.specs.EventLines.{put_line, puts_line, get_line, hello_line, bundle_line, give_line, restart_line, update_line, voucher_line, proof_line, judge_line, raw_line, cut_line, flip_line, join_line, stop_line, verb_named, checkpoint_line, sign_line, trim_line, tgive_line, tget_line}
 use Rattle.depot_schedule.specs.Schedules.{text_of_schedule, read_line, schedule_of}
@@ -41,8 +41,8 @@ use Rattle.depot_schedule.specs.EventWords.{named_by}
 use Rattle.depot_answers.specs.AnswerTexts.{text_of_check, text_of_limit, text_of_report, text_of_reader_feed}
 use Rattle.depot_requests.specs.Requests.{effect_of, served}
 use Rattle.depot_world.specs.ScheduleStops.{restart_by}
-use Rattle.depot_model.specs.LatestList.{latest_in}
-use Rattle.depot_model.specs.Insertion.{insert_by, order_by}
+use Rattle.depot_model.specs.updates.LatestList.{latest_in}
+use Rattle.depot_model.specs.lists.Insertion.{insert_by, order_by}
 use Rattle.depot_world.specs.Run.{run_of, world_by, host_in, made_in, referred, id_referred, seen_with, put_host, with_host, reader_in, put_reader}
 use Rattle.depot_world.specs.FaultySigning.{all_of, each_once, updated, vouched_text, proof_text, flip_at}
 use Rattle.depot_world.specs.ScheduleStops.{standing_after, event_result}

@@ -1,11 +1,11 @@
 -- The traces of correct nodes, and the world that an audit of them examines.
 use Rattle.std.specs.Prelude.{◌<◌, ◌≤◌, List, [], length, map, Bool, not, nat_lt}
 use Rattle.depot_base.specs.declared.limits.TheConstants.{MOST_CORRECT, MOST_LINES}
-use Rattle.depot_model.specs.Insertion.{order_by}
-use Rattle.depot_model.specs.Lists.{IsIn}
-use Rattle.depot_model.specs.Records.{text_of_record}
-use Rattle.depot_model.specs.Traces.{ReadTrace, Trace, answered}
-use Rattle.depot_model.specs.World.{Read, Correct, World, IsWorld}
+use Rattle.depot_model.specs.lists.Insertion.{order_by}
+use Rattle.depot_model.specs.lists.Lists.{IsIn}
+use Rattle.depot_model.specs.texts.Records.{text_of_record}
+use Rattle.depot_model.specs.worlds.Traces.{ReadTrace, Trace, answered}
+use Rattle.depot_model.specs.worlds.World.{Read, Correct, World, IsWorld}
 use Rattle.depot_world.specs.Run.{Run, Host, world_by}
 use Rattle.depot_world.specs.Setups.{Setup}
 

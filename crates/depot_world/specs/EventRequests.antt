@@ -1,8 +1,8 @@
 -- What events ask nodes for.
 use Rattle.std.specs.Prelude.{ℕ, List, Bool, true, false, map, Option, Some, None, option_map}
 use Rattle.depot_base.specs.Writes.{one_change}
-use Rattle.depot_model.specs.Texts.{id_of_update}
-use Rattle.depot_model.specs.Vouching.{rising}
+use Rattle.depot_model.specs.texts.Texts.{id_of_update}
+use Rattle.depot_model.specs.checks.Vouching.{rising}
 use Rattle.depot_requests.specs.declared.request.Request.{Request}
 use Rattle.depot_requests.specs.declared.request.Request.TheVariants as request
 use Rattle.depot_schedule.specs.declared.event.Event.{Event}

@@ -18,16 +18,16 @@ use Rattle.depot_base.specs.declared.write.Change.{Change}
 use Rattle.depot_base.specs.declared.write.Write.{Write}
 use Rattle.depot_model.specs.declared.judgement.JudgeError.{JudgeError}
 use Rattle.depot_model.specs.declared.judgement.JudgeError.TheVariants as point
-use Rattle.depot_model.specs.Bundle.{Signs, signed_with, statement_frame, value_frame, proof_frame}
-use Rattle.depot_model.specs.Frames.{text_of_frame}
-use Rattle.depot_model.specs.History.{by_id, history_hash}
-use Rattle.depot_model.specs.Judgement.{first_failed_point}
-use Rattle.depot_model.specs.Lines.{name_of_kind}
-use Rattle.depot_model.specs.Log.{firsts}
-use Rattle.depot_model.specs.Order.{past}
-use Rattle.depot_model.specs.Own.{entry_of, write_of}
-use Rattle.depot_model.specs.Texts.{proof, id_of_update}
-use Rattle.depot_model.specs.Vouching.{rising}
+use Rattle.depot_model.specs.exchange.Bundle.{Signs, signed_with, statement_frame, value_frame, proof_frame}
+use Rattle.depot_model.specs.texts.Frames.{text_of_frame}
+use Rattle.depot_model.specs.updates.History.{by_id, history_hash}
+use Rattle.depot_model.specs.updates.Judgement.{first_failed_point}
+use Rattle.depot_model.specs.texts.Lines.{name_of_kind}
+use Rattle.depot_model.specs.texts.Log.{firsts}
+use Rattle.depot_model.specs.updates.Order.{past}
+use Rattle.depot_model.specs.checks.Own.{entry_of, write_of}
+use Rattle.depot_model.specs.texts.Texts.{proof, id_of_update}
+use Rattle.depot_model.specs.checks.Vouching.{rising}
 use Rattle.depot_schedule.specs.declared.event.HistoryWord.{HistoryWord}
 use Rattle.depot_schedule.specs.declared.event.HistoryWord.TheVariants as history
 use Rattle.depot_schedule.specs.declared.event.Ref.{Ref}

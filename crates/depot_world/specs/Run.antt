@@ -9,11 +9,11 @@ use Rattle.depot_base.specs.declared.statement.Signed.{Signed}
 use Rattle.depot_base.specs.declared.proof.Proof.{Proof}
 use Rattle.depot_base.specs.declared.record.Record.{Record}
 use Rattle.depot_base.specs.declared.record.Record.TheVariants.{Birth}
-use Rattle.depot_model.specs.Journal.{accepted, own, update_in, has_id}
-use Rattle.depot_model.specs.Lists.{when}
-use Rattle.depot_model.specs.Readers.{Reader}
-use Rattle.depot_model.specs.Texts.{id_of_update, hash_of_roster}
-use Rattle.depot_model.specs.World.{World, Correct}
+use Rattle.depot_model.specs.journals.Journal.{accepted, own, update_in, has_id}
+use Rattle.depot_model.specs.lists.Lists.{when}
+use Rattle.depot_model.specs.readers.Readers.{Reader}
+use Rattle.depot_model.specs.texts.Texts.{id_of_update, hash_of_roster}
+use Rattle.depot_model.specs.worlds.World.{World, Correct}
 use Rattle.depot_schedule.specs.declared.event.Ref.{Ref}
 use Rattle.depot_schedule.specs.declared.event.Ref.TheVariants as ref
 use Rattle.depot_schedule.specs.declared.member.Member.{Member}

@@ -1,7 +1,7 @@
 -- The crash images of an event of a node.
 use Rattle.std.specs.Prelude.{ℕ, ◌+◌, ◌-◌, ◌/◌, ◌%◌, List, [], ◌∷◌, ◌++◌, length, take, drop, ◌&&◌, ◌==◌, nat_le, Option, Some, None, codes, if◌then◌else◌}
 use Rattle.depot_base.specs.declared.record.Record.{Record}
-use Rattle.depot_model.specs.World.{Correct}
+use Rattle.depot_model.specs.worlds.World.{Correct}
 use Rattle.depot_answers.specs.AnswerTexts.{spaced, text_of_number, text_of_records}
 use Rattle.depot_requests.specs.Effects.{Effect}
 use Rattle.depot_world.specs.Run.{PendingStop, Host}

@@ -3,14 +3,14 @@ use Rattle.std.specs.Prelude.{ℕ, List, ◌++◌, Bool, true, false, map, repli
 use Rattle.std.specs.Int.{w16}
 use Rattle.depot_base.specs.Cursor.{numeral}
 use Rattle.depot_base.specs.declared.key.RosterEntry.{RosterEntry}
-use Rattle.depot_model.specs.Bundle.{Signs}
-use Rattle.depot_model.specs.Checks.{Setting}
-use Rattle.depot_model.specs.Plain.{plain_root, plain_signature, plain_verifies}
-use Rattle.depot_model.specs.Roster.{Verifies}
-use Rattle.depot_model.specs.Winternitz.{root_of, winternitz_signature, winternitz_verifies}
+use Rattle.depot_model.specs.exchange.Bundle.{Signs}
+use Rattle.depot_model.specs.checks.Checks.{Setting}
+use Rattle.depot_model.specs.texts.Plain.{plain_root, plain_signature, plain_verifies}
+use Rattle.depot_model.specs.texts.Roster.{Verifies}
+use Rattle.depot_model.specs.texts.Winternitz.{root_of, winternitz_signature, winternitz_verifies}
 use Rattle.depot_schedule.specs.declared.member.Member.{Member}
 use Rattle.depot_schedule.specs.declared.schedule.Schedule.{Schedule}
-use Rattle.depot_model.specs.Insertion.{order_by}
+use Rattle.depot_model.specs.lists.Insertion.{order_by}
 
 -- What a scheme makes of a seed: how it verifies, the root of the key of a tree of this height, and the signature of a
 -- body by the leaf of a seq.

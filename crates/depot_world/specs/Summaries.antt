@@ -2,7 +2,7 @@
 use Rattle.std.specs.Prelude.{ℕ, ◌-◌, Bool, true, false, List, [], ◌∷◌, ◌++◌, length, drop, sum, sum_by, count_by, Option, Some, None, codes}
 use Rattle.std.specs.List.{list_all, filter_map}
 use Rattle.std.specs.Str.{bytes_eq}
-use Rattle.depot_model.specs.Lists.{when}
+use Rattle.depot_model.specs.lists.Lists.{when}
 use Rattle.depot_answers.specs.AnswerTexts.{text_of_number, spaced}
 use Rattle.depot_requests.specs.Effects.{ended}
 use Rattle.depot_world.specs.declared.transcript_lines.TranscriptLine.{TranscriptLine}

@@ -6,14 +6,14 @@ use Rattle.depot_base.specs.Writes.{one_change}
 use Rattle.depot_base.specs.declared.proof.Proof.{Proof}
 use Rattle.depot_base.specs.declared.update.Update.{Update}
 use Rattle.depot_base.specs.declared.write.Change.{Change}
-use Rattle.depot_model.specs.Audit.{finding_in}
-use Rattle.depot_model.specs.Bundle.{Signs}
-use Rattle.depot_model.specs.Judgement.{verdict_of}
-use Rattle.depot_model.specs.Lines.{text_of_point, text_of_verdict}
-use Rattle.depot_model.specs.Own.{values_of}
-use Rattle.depot_model.specs.ReaderFeeds.{ReaderFeed, reader_feed_of}
-use Rattle.depot_model.specs.Readers.{Reader, TrimAnswer, unopened, unsigned, reading, trim_of, shown_by_reader}
-use Rattle.depot_model.specs.World.{World}
+use Rattle.depot_model.specs.worlds.Audit.{finding_in}
+use Rattle.depot_model.specs.exchange.Bundle.{Signs}
+use Rattle.depot_model.specs.updates.Judgement.{verdict_of}
+use Rattle.depot_model.specs.texts.Lines.{text_of_point, text_of_verdict}
+use Rattle.depot_model.specs.checks.Own.{values_of}
+use Rattle.depot_model.specs.readers.ReaderFeeds.{ReaderFeed, reader_feed_of}
+use Rattle.depot_model.specs.readers.Readers.{Reader, TrimAnswer, unopened, unsigned, reading, trim_of, shown_by_reader}
+use Rattle.depot_model.specs.worlds.World.{World}
 use Rattle.depot_lines.specs.Language.{join}
 use Rattle.depot_schedule.specs.EventLines.{event_node}
 use Rattle.depot_schedule.specs.Schedules.{event_words}

@@ -9,7 +9,7 @@ use depot_base::Memory;
 use std::alloc::Global;
 
 /// The writes that each read of this key shows.
-#[tactic(auto, using(crate::proofs::KeptLoads::kept))]
+#[tactic(auto, using(crate::proofs::of_loads::KeptLoads::kept))]
 fn all_writes<'a>(
     alloc: Global,
     lines: &'a [TranscriptLine],
@@ -35,7 +35,7 @@ fn all_are(texts: &[&[u8]], text: &[u8]) -> bool
 }
 
 /// Whether these texts are the same.
-#[tactic(auto, using(crate::proofs::KeptLoads::kept))]
+#[tactic(auto, using(crate::proofs::of_loads::KeptLoads::kept))]
 fn are_same(texts: &[&[u8]]) -> bool
     ensures { result ≡ are_same (map (λ text. text.now) texts.now) }
 {
@@ -46,7 +46,7 @@ fn are_same(texts: &[&[u8]]) -> bool
 }
 
 /// Whether the last five reads of this key show the same writes.
-#[tactic(auto, using(crate::proofs::KeptLoads::kept))]
+#[tactic(auto, using(crate::proofs::of_loads::KeptLoads::kept))]
 fn agree_on(alloc: Global, lines: &[TranscriptLine], key: &[u8]) -> Result<bool, Memory>
     ensures { IfOk result (λ yes. yes ≡ agree_on key.now lines.now) }
 {

@@ -19,7 +19,7 @@ pub fn node(number: u16) -> NodeId
 }
 
 /// The key of this number.
-#[tactic(auto, using(crate::proofs::WordLaws::length_key_of))]
+#[tactic(auto, using(crate::proofs::of_loads::WordLaws::length_key_of))]
 pub fn key(alloc: Global, number: u16) -> Result<Key, Memory>
     ensures { IfOk result (λ key. key ≡ load_key number) }
 {
@@ -29,7 +29,7 @@ pub fn key(alloc: Global, number: u16) -> Result<Key, Memory>
 }
 
 /// The value of this round.
-#[tactic(auto, using(crate::proofs::WordLaws::length_value_of))]
+#[tactic(auto, using(crate::proofs::of_loads::WordLaws::length_value_of))]
 pub fn value(alloc: Global, round: u32) -> Result<Value, Memory>
     ensures { IfOk result (λ value. value ≡ value_of round) }
 {
@@ -39,7 +39,7 @@ pub fn value(alloc: Global, round: u32) -> Result<Value, Memory>
 }
 
 /// The label of a letter and a number.
-#[tactic(auto, using(crate::proofs::WordLaws::is_label_of))]
+#[tactic(auto, using(crate::proofs::of_loads::WordLaws::is_label_of))]
 pub fn label(alloc: Global, letter: u8, number: u32) -> Result<Label, Memory>
     requires { IsTrue (is_letter letter) }
     ensures { IfOk result (λ label. label ≡ label_of letter number) }

@@ -36,7 +36,7 @@ impl LoadDraft {
     }
 
     /// Draws a number below `m`.
-    #[tactic(auto, using(crate::proofs::Draws::goes_on), unfolding(crate::specs::Loads::number_at))]
+    #[tactic(auto, using(crate::proofs::of_loads::Draws::goes_on), unfolding(crate::specs::Loads::number_at))]
     pub fn draw(&mut self, m: u16) -> u16
         requires { 0 < m }
         ensures state { self.new ≡ drawn self.old }

@@ -38,7 +38,7 @@ fn all_convicted(alloc: Global, lines: &[TranscriptLine]) -> Result<Vec<u64>, Me
 }
 
 /// The sum of some numbers. It can't overflow: each is below 2^64, and so is their count.
-#[tactic(auto, using(crate::proofs::Sums::sum_more))]
+#[tactic(auto, using(crate::proofs::of_loads::Sums::sum_more))]
 fn sum_of(numbers: &[u64]) -> u128
     ensures { result ≡ sum numbers.now }
 {

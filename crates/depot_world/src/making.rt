@@ -14,7 +14,7 @@ use std::alloc::Global;
 const ROUNDS: u32 = 2000;
 
 /// Its rounds.
-#[tactic(auto, using(crate::proofs::DrawSteps::counting, crate::proofs::Updates::updates_round))]
+#[tactic(auto, using(crate::proofs::of_loads::DrawSteps::counting, crate::proofs::of_loads::Updates::updates_round))]
 fn all_rounds(alloc: Global, number: u32) -> Result<LoadDraft, Memory>
     ensures { IfOk result (λ draft. draft ≡ steps round 2000 (begun number)) }
 {
@@ -26,7 +26,7 @@ fn all_rounds(alloc: Global, number: u32) -> Result<LoadDraft, Memory>
 }
 
 /// Each node takes a bundle of each other, twice over.
-#[tactic(auto, using(crate::proofs::DrawSteps::counting))]
+#[tactic(auto, using(crate::proofs::of_loads::DrawSteps::counting))]
 fn all_exchanges(alloc: Global, draft: &mut LoadDraft) -> Result<(), Memory>
     ensures { OnOk result (draft.new ≡ steps exchange 40 draft.old) }
 {
@@ -37,7 +37,7 @@ fn all_exchanges(alloc: Global, draft: &mut LoadDraft) -> Result<(), Memory>
 }
 
 /// Each key is read by each node.
-#[tactic(auto, using(crate::proofs::DrawSteps::counting))]
+#[tactic(auto, using(crate::proofs::of_loads::DrawSteps::counting))]
 fn all_reads(alloc: Global, draft: &mut LoadDraft) -> Result<(), Memory>
     ensures { OnOk result (draft.new ≡ steps read 200 draft.old) }
 {
@@ -48,7 +48,7 @@ fn all_reads(alloc: Global, draft: &mut LoadDraft) -> Result<(), Memory>
 }
 
 /// Each node says hello.
-#[tactic(auto, using(crate::proofs::DrawSteps::counting))]
+#[tactic(auto, using(crate::proofs::of_loads::DrawSteps::counting))]
 fn all_hellos(alloc: Global, draft: &mut LoadDraft) -> Result<(), Memory>
     ensures { OnOk result (draft.new ≡ steps greet 5 draft.old) }
 {

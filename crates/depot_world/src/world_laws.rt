@@ -1,18 +1,18 @@
 //! What holds of the worlds of schedules. Each law is a function that does nothing; its contract is the law.
 ghost use Rattle.std.specs.Prelude.{◌≡◌, ℕ, List, [], ◌∷◌, take};
 ghost use Rattle.depot_base.specs.declared.update.Update.{Update};
-ghost use Rattle.depot_model.specs.Causality.{IsForkJoinCausal, ConvictsNoCorrectNode};
-ghost use Rattle.depot_model.specs.Lists.{IsIn};
-ghost use Rattle.depot_model.specs.Order.{IsCausal, AreLatestIn};
-ghost use Rattle.depot_model.specs.Receipts.{AreReceiptsTrue};
-ghost use Rattle.depot_model.specs.Audit.{Finding, finding_in};
-ghost use Rattle.depot_model.specs.Texts.{IsRoster};
-ghost use Rattle.depot_model.specs.Traces.{IsFindingOf};
-ghost use Rattle.depot_model.specs.World.{Correct, IsWorld, IsAuthentic, IsCollisionFree};
+ghost use Rattle.depot_model.specs.worlds.Causality.{IsForkJoinCausal, ConvictsNoCorrectNode};
+ghost use Rattle.depot_model.specs.lists.Lists.{IsIn};
+ghost use Rattle.depot_model.specs.updates.Order.{IsCausal, AreLatestIn};
+ghost use Rattle.depot_model.specs.worlds.Receipts.{AreReceiptsTrue};
+ghost use Rattle.depot_model.specs.worlds.Audit.{Finding, finding_in};
+ghost use Rattle.depot_model.specs.texts.Texts.{IsRoster};
+ghost use Rattle.depot_model.specs.worlds.Traces.{IsFindingOf};
+ghost use Rattle.depot_model.specs.worlds.World.{Correct, IsWorld, IsAuthentic, IsCollisionFree};
 ghost use Rattle.depot_schedule.specs.Schedules.{IsSchedule};
 ghost use Rattle.depot_schedule.specs.declared.event.Event.{Event};
 ghost use Rattle.depot_schedule.specs.declared.schedule.Schedule.{Schedule};
-ghost use Rattle.depot_model.specs.LatestList.{latest_in};
+ghost use Rattle.depot_model.specs.updates.LatestList.{latest_in};
 ghost use Rattle.depot_laws.specs.WorldFacts.{PairsConvictNoCorrectNode};
 ghost use Rattle.depot_world.specs.Audits.{IsSound, audited, traces_by};
 ghost use Rattle.depot_world.specs.Forgetting.{IsAlikeFor, GoesAlike};

@@ -1,6 +1,6 @@
 use Rattle.std.proofs.Common.{sym, ◌∙◌}
 use Rattle.depot_base.specs.declared.statement.Statement.TheVariants as statements
-use Rattle.depot_model.specs.Texts.{IsStatement}
+use Rattle.depot_model.specs.texts.Texts.{IsStatement}
 use Rattle.depot_accept.specs.OwnVouchers.{has_body_of_voucher}
 use Rattle.depot_accept.proofs.KeptStatements.{each_at, any_here, any_later, any_nowhere, voucher_bodies}
 use Rattle.depot_accept.proofs.checking.has_voucher.Goals as goal

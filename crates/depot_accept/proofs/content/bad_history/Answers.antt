@@ -1,5 +1,5 @@
 use Rattle.std.proofs.Common.{sym, subst, ◌∙◌}
-use Rattle.depot_model.specs.Checks.{sight}
+use Rattle.depot_model.specs.checks.Checks.{sight}
 use Rattle.depot_graph.specs.Kept.{updates_in}
 use Rattle.depot_graph.specs.UpdateRows.{IsJoinedRow}
 use Rattle.depot_accept.proofs.ParentItems.{right_history, history_differs, history_same}

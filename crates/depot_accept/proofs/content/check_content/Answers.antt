@@ -1,8 +1,8 @@
 use Rattle.std.proofs.Common.{ℕ, List, Ok, sym, ap, subst, ◌∙◌}
 use Rattle.std.specs.Prelude.{Option}
 use Rattle.depot_base.specs.declared.check.Check.{Check}
-use Rattle.depot_model.specs.Checks.{sight}
-use Rattle.depot_model.specs.Order.{parents}
+use Rattle.depot_model.specs.checks.Checks.{sight}
+use Rattle.depot_model.specs.updates.Order.{parents}
 use Rattle.depot_graph.specs.Kept.{updates_in}
 use Rattle.depot_graph.specs.UpdateRows.{IsJoinedRow}
 use Rattle.depot_graph.proofs.ItemPlaces.{places_within}

@@ -1,7 +1,7 @@
 use Rattle.std.proofs.Common.{◌≡◌, ◌+◌, true, false, sym, arith}
 use Rattle.std.specs.Prelude.{nat_lt}
 use Rattle.std.proofs.lemmas.Bool.Decides.{nat_tests}
-use Rattle.depot_model.specs.Order.{parents}
+use Rattle.depot_model.specs.updates.Order.{parents}
 use Rattle.depot_graph.proofs.ItemPlaces.{places_within}
 use Rattle.depot_accept.proofs.ParentItems.{far_above}
 use Rattle.depot_accept.proofs.content.clock_far.Goals as goal

@@ -1,5 +1,5 @@
 use Rattle.std.proofs.Common.{refl, sym, ◌∙◌}
-use Rattle.depot_model.specs.Order.{parents}
+use Rattle.depot_model.specs.updates.Order.{parents}
 use Rattle.depot_base.specs.declared.check.Check.TheVariants as check
 use Rattle.depot_accept.proofs.ParentItems.{place_within, low_against, low_at_items, low_told, fails_here, fails_nowhere_else}
 use Rattle.depot_accept.proofs.content.clock_low.Goals as goal

@@ -1,6 +1,6 @@
 use Rattle.std.proofs.Common.{◌≡◌, map, drop}
-use Rattle.depot_model.specs.Items.{updates_at}
-use Rattle.depot_model.specs.Lists.{first}
+use Rattle.depot_model.specs.lists.Items.{updates_at}
+use Rattle.depot_model.specs.lists.Lists.{first}
 use Rattle.depot_accept.proofs.ParentItems.{low_against}
 use Rattle.depot_accept.proofs.content.clock_low.Given as goal
 

@@ -1,5 +1,5 @@
 use Rattle.std.proofs.Common.{Some, None, ap, ◌∙◌}
-use Rattle.depot_model.specs.Checks.{sight, behind}
+use Rattle.depot_model.specs.checks.Checks.{sight, behind}
 use Rattle.depot_accept.proofs.ContentOrder.{only_prev, fails_wrong, fails_backward, fails_low, fails_far}
 use Rattle.depot_accept.proofs.content.failed_by_parents.Goals as goal
 

@@ -1,5 +1,5 @@
 use Rattle.std.proofs.Common.{◌≡◌, ◌++◌, map, drop}
-use Rattle.depot_model.specs.Items.{places_of}
+use Rattle.depot_model.specs.lists.Items.{places_of}
 use Rattle.depot_accept.proofs.ParentItems.{first_lost}
 use Rattle.depot_accept.proofs.content.find_entries.Given as goal
 

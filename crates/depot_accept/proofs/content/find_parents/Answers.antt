@@ -3,7 +3,7 @@ use Rattle.std.specs.Prelude.{Option, Result, IfOk}
 use Rattle.std.proofs.lemmas.Result.{IfOk-weaker}
 use Rattle.depot_base.specs.declared.check.Check.{Check}
 use Rattle.depot_base.specs.declared.memory.Memory.{Memory}
-use Rattle.depot_model.specs.Checks.{sight, missing}
+use Rattle.depot_model.specs.checks.Checks.{sight, missing}
 use Rattle.depot_accept.proofs.ParentItems.{first_lost, missing_prev, missing_entry, parents_found}
 use Rattle.depot_accept.proofs.content.find_parents.Goals as goal
 

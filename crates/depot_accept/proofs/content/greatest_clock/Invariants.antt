@@ -1,6 +1,6 @@
 use Rattle.std.proofs.Common.{◌≡◌, Some, map, max, drop}
-use Rattle.depot_model.specs.Items.{updates_at}
-use Rattle.depot_model.specs.Checks.{greatest_of}
+use Rattle.depot_model.specs.lists.Items.{updates_at}
+use Rattle.depot_model.specs.checks.Checks.{greatest_of}
 use Rattle.depot_accept.proofs.content.greatest_clock.Given as goal
 
 abbrev pub invariant-loop-item : goal.invariant-loop-item

@@ -1,7 +1,7 @@
 use Rattle.std.proofs.Common.{List, sym, ap, ◌∙◌}
 use Rattle.depot_base.specs.declared.update.Dep.{Dep}
-use Rattle.depot_model.specs.Lists.{first}
-use Rattle.depot_model.specs.Checks.{sight, wrong_prev, wrong_entries}
+use Rattle.depot_model.specs.lists.Lists.{first}
+use Rattle.depot_model.specs.checks.Checks.{sight, wrong_prev, wrong_entries}
 use Rattle.depot_accept.proofs.ContentOrder.{wrong_in_prev, wrong_in_entry}
 use Rattle.depot_accept.proofs.NamedUpdates.{found}
 use Rattle.depot_accept.proofs.content.wrong_dep.Goals as goal

@@ -1,5 +1,5 @@
 use Rattle.std.proofs.Common.{◌+◌, refl, sym, ap, ◌∙◌}
-use Rattle.depot_model.specs.Checks.{wrong_entry}
+use Rattle.depot_model.specs.checks.Checks.{wrong_entry}
 use Rattle.depot_accept.proofs.NamedUpdates.{wrong_here, wrong_later}
 use Rattle.depot_accept.proofs.ParentItems.{entry_named, entry_within}
 use Rattle.depot_accept.proofs.content.wrong_entries.Goals as goal

@@ -1,6 +1,6 @@
 use Rattle.std.proofs.Common.{◌≡◌, ◌+◌, drop}
-use Rattle.depot_model.specs.Lists.{first}
-use Rattle.depot_model.specs.Checks.{wrong_entries}
+use Rattle.depot_model.specs.lists.Lists.{first}
+use Rattle.depot_model.specs.checks.Checks.{wrong_entries}
 use Rattle.depot_accept.proofs.NamedUpdates.{found}
 use Rattle.depot_accept.proofs.content.wrong_entries.Given as goal
 

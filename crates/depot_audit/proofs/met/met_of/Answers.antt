@@ -4,7 +4,7 @@ use Rattle.std.specs.List.{flat_map}
 use Rattle.std.proofs.lemmas.List.{take_all}
 use Rattle.depot_base.specs.declared.record.Record.{Record}
 use Rattle.depot_base.proofs.GeneralLaws.{flat_push}
-use Rattle.depot_model.specs.World.{Correct}
+use Rattle.depot_model.specs.worlds.World.{Correct}
 use Rattle.depot_traces.specs.declared.trace.Trace.{Trace}
 use Rattle.depot_audit.specs.MetTexts.{AreTexts, IsToldBy, AreToldBy, IsMetOf}
 use Rattle.depot_audit.proofs.ListLaws.{mapped_pair_in, mapped_pair_next, pair_last, no_pairs}

@@ -1,6 +1,6 @@
 use Rattle.std.proofs.Common.{List, map, take}
 use Rattle.std.specs.List.{flat_map}
-use Rattle.depot_model.specs.World.{Correct}
+use Rattle.depot_model.specs.worlds.World.{Correct}
 use Rattle.depot_audit.specs.MetTexts.{AreToldBy, IsMetOf}
 use Rattle.depot_audit.proofs.met.met_of.Given as goal
 

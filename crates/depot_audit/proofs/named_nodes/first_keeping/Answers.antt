@@ -1,7 +1,7 @@
 use Rattle.std.proofs.Common.{◌≡◌, ◌<◌, ℕ, List, length, map, take, option_map, Some, None, sym, ap, subst, ◌∙◌, arith}
 use Rattle.std.specs.Borrow.{Bor}
 use Rattle.std.proofs.lemmas.List.{take_all}
-use Rattle.depot_model.specs.Audit.{named_found}
+use Rattle.depot_model.specs.worlds.Audit.{named_found}
 use Rattle.depot_traces.specs.declared.trace.Trace.{Trace}
 use Rattle.depot_audit.specs.Lookups.{nodes_in, accusing_in, first_accusing}
 use Rattle.depot_audit.specs.MetTexts.{AreTexts, IsToldBy, AreToldBy}

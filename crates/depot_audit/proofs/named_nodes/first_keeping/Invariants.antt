@@ -1,5 +1,5 @@
 use Rattle.std.proofs.Common.{◌≡◌, List, map, take, None}
-use Rattle.depot_model.specs.World.{Correct}
+use Rattle.depot_model.specs.worlds.World.{Correct}
 use Rattle.depot_audit.specs.Lookups.{nodes_in, first_accusing}
 use Rattle.depot_audit.specs.MetTexts.{AreToldBy}
 use Rattle.depot_audit.proofs.named_nodes.first_keeping.Given as goal

@@ -1,11 +1,11 @@
 use Rattle.std.proofs.Common.{◌≡◌, List, map, option_map, ◌∙◌}
 use Rattle.std.proofs.lemmas.Result.{IfOk-weaker}
-use Rattle.depot_model.specs.Audit.{named_node}
-use Rattle.depot_model.specs.World.{Correct, World}
+use Rattle.depot_model.specs.worlds.Audit.{named_node}
+use Rattle.depot_model.specs.worlds.World.{Correct, World}
 use Rattle.depot_traces.specs.SeenTraces.{finding_of, trace_of}
 use Rattle.depot_audit.specs.Lookups.{nodes_in, first_accusing}
 use Rattle.depot_audit.specs.MetTexts.{AreToldBy}
-use Rattle.depot_model.specs.Traces.{IsWorldOf}
+use Rattle.depot_model.specs.worlds.Traces.{IsWorldOf}
 use Rattle.depot_audit.proofs.NamedNodes.{named_is}
 use Rattle.depot_audit.proofs.NodesOfTraces.{told_in}
 use Rattle.depot_audit.proofs.named_nodes.first_named.Goals as goal

@@ -2,7 +2,7 @@ use Rattle.std.proofs.Common.{◌<◌, ℕ, List, length, map, take, Some, sym, 
 use Rattle.std.specs.Prelude.{position}
 use Rattle.std.proofs.lemmas.List.{take_all, length-take-le}
 use Rattle.depot_audit.specs.Lookups.{nodes_in, accuses_one}
-use Rattle.depot_model.specs.Records.{IsTextOf}
+use Rattle.depot_model.specs.texts.Records.{IsTextOf}
 use Rattle.depot_audit.specs.MetTexts.{AreTexts}
 use Rattle.depot_audit.proofs.ListLaws.{pair_in, pair_next, pair_last, no_pairs, same_count, place_on, place_stops}
 use Rattle.depot_audit.proofs.named_nodes.first_place.Goals as goal

@@ -1,8 +1,8 @@
 use Rattle.std.proofs.Common.{◌≡◌, ℕ, List, Some, ap, ◌∙◌}
 use Rattle.std.specs.Option.{option_map_or}
 use Rattle.depot_base.specs.Writes.{wrote_under}
-use Rattle.depot_model.specs.Contents.{gone, held_value, not_held}
-use Rattle.depot_model.specs.Journal.{held_as, seen_under}
+use Rattle.depot_model.specs.texts.Contents.{gone, held_value, not_held}
+use Rattle.depot_model.specs.journals.Journal.{held_as, seen_under}
 use Rattle.depot_traces.specs.SeenTraces.{sighting_of}
 use Rattle.depot_audit.proofs.ShownReads.{seen_deletion, seen_none, seen_value, tests_too}
 use Rattle.depot_audit.proofs.shows.is_seen.Given.{Over}

@@ -2,9 +2,9 @@ use Rattle.std.proofs.Common.{◌≡◌, ◌↔◌, ◌<◌, ◌∙◌, ℕ, Lis
 use Rattle.std.specs.List.{All}
 use Rattle.std.proofs.lemmas.Bool.{both_ways, ltb-false}
 use Rattle.depot_base.specs.declared.update.Update.{Update}
-use Rattle.depot_model.specs.Journal.{accepted}
-use Rattle.depot_model.specs.ShownWrites.{shown_of}
-use Rattle.depot_model.specs.Traces.{answered}
+use Rattle.depot_model.specs.journals.Journal.{accepted}
+use Rattle.depot_model.specs.journals.ShownWrites.{shown_of}
+use Rattle.depot_model.specs.worlds.Traces.{answered}
 use Rattle.depot_readings.specs.ReadingsView.{standing}
 use Rattle.depot_traces.specs.SeenTraces.{answered_of}
 use Rattle.depot_audit.proofs.ShownReads.{IsPairAt, told_at, pair_at, told_goes_on, told_stops, told_ends, more_answered, is_listed, refused}

@@ -2,9 +2,9 @@ use Rattle.std.proofs.Common.{◌≡◌, List, map, Option, Some, None, sym, sub
 use Rattle.std.specs.Borrow.{Bor}
 use Rattle.std.specs.List.{AllByRecursion}
 use Rattle.std.proofs.lemmas.Result.{IfOk-weaker}
-use Rattle.depot_model.specs.Audit.{finding_in}
-use Rattle.depot_model.specs.Traces.{Trace, HasRightReads, IsFindingOf, IsWorldOf}
-use Rattle.depot_model.specs.World.{World}
+use Rattle.depot_model.specs.worlds.Audit.{finding_in}
+use Rattle.depot_model.specs.worlds.Traces.{Trace, HasRightReads, IsFindingOf, IsWorldOf}
+use Rattle.depot_model.specs.worlds.World.{World}
 use Rattle.depot_traces.specs.SeenTraces.{finding_of, trace_of}
 use Rattle.depot_traces.specs.declared.finding.Finding.{Finding}
 use Rattle.depot_traces.specs.declared.trace.Trace as made

@@ -1,5 +1,5 @@
 use Rattle.std.proofs.Common.{sym, ◌∙◌}
-use Rattle.depot_model.specs.Audit.{circle, wrong}
+use Rattle.depot_model.specs.worlds.Audit.{circle, wrong}
 use Rattle.depot_audit.proofs.WorldFindings.{only_second}
 use Rattle.depot_audit.proofs.traces_audit.first_broken.Goals as goal
 

@@ -1,7 +1,7 @@
 use Rattle.std.proofs.Common.{◌<◌, length, map, option_map, sym, ap, ◌∙◌, arith}
 use Rattle.std.specs.Prelude.{position}
 use Rattle.std.specs.Borrow.{Bor}
-use Rattle.depot_model.specs.Audit.{wrong_found}
+use Rattle.depot_model.specs.worlds.Audit.{wrong_found}
 use Rattle.depot_traces.specs.declared.trace.Trace.{Trace}
 use Rattle.depot_audit.specs.Lookups.{nodes_in, lists_unput, unput_in}
 use Rattle.depot_audit.proofs.ListLaws.{row_at, row_next}

@@ -1,7 +1,7 @@
 use Rattle.std.proofs.Common.{List, map, subst, ◌∙◌}
-use Rattle.depot_model.specs.Traces as traces
-use Rattle.depot_laws.proofs.AuditLaws.{apart_circle}
-use Rattle.depot_model.specs.Traces.{IsWorldOf}
+use Rattle.depot_model.specs.worlds.Traces as traces
+use Rattle.depot_laws.proofs.of_audits.AuditLaws.{apart_circle}
+use Rattle.depot_model.specs.worlds.Traces.{IsWorldOf}
 use Rattle.depot_audit.proofs.NodesOfTraces.{seen_traces}
 use Rattle.depot_audit.proofs.WrongReads.{wrong_in}
 use Rattle.depot_audit.proofs.wrong_reads.first_wrong.Goals as goal

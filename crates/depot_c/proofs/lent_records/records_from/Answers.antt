@@ -1,6 +1,6 @@
 use Rattle.std.proofs.Common.{◌++◌, ◌+◌, ◌∙◌, ℕ, List, ap, drop, map}
 use Rattle.depot_base.specs.File.{blocks}
-use Rattle.depot_model.specs.Records.{text_of_record}
+use Rattle.depot_model.specs.texts.Records.{text_of_record}
 use Rattle.depot_c.proofs.RecordRuns.{has_length, one_more}
 use Rattle.depot_c.proofs.lent_records.records_from.Goals as goal
 

@@ -1,6 +1,6 @@
 use Rattle.std.proofs.Common.{◌≡◌, ◌++◌, drop, map}
 use Rattle.depot_base.specs.File.{blocks}
-use Rattle.depot_model.specs.Records.{text_of_record}
+use Rattle.depot_model.specs.texts.Records.{text_of_record}
 use Rattle.depot_c.proofs.lent_records.records_from.Given as goal
 
 abbrev pub invariant-loop-at : goal.invariant-loop-at

@@ -1,9 +1,9 @@
 use Rattle.std.proofs.Common.{◌≡◌, ℕ, List, Some, false, refl, ap, sym, subst, ◌∙◌, arith}
 use Rattle.depot_base.specs.declared.key.PublicKey.{PublicKey}
 use Rattle.depot_base.specs.declared.key.RosterEntry.{RosterEntry}
-use Rattle.depot_model.specs.Checks.{Setting}
-use Rattle.depot_model.specs.Roster.{key_of}
-use Rattle.depot_model.specs.Winternitz.{winternitz_signature, winternitz_verifies}
+use Rattle.depot_model.specs.checks.Checks.{Setting}
+use Rattle.depot_model.specs.texts.Roster.{key_of}
+use Rattle.depot_model.specs.texts.Winternitz.{winternitz_signature, winternitz_verifies}
 use Rattle.depot_node.specs.Starting.{IsNotStarted, IsStartedFrom}
 use Rattle.depot_node.specs.declared.start_error.StartError.{StartError}
 use Rattle.depot_node.specs.declared.start_error.StartError.TheVariants as start_error

@@ -1,6 +1,6 @@
 use Rattle.std.proofs.Common.{[], Ok, Err, ap, subst, ◌∙◌}
 use Rattle.depot_model.specs.declared.taken.Taken.TheVariants.{Known}
-use Rattle.depot_model.specs.Checks.{given_statement}
+use Rattle.depot_model.specs.checks.Checks.{given_statement}
 use Rattle.depot_accept.specs.CheckResults.{IsChecked}
 use Rattle.depot_accept.specs.StateView.{setting}
 use Rattle.depot_accept.specs.declared.answer.CheckError.{CheckError}

@@ -1,4 +1,4 @@
-use Rattle.depot_model.specs.Checks.{given_proof}
+use Rattle.depot_model.specs.checks.Checks.{given_proof}
 use Rattle.depot_readings.specs.ReadingsView.{standing}
 use Rattle.depot_accept.specs.StateView.{setting}
 use Rattle.depot_decide.proofs.Decided.{if_decided, decided_here}

@@ -1,7 +1,7 @@
 use Rattle.std.proofs.Common.{[], ◌∷◌, Ok, subst}
 use Rattle.depot_base.specs.declared.record.Record.TheVariants.{Conviction}
 use Rattle.depot_model.specs.declared.taken.Taken.TheVariants.{New}
-use Rattle.depot_model.specs.Checks.{given_proof}
+use Rattle.depot_model.specs.checks.Checks.{given_proof}
 use Rattle.depot_accept.specs.StateView.{setting}
 use Rattle.depot_decide.specs.Deciding.{IsSettled}
 use Rattle.depot_decide.proofs.Decided.{made_decision, made_growth}

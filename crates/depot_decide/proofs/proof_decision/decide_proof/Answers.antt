@@ -1,7 +1,7 @@
 use Rattle.depot_base.specs.Closed.{closing}
 use Rattle.std.proofs.Common.{refl}
-use Rattle.depot_model.specs.Checks.{given_proof}
-use Rattle.depot_model.specs.Texts.{proof}
+use Rattle.depot_model.specs.checks.Checks.{given_proof}
+use Rattle.depot_model.specs.texts.Texts.{proof}
 use Rattle.depot_readings.specs.ReadingsView.{standing}
 use Rattle.depot_decide.proofs.Decided.{decides_read, decodes_closing, if_decided}
 use Rattle.depot_decide.proofs.proof_decision.decide_proof.Goals as goal

@@ -1,7 +1,7 @@
 use Rattle.std.proofs.Common.{◌↔◌, IsTrue, sym, ◌∙◌}
 use Rattle.std.proofs.lemmas.Bool.{both_ways}
 use Rattle.std.proofs.lemmas.Result.{err_from_is_err_and}
-use Rattle.depot_model.specs.Own.{IsFresh, leaf_count}
+use Rattle.depot_model.specs.checks.Own.{IsFresh, leaf_count}
 use Rattle.depot_readings.specs.ReadingsView.{standing}
 use Rattle.depot_decide.proofs.PutLaws.{spent, leaf_left, next_is, too_wide, IsMade, made_record_fits, made_text, collides, planned}
 use Rattle.depot_decide.proofs.put_decision.decide_put.Given.{Over}

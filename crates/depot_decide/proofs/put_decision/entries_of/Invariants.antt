@@ -1,7 +1,7 @@
 use Rattle.std.proofs.Common.{◌≡◌, map, take}
-use Rattle.depot_model.specs.Own.{entry_of}
+use Rattle.depot_model.specs.checks.Own.{entry_of}
 use Rattle.depot_graph.specs.Kept.{updates_in}
-use Rattle.depot_model.specs.Items.{updates_at}
+use Rattle.depot_model.specs.lists.Items.{updates_at}
 use Rattle.depot_decide.proofs.put_decision.entries_of.Given as goal
 
 abbrev pub invariant-loop-item : goal.invariant-loop-item

@@ -1,8 +1,8 @@
 use Rattle.std.proofs.Common.{ap, arith, ◌∙◌}
-use Rattle.depot_model.specs.Checks.{Setting}
+use Rattle.depot_model.specs.checks.Checks.{Setting}
 use Rattle.depot_graph.specs.Kept.{updates_in}
-use Rattle.depot_laws.proofs.Clocks.{clocks_within}
-use Rattle.depot_laws.proofs.OwnTexts.{lawful_is_short}
+use Rattle.depot_laws.proofs.orders.Clocks.{clocks_within}
+use Rattle.depot_laws.proofs.own_updates.OwnTexts.{lawful_is_short}
 use Rattle.depot_readings.specs.ReadingsView.{standing}
 use Rattle.depot_decide.proofs.NextOwn.{AreEntryItems, entry_items, few_entry_items, as_many_deps, as_many_entries, next_own_is}
 use Rattle.depot_decide.proofs.put_decision.next_own.Given.{Over}

@@ -1,8 +1,8 @@
 use Rattle.std.proofs.Common.{◌≡◌, ◌++◌, length, map}
 use Rattle.std.specs.List.{AllByRecursion}
 use Rattle.std.specs.Vec.Iter.{into_iter_items, into_iter_len}
-use Rattle.depot_model.specs.Own.{write_of, values_of}
-use Rattle.depot_model.specs.Putting.{HasSizes}
+use Rattle.depot_model.specs.checks.Own.{write_of, values_of}
+use Rattle.depot_model.specs.checks.Putting.{HasSizes}
 use Rattle.depot_decide.proofs.put_writes.writes_of.Given as goal
 
 abbrev pub invariant-loop-change : goal.invariant-loop-change

@@ -1,7 +1,7 @@
 use Rattle.std.proofs.Common.{◌≡◌, ℕ, List, true, refl, subst}
 use Rattle.std.specs.List.{AllByRecursion}
 use Rattle.std.proofs.lemmas.List.{take_all}
-use Rattle.depot_model.specs.Journal.{accepted, is_foreign}
+use Rattle.depot_model.specs.journals.Journal.{accepted, is_foreign}
 use Rattle.depot_decide.proofs.record_check.are_foreign.Goals as goal
 
 pub returns : goal.returns

@@ -1,4 +1,4 @@
-use Rattle.depot_laws.proofs.LawfulRecords.{IsProof-from_record}
+use Rattle.depot_laws.proofs.records.LawfulRecords.{IsProof-from_record}
 use Rattle.depot_readings.specs.ReadingsView.{standing}
 use Rattle.depot_decide.proofs.RecordChecks.{checked_proof}
 use Rattle.depot_decide.proofs.RecordParts.{proof_behind}

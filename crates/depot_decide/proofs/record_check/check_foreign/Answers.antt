@@ -1,5 +1,5 @@
 use Rattle.std.proofs.Common.{arith}
-use Rattle.depot_laws.proofs.LawfulRecords.{IsSigned-from_record}
+use Rattle.depot_laws.proofs.records.LawfulRecords.{IsSigned-from_record}
 use Rattle.depot_readings.specs.ReadingsView.{standing}
 use Rattle.depot_decide.proofs.RecordChecks.{good_statement}
 use Rattle.depot_decide.proofs.RecordParts.{signed_behind}

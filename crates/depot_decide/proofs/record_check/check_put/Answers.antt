@@ -1,4 +1,4 @@
-use Rattle.depot_model.proofs.FieldFacts.{own_put_facts}
+use Rattle.depot_model.proofs.of_texts.FieldFacts.{own_put_facts}
 use Rattle.depot_decide.proofs.record_check.check_put.Goals as goal
 
 pub parents_of_put-requires-clause-lengths : goal.parents_of_put-requires-clause-lengths

@@ -2,7 +2,7 @@ use Rattle.std.proofs.Common.{◌≡◌, ℕ, List, true, IsTrue, sym, subst, �
 use Rattle.std.specs.List.{AllByRecursion}
 use Rattle.std.specs.Prelude.{◌↔◌}
 use Rattle.std.proofs.lemmas.Bool.{both_ways}
-use Rattle.depot_model.specs.Journal.{accepted, is_foreign}
+use Rattle.depot_model.specs.journals.Journal.{accepted, is_foreign}
 use Rattle.depot_readings.specs.ReadingsView.{standing}
 use Rattle.depot_decide.proofs.RecordChecks.{asked_of_voucher}
 use Rattle.depot_decide.proofs.record_check.may_vouch.Goals as goal

@@ -1,6 +1,6 @@
 use Rattle.std.proofs.Common.{◌≡◌, ◌↔◌, IsTrue, map, sym, ◌∙◌}
 use Rattle.std.proofs.lemmas.Result.{err_from_is_err_and}
-use Rattle.depot_model.specs.Own.{leaf_count, write_of, changes_of}
+use Rattle.depot_model.specs.checks.Own.{leaf_count, write_of, changes_of}
 use Rattle.depot_readings.specs.ReadingsView.{standing}
 use Rattle.depot_decide.proofs.PutLaws.{leaf_left}
 use Rattle.depot_decide.proofs.RecordChecks.{told_of, may_put, other_values, other_next, stale_id, wide_put}

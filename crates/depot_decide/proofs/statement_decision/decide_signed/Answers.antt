@@ -2,7 +2,7 @@ use Rattle.std.proofs.Common.{List, sym, ap, subst, ◌∙◌}
 use Rattle.sha2.specs.Sha256.{sha256}
 use Rattle.depot_readings.specs.ReadingsView.{standing}
 use Rattle.depot_accept.specs.StateView.{setting}
-use Rattle.depot_model.specs.Checks.{given_statement}
+use Rattle.depot_model.specs.checks.Checks.{given_statement}
 use Rattle.depot_base.specs.declared.update.Update.{Update}
 use Rattle.depot_decide.specs.Deciding.{ComeWithRow}
 use Rattle.depot_decide.proofs.Decided.{if_decided, decided_here}

@@ -1,7 +1,7 @@
 use Rattle.depot_base.specs.Closed.{closing}
 use Rattle.std.proofs.Common.{refl}
-use Rattle.depot_model.specs.Checks.{given_statement}
-use Rattle.depot_model.specs.Texts.{signed}
+use Rattle.depot_model.specs.checks.Checks.{given_statement}
+use Rattle.depot_model.specs.texts.Texts.{signed}
 use Rattle.depot_readings.specs.ReadingsView.{standing}
 use Rattle.depot_decide.proofs.Decided.{decides_read, decodes_closing, if_decided}
 use Rattle.depot_decide.proofs.statement_decision.decide_statement.Goals as goal

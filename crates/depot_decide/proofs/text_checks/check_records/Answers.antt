@@ -1,5 +1,5 @@
 use Rattle.std.proofs.Common.{ℕ, List, IfOk, subst}
-use Rattle.depot_model.specs.Checks.{Setting}
+use Rattle.depot_model.specs.checks.Checks.{Setting}
 use Rattle.depot_readings.specs.ReadingsView.{standing}
 use Rattle.depot_decide.specs.TextFaults.{AreCheckedAs}
 use Rattle.depot_decide.proofs.text_checks.check_records.Goals as goal

@@ -3,7 +3,7 @@ use Rattle.sha2.specs.Sha256.{sha256}
 use Rattle.depot_base.specs.declared.check.Check.TheVariants as check
 use Rattle.depot_base.specs.declared.record.Record.TheVariants.{Held}
 use Rattle.depot_model.specs.declared.taken.Taken.TheVariants.{New, Known}
-use Rattle.depot_model.specs.Checks.{given_value}
+use Rattle.depot_model.specs.checks.Checks.{given_value}
 use Rattle.depot_readings.specs.ReadingsView.{standing}
 use Rattle.depot_decide.proofs.Decided.{made_decision, made_growth}
 use Rattle.depot_decide.proofs.ValueAnswers.{hash_is_held, hash_is_wanted, value_known, value_unwanted, value_new}

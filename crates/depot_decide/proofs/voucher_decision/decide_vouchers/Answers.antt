@@ -2,10 +2,10 @@ use Rattle.std.proofs.Common.{◌≡◌, List, length, sym, ap, subst, ◌∙◌
 use Rattle.std.specs.List.{AllByRecursion}
 use Rattle.depot_base.specs.declared.record.Record.TheVariants.{OwnVoucher}
 use Rattle.depot_base.specs.declared.voucher.Voucher.{Voucher}
-use Rattle.depot_model.specs.Checks.{Setting}
-use Rattle.depot_model.specs.Records.{IsRecord}
-use Rattle.depot_model.specs.Vouching.{new_vouchers, records_of}
-use Rattle.depot_laws.proofs.OwnTexts.{few_own, lawful_is_short}
+use Rattle.depot_model.specs.checks.Checks.{Setting}
+use Rattle.depot_model.specs.texts.Records.{IsRecord}
+use Rattle.depot_model.specs.checks.Vouching.{new_vouchers, records_of}
+use Rattle.depot_laws.proofs.own_updates.OwnTexts.{few_own, lawful_is_short}
 use Rattle.depot_readings.specs.ReadingsView.{standing}
 use Rattle.depot_decide.proofs.VoucherGroups.{group_count}
 use Rattle.depot_decide.proofs.VoucherPlans.{are_new_vouchers, few_ids, length-new_vouchers, own_with, planned, too_few_leaves, vouchers_fit}

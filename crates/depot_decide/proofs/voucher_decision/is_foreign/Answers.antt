@@ -2,8 +2,8 @@ use Rattle.std.proofs.Common.{ℕ, List, [], not, eqb, sym, ap, ◌∙◌}
 use Rattle.depot_base.specs.declared.update.Update.{Update}
 use Rattle.depot_graph.specs.Causal.{causal_from_test}
 use Rattle.depot_graph.specs.Kept.{updates_in}
-use Rattle.depot_model.specs.Checks.{Setting}
-use Rattle.depot_model.specs.Journal.{is_foreign}
+use Rattle.depot_model.specs.checks.Checks.{Setting}
+use Rattle.depot_model.specs.journals.Journal.{is_foreign}
 use Rattle.depot_decide.proofs.ForeignIds.{foreign_by_place, not_foreign}
 use Rattle.depot_decide.proofs.voucher_decision.is_foreign.Goals as goal
 

@@ -1,5 +1,5 @@
 use Rattle.std.proofs.Common.{arith}
-use Rattle.depot_model.proofs.RisingIds.{none_put, put_more}
+use Rattle.depot_model.proofs.lists.RisingIds.{none_put, put_more}
 use Rattle.depot_decide.proofs.voucher_decision.rising.Goals as goal
 
 pub loop-place-init : goal.loop-place-init

@@ -1,5 +1,5 @@
 use Rattle.std.proofs.Common.{◌≡◌, drop}
-use Rattle.depot_model.specs.Vouching.{rising}
+use Rattle.depot_model.specs.checks.Vouching.{rising}
 use Rattle.depot_decide.proofs.voucher_decision.rising.Given as goal
 
 abbrev pub invariant-loop-place : goal.invariant-loop-place

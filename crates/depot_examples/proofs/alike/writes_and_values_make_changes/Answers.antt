@@ -1,4 +1,4 @@
-use Rattle.depot_model.proofs.ContentLaws.{changes_back}
+use Rattle.depot_model.proofs.of_texts.ContentLaws.{changes_back}
 use Rattle.depot_examples.proofs.ChangeLists.{have_keys, have_values}
 use Rattle.depot_examples.proofs.alike.writes_and_values_make_changes.Goals as goal
 

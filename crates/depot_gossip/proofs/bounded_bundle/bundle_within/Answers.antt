@@ -1,6 +1,6 @@
 use Rattle.std.proofs.lemmas.Result.{err_from_is_err_and}
 use Rattle.depot_streams.proofs.LawfulCalls.{idle_on}
-use Rattle.depot_model.proofs.JournalCallLaws.{never_stopped}
+use Rattle.depot_model.proofs.of_journals.JournalCallLaws.{never_stopped}
 use Rattle.depot_gossip.specs.Bounding.{bounded_answer, bounded_sent}
 use Rattle.depot_gossip.proofs.SentCalls.{unprepared_runs, unprepared_sends, unprepared_well}
 use Rattle.depot_gossip.proofs.bounded_bundle.bundle_within.Goals as goal

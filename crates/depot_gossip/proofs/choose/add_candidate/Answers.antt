@@ -3,11 +3,11 @@ use Rattle.std.specs.Borrow.{Bor}
 use Rattle.std.specs.Prelude.{option_to_list}
 use Rattle.std.proofs.lemmas.List.{length-map}
 use Rattle.sha2.specs.Sha256.{sha256}
-use Rattle.depot_model.specs.Bundle.{candidate_parcel, signed_by}
-use Rattle.depot_model.specs.Contents.{values_named}
-use Rattle.depot_model.specs.Lists.{AreTogether}
-use Rattle.depot_model.specs.Texts.{id_of_update, text_of_signed}
-use Rattle.depot_model.proofs.TextLaws.{signed_is_short}
+use Rattle.depot_model.specs.exchange.Bundle.{candidate_parcel, signed_by}
+use Rattle.depot_model.specs.texts.Contents.{values_named}
+use Rattle.depot_model.specs.lists.Lists.{AreTogether}
+use Rattle.depot_model.specs.texts.Texts.{id_of_update, text_of_signed}
+use Rattle.depot_model.proofs.of_texts.TextLaws.{signed_is_short}
 use Rattle.depot_streams.specs.Sendings.{ArePayloads, payloads_of}
 use Rattle.depot_gossip.specs.Choosing.{foreign_ids}
 use Rattle.depot_gossip.proofs.FitLaws.{found_adds}

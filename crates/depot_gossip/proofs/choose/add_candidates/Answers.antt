@@ -2,8 +2,8 @@ use Rattle.std.proofs.Common.{List, ℕ, Bool, [], ◌++◌, ◌∷◌, map, tak
 use Rattle.std.proofs.lemmas.List.{take_all}
 use Rattle.sha2.specs.Sha256.{sha256}
 use Rattle.depot_base.specs.declared.memory.Memory.{Memory}
-use Rattle.depot_model.specs.Lists.{is_among}
-use Rattle.depot_model.specs.Bundle.{Parcel, candidate_parcel, candidate_parcels, hashes_of}
+use Rattle.depot_model.specs.lists.Lists.{is_among}
+use Rattle.depot_model.specs.exchange.Bundle.{Parcel, candidate_parcel, candidate_parcels, hashes_of}
 use Rattle.depot_streams.specs.Sendings.{Holds}
 use Rattle.depot_gossip.specs.Choosing.{Carries, AddsHashes, AreAlike, records_at}
 use Rattle.depot_gossip.proofs.FitLaws.{is_short}

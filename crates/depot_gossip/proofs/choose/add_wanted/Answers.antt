@@ -1,7 +1,7 @@
 use Rattle.std.proofs.Common.{List, ℕ, Bool, ◌++◌, take, sym, subst, arith}
 use Rattle.std.specs.List.{flat_map}
 use Rattle.std.proofs.lemmas.List.{append-nil, take_all}
-use Rattle.depot_model.specs.Bundle.{Parcel, wanted_parcel}
+use Rattle.depot_model.specs.exchange.Bundle.{Parcel, wanted_parcel}
 use Rattle.depot_streams.specs.Sendings.{Holds}
 use Rattle.depot_gossip.specs.Choosing.{IsCutAt, Carries}
 use Rattle.depot_gossip.proofs.FitLaws.{is_short}

@@ -1,5 +1,5 @@
 use Rattle.std.proofs.Common.{List, ◌++◌, ◌≤◌, length, sym, subst, arith}
-use Rattle.depot_model.specs.Bundle.{Parcel}
+use Rattle.depot_model.specs.exchange.Bundle.{Parcel}
 use Rattle.depot_gossip.specs.Choosing.{AddsTo}
 use Rattle.depot_gossip.proofs.FitLaws.{value_adds}
 use Rattle.depot_gossip.proofs.ChoiceLaws.{wanted_is_short}

@@ -1,6 +1,6 @@
 use Rattle.std.proofs.Common.{List, ℕ, [], ◌++◌, not, sym, ap, subst, ◌∙◌}
 use Rattle.std.specs.List.{AllByRecursion, flat_map}
-use Rattle.depot_model.specs.Bundle.{Parcel, candidate_places, candidate_parcels, wanted_parcel, hashes_of, sent_for}
+use Rattle.depot_model.specs.exchange.Bundle.{Parcel, candidate_places, candidate_parcels, wanted_parcel, hashes_of, sent_for}
 use Rattle.depot_gossip.specs.Choosing.{Carries, HasUpdateAt, records_at}
 use Rattle.depot_gossip.proofs.FitLaws.{is_chosen, with_more}
 use Rattle.depot_gossip.proofs.ChoiceLaws.{candidates_at, parcels_are}

@@ -1,7 +1,7 @@
 use Rattle.std.proofs.Common.{List, Bool, [], ◌++◌, Ok, subst}
 use Rattle.std.specs.List.{flat_map}
 use Rattle.depot_base.specs.declared.memory.Memory.{Memory}
-use Rattle.depot_model.specs.Bundle.{Parcel, candidate_parcels, wanted_parcel, hashes_of}
+use Rattle.depot_model.specs.exchange.Bundle.{Parcel, candidate_parcels, wanted_parcel, hashes_of}
 use Rattle.depot_gossip.specs.Choosing.{AreHashesOf, records_at}
 use Rattle.depot_gossip.proofs.ChoiceLaws.{wanted_alike}
 use Rattle.depot_gossip.specs.Choices.{Chooses, ChoosesTo}

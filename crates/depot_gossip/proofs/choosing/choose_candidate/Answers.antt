@@ -1,5 +1,5 @@
 use Rattle.std.proofs.Common.{Bool, [], ◌∷◌, subst}
-use Rattle.depot_model.specs.Bundle.{candidate_parcel}
+use Rattle.depot_model.specs.exchange.Bundle.{candidate_parcel}
 use Rattle.depot_gossip.specs.Choosing.{Carries}
 use Rattle.depot_gossip.proofs.BundleAnswers.{left_is_unvouched}
 use Rattle.depot_gossip.proofs.FitLaws.{is_short}

@@ -1,5 +1,5 @@
 use Rattle.std.proofs.Common.{[], take}
-use Rattle.depot_model.specs.Bundle.{candidate_parcels, hashes_of}
+use Rattle.depot_model.specs.exchange.Bundle.{candidate_parcels, hashes_of}
 use Rattle.depot_gossip.specs.Choosing.{AreAlike, records_at}
 use Rattle.depot_gossip.specs.Choices.{IsChosenFrom}
 use Rattle.depot_gossip.proofs.choosing.choose_candidates.Given as goal

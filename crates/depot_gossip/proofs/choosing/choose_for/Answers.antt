@@ -1,7 +1,7 @@
 use Rattle.std.proofs.Common.{◌≡◌, List, ℕ, Bool, [], ◌++◌, map, sym, ap, subst, ◌∙◌}
 use Rattle.std.specs.List.{AllByRecursion, filter, flat_map}
 use Rattle.std.proofs.lemmas.List.{append-nil}
-use Rattle.depot_model.specs.Bundle.{Parcel, candidate_parcels, candidate_places, candidates, wanted_parcel, hashes_of}
+use Rattle.depot_model.specs.exchange.Bundle.{Parcel, candidate_parcels, candidate_places, candidates, wanted_parcel, hashes_of}
 use Rattle.depot_gossip.specs.Choosing.{HasUpdateAt, records_at}
 use Rattle.depot_gossip.proofs.ChoiceLaws.{candidates_at, parcels_are}
 use Rattle.depot_gossip.specs.Bounding.{is_own_record, own_parcels, parcels_of}

@@ -1,7 +1,7 @@
 use Rattle.std.proofs.Common.{List, ℕ, Bool, ◌++◌, take, sym, subst, arith}
 use Rattle.std.specs.List.{flat_map}
 use Rattle.std.proofs.lemmas.List.{append-nil, take_all}
-use Rattle.depot_model.specs.Bundle.{Parcel, wanted_parcel}
+use Rattle.depot_model.specs.exchange.Bundle.{Parcel, wanted_parcel}
 use Rattle.depot_gossip.proofs.ChoiceLaws.{wanted_push}
 use Rattle.depot_gossip.specs.Choices.{Chooses, IsChosenFrom, IsStoppedAt}
 use Rattle.depot_gossip.proofs.ChosenLaws.{wanted_stopped}

@@ -1,6 +1,6 @@
 use Rattle.std.proofs.Common.{List, ◌++◌, take}
 use Rattle.std.specs.List.{flat_map}
-use Rattle.depot_model.specs.Bundle.{Parcel, wanted_parcel}
+use Rattle.depot_model.specs.exchange.Bundle.{Parcel, wanted_parcel}
 use Rattle.depot_gossip.specs.Choices.{IsChosenFrom}
 use Rattle.depot_gossip.proofs.choosing.choose_wanted.Given as goal
 

@@ -1,5 +1,5 @@
 use Rattle.std.proofs.Common.{List, Bool, [], ◌++◌, subst, sym}
-use Rattle.depot_model.specs.Bundle.{Parcel, wanted_parcel}
+use Rattle.depot_model.specs.exchange.Bundle.{Parcel, wanted_parcel}
 use Rattle.depot_gossip.specs.Choosing.{Carries}
 use Rattle.depot_gossip.proofs.FitLaws.{is_short}
 use Rattle.depot_gossip.specs.Choices.{ChoosesTo}

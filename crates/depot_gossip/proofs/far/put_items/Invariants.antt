@@ -1,7 +1,7 @@
 use Rattle.std.proofs.Common.{◌≡◌, map, take}
 use Rattle.depot_graph.specs.Kept.{updates_in}
-use Rattle.depot_model.specs.Hello.{named_leaf}
-use Rattle.depot_model.specs.Items.{updates_at}
+use Rattle.depot_model.specs.exchange.Hello.{named_leaf}
+use Rattle.depot_model.specs.lists.Items.{updates_at}
 use Rattle.depot_gossip.specs.FarHellos.{put_leaves}
 use Rattle.depot_gossip.proofs.far.put_items.Given as goal
 

@@ -1,6 +1,6 @@
 use Rattle.std.proofs.Common.{sym, subst}
-use Rattle.depot_model.specs.Hello.{IsHello}
-use Rattle.depot_model.proofs.JournalCallLaws.{never_stopped}
+use Rattle.depot_model.specs.exchange.Hello.{IsHello}
+use Rattle.depot_model.proofs.of_journals.JournalCallLaws.{never_stopped}
 use Rattle.depot_requests.specs.declared.reply.Halt.TheVariants as halt
 use Rattle.depot_gossip.specs.declared.send_request.SendRequest.TheVariants as request
 use Rattle.depot_gossip.proofs.FarTexts.{far_fits}

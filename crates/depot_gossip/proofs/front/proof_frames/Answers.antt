@@ -1,8 +1,8 @@
 use Rattle.std.proofs.Common.{◌≤◌, List, get_or, refl, length, map, ap, ◌∙◌, subst, arith}
 use Rattle.std.proofs.lemmas.List.{take_all}
 use Rattle.depot_base.specs.declared.proof.Proof.{Proof}
-use Rattle.depot_model.specs.Bundle.{proof_frame}
-use Rattle.depot_laws.proofs.OwnTexts.{lawful_is_short}
+use Rattle.depot_model.specs.exchange.Bundle.{proof_frame}
+use Rattle.depot_laws.proofs.own_updates.OwnTexts.{lawful_is_short}
 use Rattle.depot_gossip.specs.Fronts.{AreFrames}
 use Rattle.depot_gossip.proofs.FrontLaws.{all_proofs, few_proofs, proof_at, proof_next, proofs_at}
 use Rattle.depot_gossip.proofs.front.proof_frames.Goals as goal

@@ -1,5 +1,5 @@
 use Rattle.std.proofs.Common.{◌≤◌, map, take}
-use Rattle.depot_model.specs.Bundle.{proof_frame}
+use Rattle.depot_model.specs.exchange.Bundle.{proof_frame}
 use Rattle.depot_gossip.specs.Fronts.{AreFrames}
 use Rattle.depot_gossip.proofs.FrontLaws.{proofs_at}
 use Rattle.depot_gossip.proofs.front.proof_frames.Given as goal

@@ -1,8 +1,8 @@
 use Rattle.std.proofs.Common.{◌≤◌, List, get_or, refl, length, map, ap, ◌∙◌, subst, arith}
 use Rattle.std.proofs.lemmas.List.{take_all}
 use Rattle.depot_base.specs.declared.voucher.Voucher.{Voucher}
-use Rattle.depot_model.specs.Bundle.{voucher_frame}
-use Rattle.depot_laws.proofs.OwnTexts.{lawful_is_short}
+use Rattle.depot_model.specs.exchange.Bundle.{voucher_frame}
+use Rattle.depot_laws.proofs.own_updates.OwnTexts.{lawful_is_short}
 use Rattle.depot_gossip.specs.Fronts.{AreFrames}
 use Rattle.depot_gossip.proofs.FrontLaws.{all_vouchers, few_vouchers, voucher_at, voucher_next, vouchers_at}
 use Rattle.depot_gossip.proofs.front.voucher_frames.Goals as goal

@@ -1,5 +1,5 @@
 use Rattle.std.proofs.Common.{◌≤◌, map, take}
-use Rattle.depot_model.specs.Bundle.{voucher_frame}
+use Rattle.depot_model.specs.exchange.Bundle.{voucher_frame}
 use Rattle.depot_gossip.specs.Fronts.{AreFrames}
 use Rattle.depot_gossip.proofs.FrontLaws.{vouchers_at}
 use Rattle.depot_gossip.proofs.front.voucher_frames.Given as goal

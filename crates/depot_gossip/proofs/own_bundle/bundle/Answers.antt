@@ -1,5 +1,5 @@
 use Rattle.std.proofs.lemmas.Result.{err_from_is_err_and}
-use Rattle.depot_model.specs.Bundle.{bundle_answer, sent_for}
+use Rattle.depot_model.specs.exchange.Bundle.{bundle_answer, sent_for}
 use Rattle.depot_streams.proofs.LawfulCalls.{idle_on}
 use Rattle.depot_gossip.proofs.StreamLaws.{no_disk, not_bundled, not_prepared_answers, prepared_is_ready}
 use Rattle.depot_gossip.proofs.own_bundle.bundle.Goals as goal

@@ -1,12 +1,12 @@
 use Rattle.std.proofs.Common.{◌≡◌, ℕ, List, Err, true, false, sym, ap, subst}
 use Rattle.std.specs.List.{AllByRecursion}
 use Rattle.std.proofs.lemmas.Result.{err_from_is_err_and}
-use Rattle.depot_model.specs.Bundle.{Signs, unvouched}
-use Rattle.depot_model.specs.Journal.{accepted, is_foreign}
-use Rattle.depot_model.specs.Lists.{AreApart}
-use Rattle.depot_model.specs.Vouching.{is_mine_vouched}
-use Rattle.depot_model.proofs.JournalCallLaws.{runs_on}
-use Rattle.depot_model.proofs.Members.{all_from}
+use Rattle.depot_model.specs.exchange.Bundle.{Signs, unvouched}
+use Rattle.depot_model.specs.journals.Journal.{accepted, is_foreign}
+use Rattle.depot_model.specs.lists.Lists.{AreApart}
+use Rattle.depot_model.specs.checks.Vouching.{is_mine_vouched}
+use Rattle.depot_model.proofs.of_journals.JournalCallLaws.{runs_on}
+use Rattle.depot_model.proofs.lists.Members.{all_from}
 use Rattle.depot_gossip.specs.BundleStreams.{IsStream}
 use Rattle.depot_gossip.proofs.ApartLaws.{unvouched_fresh}
 use Rattle.depot_gossip.proofs.StreamLaws.{all_bundled, not_vouched, only_vouched}

@@ -1,7 +1,7 @@
 use Rattle.std.proofs.Common.{◌≡◌, subst}
 use Rattle.std.specs.Prelude.{IfOk}
 use Rattle.depot_model.specs.declared.hello.Hello.{Hello}
-use Rattle.depot_model.specs.Hello.{text_of_hello}
+use Rattle.depot_model.specs.exchange.Hello.{text_of_hello}
 use Rattle.depot_gossip.proofs.own_hello.hello.Goals as goal
 
 pub returns : goal.returns

@@ -1,6 +1,6 @@
 use Rattle.std.proofs.Common.{sym, subst}
-use Rattle.depot_model.specs.Hello.{IsHello}
-use Rattle.depot_laws.proofs.HelloTexts.{hello_fits}
+use Rattle.depot_model.specs.exchange.Hello.{IsHello}
+use Rattle.depot_laws.proofs.exchanges.HelloTexts.{hello_fits}
 use Rattle.depot_gossip.proofs.HelloParts.{hello_is}
 use Rattle.depot_gossip.proofs.own_hello.node_hello.Goals as goal
 

@@ -1,7 +1,7 @@
 use Rattle.std.proofs.Common.{sym, ap, ◌∙◌}
 use Rattle.std.specs.Str.{bytes_eq}
 use Rattle.std.proofs.lemmas.Result.{err_from_is_err_and}
-use Rattle.depot_laws.proofs.Tests.{holds_from_not, fails_from_not}
+use Rattle.depot_laws.proofs.lists.Tests.{holds_from_not, fails_from_not}
 use Rattle.depot_gossip.proofs.BundleAnswers.{not_decoded, other_is, unknown_is, heard_is}
 use Rattle.depot_gossip.proofs.preparing.heard.Goals as goal
 

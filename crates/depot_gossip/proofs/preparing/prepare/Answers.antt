@@ -1,6 +1,6 @@
 use Rattle.std.proofs.Common.{sym, ◌∙◌}
 use Rattle.std.proofs.lemmas.Result.{err_from_is_err_and}
-use Rattle.depot_model.specs.Bundle.{sent_for}
+use Rattle.depot_model.specs.exchange.Bundle.{sent_for}
 use Rattle.depot_gossip.proofs.BundleAnswers.{answer_for, answered_by, not_prepared, left_is_unvouched}
 use Rattle.depot_gossip.proofs.preparing.prepare.Goals as goal
 

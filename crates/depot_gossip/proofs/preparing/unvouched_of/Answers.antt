@@ -1,7 +1,7 @@
 use Rattle.std.proofs.Common.{List, ℕ, not, ap, ◌∙◌, arith}
 use Rattle.std.specs.List.{filter}
 use Rattle.std.proofs.lemmas.List.{take_all}
-use Rattle.depot_model.specs.Vouching.{is_mine_vouched}
+use Rattle.depot_model.specs.checks.Vouching.{is_mine_vouched}
 use Rattle.depot_gossip.proofs.LeftIds.{left_push}
 use Rattle.depot_gossip.proofs.preparing.unvouched_of.Goals as goal
 

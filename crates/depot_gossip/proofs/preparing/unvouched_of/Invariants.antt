@@ -1,6 +1,6 @@
 use Rattle.std.proofs.Common.{◌≡◌, not, take}
 use Rattle.std.specs.List.{filter}
-use Rattle.depot_model.specs.Vouching.{is_mine_vouched}
+use Rattle.depot_model.specs.checks.Vouching.{is_mine_vouched}
 use Rattle.depot_gossip.proofs.preparing.unvouched_of.Given as goal
 
 abbrev pub invariant-loop-id : goal.invariant-loop-id

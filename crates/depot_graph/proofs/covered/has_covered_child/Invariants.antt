@@ -1,5 +1,5 @@
 use Rattle.std.proofs.Common.{◌<◌, ℕ, List, get_or}
-use Rattle.depot_model.specs.Items.{children_of}
+use Rattle.depot_model.specs.lists.Items.{children_of}
 use Rattle.depot_graph.specs.Kept.{updates_in}
 use Rattle.depot_graph.specs.UpdateRows.{IsJoinedRow}
 use Rattle.depot_graph.specs.PastChains.{IsCovered}

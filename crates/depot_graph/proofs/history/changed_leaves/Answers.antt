@@ -1,10 +1,10 @@
 use Rattle.std.proofs.Common.{[], ◌≡◌, ◌<◌, ◌∙◌, ap, subst, sym, length, List, ℕ, map}
 use Rattle.std.proofs.lemmas.Result.{IfOk-weaker}
 use Rattle.std.specs.List.{AllByRecursion}
-use Rattle.depot_model.specs.History.{by_id}
-use Rattle.depot_model.specs.Items.{place_of_prev, updates_at}
-use Rattle.depot_model.specs.Own.{next_entries}
-use Rattle.depot_model.proofs.Members.{all_from}
+use Rattle.depot_model.specs.updates.History.{by_id}
+use Rattle.depot_model.specs.lists.Items.{place_of_prev, updates_at}
+use Rattle.depot_model.specs.checks.Own.{next_entries}
+use Rattle.depot_model.proofs.lists.Members.{all_from}
 use Rattle.depot_graph.specs.Causal.{causal_from_test}
 use Rattle.depot_graph.specs.Kept.{updates_in}
 use Rattle.depot_graph.specs.declared.leaf.Leaf.{Leaf}

@@ -1,5 +1,5 @@
 use Rattle.std.proofs.Common.{[], ◌∙◌, ap, List, ℕ, map}
-use Rattle.depot_model.specs.History.{by_id}
+use Rattle.depot_model.specs.updates.History.{by_id}
 use Rattle.depot_graph.specs.Causal.{causal_from_test}
 use Rattle.depot_graph.specs.Kept.{updates_in}
 use Rattle.depot_graph.specs.PastLeaves.{leaf_in, updates_at_places}

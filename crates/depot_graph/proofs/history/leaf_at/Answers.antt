@@ -1,6 +1,6 @@
 use Rattle.std.proofs.Common.{[], ◌≡◌, sym}
 use Rattle.depot_base.specs.declared.update.Update.{Update}
-use Rattle.depot_model.specs.Texts.{id_of_update}
+use Rattle.depot_model.specs.texts.Texts.{id_of_update}
 use Rattle.depot_graph.specs.Causal.{causal_from_test}
 use Rattle.depot_graph.specs.Kept.{updates_in}
 use Rattle.depot_graph.proofs.Sorting.{at_gives, at_is, made_at}

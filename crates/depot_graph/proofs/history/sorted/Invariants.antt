@@ -1,5 +1,5 @@
 use Rattle.std.proofs.Common.{◌≡◌, map, take}
-use Rattle.depot_model.specs.History.{by_id}
+use Rattle.depot_model.specs.updates.History.{by_id}
 use Rattle.depot_graph.specs.Kept.{updates_in}
 use Rattle.depot_graph.specs.PastLeaves.{leaf_in, updates_at_places}
 use Rattle.depot_graph.proofs.history.sorted.Given as goal

@@ -1,5 +1,5 @@
 use Rattle.std.proofs.Common.{[], ◌<◌, length}
-use Rattle.depot_model.proofs.Members.{all_from}
+use Rattle.depot_model.proofs.lists.Members.{all_from}
 use Rattle.depot_graph.specs.Causal.{causal_from_test}
 use Rattle.depot_graph.specs.Kept.{updates_in}
 use Rattle.depot_graph.proofs.Leaving.{hash_of_all}

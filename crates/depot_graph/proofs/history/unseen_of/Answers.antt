@@ -1,8 +1,8 @@
 use Rattle.std.proofs.Common.{◌+◌, ◌<◌, ℕ, List, length, get_or, sym, subst}
 use Rattle.std.proofs.lemmas.List.{take_all}
 use Rattle.std.proofs.lemmas.Option.{slice_get-get_or}
-use Rattle.depot_model.specs.Lists.{IsIn}
-use Rattle.depot_model.proofs.Elements.{each_at}
+use Rattle.depot_model.specs.lists.Lists.{IsIn}
+use Rattle.depot_model.proofs.lists.Elements.{each_at}
 use Rattle.depot_graph.specs.Kept.{updates_in}
 use Rattle.depot_graph.proofs.Leaving.{AreUnseen, unseen_one, unseen_same}
 use Rattle.depot_graph.proofs.history.unseen_of.Goals as goal

@@ -1,8 +1,8 @@
 use Rattle.std.proofs.Common.{◌≡◌, ◌<◌, ◌+◌, ℕ, List, length, subst, arith}
 use Rattle.std.specs.List.{AllByRecursion}
-use Rattle.depot_model.specs.Items.{children_of}
-use Rattle.depot_model.specs.Lists.{IsIn}
-use Rattle.depot_model.proofs.Members.{all_push}
+use Rattle.depot_model.specs.lists.Items.{children_of}
+use Rattle.depot_model.specs.lists.Lists.{IsIn}
+use Rattle.depot_model.proofs.lists.Members.{all_push}
 use Rattle.depot_order.specs.Spots.{IsSpotAt}
 use Rattle.depot_graph.specs.Kept.{updates_in, prev_places}
 use Rattle.depot_graph.specs.UpdateRows.{IsJoinedRow}

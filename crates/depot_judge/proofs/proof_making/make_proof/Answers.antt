@@ -1,8 +1,8 @@
 use Rattle.std.proofs.Common.{refl, sym, subst, ◌∙◌}
 use Rattle.depot_base.specs.declared.proof.Proof.{Proof}
-use Rattle.depot_model.specs.Texts.{IsProof}
-use Rattle.depot_model.specs.Conviction.{IsGood}
-use Rattle.depot_model.proofs.JudgementLaws.{halves-proof_of, IsProof-proof_of, IsGood-proof_of}
+use Rattle.depot_model.specs.texts.Texts.{IsProof}
+use Rattle.depot_model.specs.updates.Conviction.{IsGood}
+use Rattle.depot_model.proofs.of_updates.JudgementLaws.{halves-proof_of, IsProof-proof_of, IsGood-proof_of}
 use Rattle.depot_judge.proofs.proof_making.make_proof.Goals as goal
 
 pub returns-clause-made : goal.returns-clause-made

@@ -1,6 +1,6 @@
 use Rattle.std.proofs.Common.{◌≡◌, take}
 use Rattle.std.specs.Map.{keys_of}
-use Rattle.depot_model.specs.Lists.{AreTogether}
+use Rattle.depot_model.specs.lists.Lists.{AreTogether}
 use Rattle.depot_kept.specs.IdSlots.{vouched_in, DoAscend}
 use Rattle.depot_kept.proofs.ids.reserve_all.Given as goal
 

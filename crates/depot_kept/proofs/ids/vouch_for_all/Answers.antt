@@ -1,6 +1,6 @@
 use Rattle.std.proofs.Common.{◌≡◌, ℕ, List, true, sym, subst}
 use Rattle.std.specs.Map.{keys_of}
-use Rattle.depot_model.specs.Lists.{is_among}
+use Rattle.depot_model.specs.lists.Lists.{is_among}
 use Rattle.depot_kept.proofs.IdSlotLaws.{read_is_within}
 use Rattle.depot_kept.proofs.ids.vouch_for_all.Goals as goal
 

@@ -1,6 +1,6 @@
 use Rattle.std.proofs.Common.{◌≡◌, take}
 use Rattle.std.specs.Map.{keys_of}
-use Rattle.depot_model.specs.Lists.{AreTogether}
+use Rattle.depot_model.specs.lists.Lists.{AreTogether}
 use Rattle.depot_kept.specs.IdSlots.{vouched_in}
 use Rattle.depot_kept.proofs.ids.vouch_for_all.Given as goal
 

@@ -1,7 +1,7 @@
 use Rattle.std.proofs.Common.{◌∙◌}
 use Rattle.depot_kept.proofs.KindLaws.{kept_is_voucher, came_is_voucher, both_are_updates}
 use Rattle.depot_kept.proofs.kinds.kind_behind_number.Goals as goal
-use Rattle.depot_model.proofs.BodyLaws.{id_of_its_update}
+use Rattle.depot_model.proofs.of_texts.BodyLaws.{id_of_its_update}
 
 pub kind_of_updates-requires-clause-first : goal.kind_of_updates-requires-clause-first
 kind_of_updates-requires-clause-first c = id_of_its_update _ _ _ c.requires.kept_id c.in-Update.is

@@ -1,4 +1,4 @@
-use Rattle.depot_laws.proofs.WritesAlone.{writes_alone, reads_alone, circle_alone}
+use Rattle.depot_laws.proofs.of_worlds.WritesAlone.{writes_alone, reads_alone, circle_alone}
 use Rattle.depot_laws.proofs.audits.audits_look_at_writes_alone.Goals as goal
 
 pub returns-clause-writes : goal.returns-clause-writes

@@ -1,4 +1,4 @@
-use Rattle.depot_laws.proofs.AuditLaws.{says_yes, yes_is_causal}
+use Rattle.depot_laws.proofs.of_audits.AuditLaws.{says_yes, yes_is_causal}
 use Rattle.depot_laws.proofs.audits.audits_say_yes.Goals as goal
 
 pub returns : goal.returns

@@ -1,4 +1,4 @@
-use Rattle.depot_laws.proofs.AuditLaws.{causal_yes}
+use Rattle.depot_laws.proofs.of_audits.AuditLaws.{causal_yes}
 use Rattle.depot_laws.proofs.audits.causal_worlds_get_yes.Goals as goal
 
 pub returns : goal.returns

@@ -1,4 +1,4 @@
-use Rattle.depot_laws.proofs.ClosedPaths.{closed_from, closed_to}
+use Rattle.depot_laws.proofs.orders.ClosedPaths.{closed_from, closed_to}
 use Rattle.depot_laws.proofs.audits.closures_find_paths.Goals as goal
 
 pub returns : goal.returns

@@ -1,4 +1,4 @@
-use Rattle.depot_laws.proofs.ExactTests.{exact_to, exact_from}
+use Rattle.depot_laws.proofs.of_worlds.ExactTests.{exact_to, exact_from}
 use Rattle.depot_laws.proofs.audits.exact_reads_pass.Goals as goal
 
 pub returns : goal.returns

@@ -1,5 +1,5 @@
-use Rattle.depot_laws.proofs.InLine.{none_unordered, none_unseen}
-use Rattle.depot_laws.proofs.Branches.{none_split}
+use Rattle.depot_laws.proofs.of_worlds.InLine.{none_unordered, none_unseen}
+use Rattle.depot_laws.proofs.orders.Branches.{none_split}
 use Rattle.depot_laws.proofs.audits.lawful_worlds_are_in_line.Goals as goal
 
 pub returns-clause-unordered : goal.returns-clause-unordered

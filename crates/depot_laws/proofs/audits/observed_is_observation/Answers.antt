@@ -1,4 +1,4 @@
-use Rattle.depot_laws.proofs.ObservedTests.{observed_from, observed_to}
+use Rattle.depot_laws.proofs.of_worlds.ObservedTests.{observed_from, observed_to}
 use Rattle.depot_laws.proofs.audits.observed_is_observation.Goals as goal
 
 pub returns : goal.returns

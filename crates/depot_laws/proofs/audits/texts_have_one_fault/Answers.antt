@@ -1,4 +1,4 @@
-use Rattle.depot_laws.proofs.FaultLaws.{one_fault}
+use Rattle.depot_laws.proofs.records.FaultLaws.{one_fault}
 use Rattle.depot_laws.proofs.audits.texts_have_one_fault.Goals as goal
 
 pub returns : goal.returns

@@ -1,5 +1,5 @@
-use Rattle.depot_laws.proofs.TracedWorlds.{traced_is_world}
-use Rattle.depot_laws.proofs.YesOfTraces.{yes_to, yes_from}
+use Rattle.depot_laws.proofs.of_audits.TracedWorlds.{traced_is_world}
+use Rattle.depot_laws.proofs.of_audits.YesOfTraces.{yes_to, yes_from}
 use Rattle.depot_laws.proofs.audits.traces_get_yes.Goals as goal
 
 pub returns-clause-world : goal.returns-clause-world

@@ -1,4 +1,4 @@
-use Rattle.depot_laws.proofs.OneFinding.{one_finding}
+use Rattle.depot_laws.proofs.of_audits.OneFinding.{one_finding}
 use Rattle.depot_laws.proofs.audits.traces_have_one_finding.Goals as goal
 
 pub returns : goal.returns

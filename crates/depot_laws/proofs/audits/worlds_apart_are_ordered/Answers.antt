@@ -1,4 +1,4 @@
-use Rattle.depot_laws.proofs.AuditLaws.{apart_circle, apart_exact, exact_puts}
+use Rattle.depot_laws.proofs.of_audits.AuditLaws.{apart_circle, apart_exact, exact_puts}
 use Rattle.depot_laws.proofs.audits.worlds_apart_are_ordered.Goals as goal
 
 pub returns-clause-circle : goal.returns-clause-circle

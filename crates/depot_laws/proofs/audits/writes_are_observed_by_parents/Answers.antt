@@ -1,4 +1,4 @@
-use Rattle.depot_laws.proofs.ByParents.{writes_to, writes_from, read_to, read_from, read_circle}
+use Rattle.depot_laws.proofs.of_worlds.ByParents.{writes_to, writes_from, read_to, read_from, read_circle}
 use Rattle.depot_laws.proofs.audits.writes_are_observed_by_parents.Goals as goal
 
 pub returns-clause-writes : goal.returns-clause-writes

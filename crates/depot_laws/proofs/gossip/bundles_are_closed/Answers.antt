@@ -1,4 +1,4 @@
-use Rattle.depot_laws.proofs.ClosedBundles.{all_is_sent, parents_are_sent}
+use Rattle.depot_laws.proofs.exchanges.ClosedBundles.{all_is_sent, parents_are_sent}
 use Rattle.depot_laws.proofs.gossip.bundles_are_closed.Goals as goal
 
 pub returns-clause-left : goal.returns-clause-left

@@ -1,4 +1,4 @@
-use Rattle.depot_laws.proofs.BundleSizes.{bundle_is_short}
+use Rattle.depot_laws.proofs.exchanges.BundleSizes.{bundle_is_short}
 use Rattle.depot_laws.proofs.gossip.bundles_fit_a_stream.Goals as goal
 
 pub returns : goal.returns

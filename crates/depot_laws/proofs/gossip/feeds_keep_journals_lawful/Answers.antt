@@ -1,4 +1,4 @@
-use Rattle.depot_laws.proofs.LawfulFeeds.{feed_keeps}
+use Rattle.depot_laws.proofs.exchanges.LawfulFeeds.{feed_keeps}
 use Rattle.depot_laws.proofs.gossip.feeds_keep_journals_lawful.Goals as goal
 
 pub returns : goal.returns

@@ -1,4 +1,4 @@
-use Rattle.depot_laws.proofs.Feeds.{pieces_are_one, frames_in_turn}
+use Rattle.depot_laws.proofs.exchanges.Feeds.{pieces_are_one, frames_in_turn}
 use Rattle.depot_laws.proofs.gossip.feeds_take_frames.Goals as goal
 
 pub returns-clause-pieces : goal.returns-clause-pieces

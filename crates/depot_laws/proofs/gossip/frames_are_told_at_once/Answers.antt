@@ -1,4 +1,4 @@
-use Rattle.depot_laws.proofs.FramesTold.{whole_is_in_front, front_is_whole, open_is_begun, begun_is_told, none_is_never, never_is_none}
+use Rattle.depot_laws.proofs.exchanges.FramesTold.{whole_is_in_front, front_is_whole, open_is_begun, begun_is_told, none_is_never, never_is_none}
 use Rattle.depot_laws.proofs.gossip.frames_are_told_at_once.Goals as goal
 
 pub returns-clause-whole : goal.returns-clause-whole

@@ -1,4 +1,4 @@
-use Rattle.depot_laws.proofs.HelloTexts.{hello_fits}
+use Rattle.depot_laws.proofs.exchanges.HelloTexts.{hello_fits}
 use Rattle.depot_laws.proofs.gossip.hellos_have_a_text.Goals as goal
 
 pub returns : goal.returns

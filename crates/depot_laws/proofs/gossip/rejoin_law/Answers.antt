@@ -1,4 +1,4 @@
-use Rattle.depot_laws.proofs.RejoinLaw.{rejoins}
+use Rattle.depot_laws.proofs.exchanges.RejoinLaw.{rejoins}
 use Rattle.depot_laws.proofs.gossip.rejoin_law.Goals as goal
 
 pub returns : goal.returns

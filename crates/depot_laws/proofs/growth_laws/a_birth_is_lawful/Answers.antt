@@ -1,4 +1,4 @@
-use Rattle.depot_laws.proofs.Births.{born}
+use Rattle.depot_laws.proofs.records.Births.{born}
 use Rattle.depot_laws.proofs.growth_laws.a_birth_is_lawful.Goals as goal
 
 pub returns : goal.returns

@@ -1,4 +1,4 @@
-use Rattle.depot_laws.proofs.Growing.{grown_is_lawful}
+use Rattle.depot_laws.proofs.records.Growing.{grown_is_lawful}
 use Rattle.depot_laws.proofs.growth_laws.growth_keeps_journals_lawful.Goals as goal
 
 pub returns : goal.returns

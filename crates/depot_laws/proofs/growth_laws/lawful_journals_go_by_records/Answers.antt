@@ -1,4 +1,4 @@
-use Rattle.depot_laws.proofs.Splits.{lawful_none, lawful_front, lawful_push, lawful_last, lawful_texts}
+use Rattle.depot_laws.proofs.lists.Splits.{lawful_none, lawful_front, lawful_push, lawful_last, lawful_texts}
 use Rattle.depot_laws.proofs.growth_laws.lawful_journals_go_by_records.Goals as goal
 
 pub returns-clause-none : goal.returns-clause-none

@@ -1,4 +1,4 @@
-use Rattle.depot_laws.proofs.FewLeaves.{few_leaves, few_foreign}
+use Rattle.depot_laws.proofs.records.FewLeaves.{few_leaves, few_foreign}
 use Rattle.depot_laws.proofs.growth_laws.leaves_are_few.Goals as goal
 
 pub returns-clause-all : goal.returns-clause-all

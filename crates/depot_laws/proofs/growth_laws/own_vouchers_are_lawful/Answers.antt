@@ -1,4 +1,4 @@
-use Rattle.depot_laws.proofs.NewVouchers.{new_are_lawful}
+use Rattle.depot_laws.proofs.records.NewVouchers.{new_are_lawful}
 use Rattle.depot_laws.proofs.growth_laws.own_vouchers_are_lawful.Goals as goal
 
 pub returns : goal.returns

@@ -1,4 +1,4 @@
-use Rattle.depot_laws.proofs.ContraryConvict.{contrary_convict}
+use Rattle.depot_laws.proofs.convicting.ContraryConvict.{contrary_convict}
 use Rattle.depot_laws.proofs.journals.contrary_statements_convict.Goals as goal
 
 pub returns : goal.returns

@@ -1,4 +1,4 @@
-use Rattle.depot_laws.proofs.ChainLaws.{one_chain, rising_chain}
+use Rattle.depot_laws.proofs.orders.ChainLaws.{one_chain, rising_chain}
 use Rattle.depot_laws.proofs.journals.unconvicted_writers_make_one_chain.Goals as goal
 
 pub returns-clause-chain : goal.returns-clause-chain

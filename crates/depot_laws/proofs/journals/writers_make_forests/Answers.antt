@@ -1,4 +1,4 @@
-use Rattle.depot_laws.proofs.ChainLaws.{forests, apart}
+use Rattle.depot_laws.proofs.orders.ChainLaws.{forests, apart}
 use Rattle.depot_laws.proofs.journals.writers_make_forests.Goals as goal
 
 pub returns-clause-prev : goal.returns-clause-prev

@@ -1,5 +1,5 @@
-use Rattle.depot_laws.proofs.HeldStays.{named_stays}
-use Rattle.depot_laws.proofs.TrueReceipts.{receipt_speaks, stays_held}
+use Rattle.depot_laws.proofs.records.HeldStays.{named_stays}
+use Rattle.depot_laws.proofs.of_audits.TrueReceipts.{receipt_speaks, stays_held}
 use Rattle.depot_laws.proofs.receipts.receipts_speak_of_held_values.Goals as goal
 
 pub returns-clause-speaks : goal.returns-clause-speaks

@@ -1,6 +1,6 @@
-use Rattle.depot_model.specs.Checks.{growth}
-use Rattle.depot_model.specs.Vouching.{records_of}
-use Rattle.depot_laws.proofs.TrueReceipts.{no_receipts_yet, front_is_true, silent_is_true, put_is_true, plain_put_is_true, receipt_put_is_true, growth_puts_none, vouchers_put_none, due_receipts}
+use Rattle.depot_model.specs.checks.Checks.{growth}
+use Rattle.depot_model.specs.checks.Vouching.{records_of}
+use Rattle.depot_laws.proofs.of_audits.TrueReceipts.{no_receipts_yet, front_is_true, silent_is_true, put_is_true, plain_put_is_true, receipt_put_is_true, growth_puts_none, vouchers_put_none, due_receipts}
 use Rattle.depot_laws.proofs.receipts.receipts_stay_true.Goals as goal
 
 pub returns-clause-none : goal.returns-clause-none

@@ -1,4 +1,4 @@
-use Rattle.depot_laws.proofs.Settled.{settled}
+use Rattle.depot_laws.proofs.of_audits.Settled.{settled}
 use Rattle.depot_laws.proofs.receipts.settled_law.Goals as goal
 
 pub returns : goal.returns

@@ -1,4 +1,4 @@
-use Rattle.depot_laws.proofs.PrunedAnswers.{contrary_names}
+use Rattle.depot_laws.proofs.of_readers.PrunedAnswers.{contrary_names}
 use Rattle.depot_laws.proofs.trimming.contrary_statements_name.Goals as goal
 
 pub returns : goal.returns

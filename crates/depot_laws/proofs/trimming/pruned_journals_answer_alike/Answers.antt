@@ -1,5 +1,5 @@
-use Rattle.depot_laws.proofs.PrunedAnswers.{statements_alike, proofs_alike}
-use Rattle.depot_laws.proofs.PrunedGrowth.{pruned_grows}
+use Rattle.depot_laws.proofs.of_readers.PrunedAnswers.{statements_alike, proofs_alike}
+use Rattle.depot_laws.proofs.of_readers.PrunedGrowth.{pruned_grows}
 use Rattle.depot_laws.proofs.trimming.pruned_journals_answer_alike.Goals as goal
 
 pub returns-clause-statements : goal.returns-clause-statements

@@ -1,4 +1,4 @@
-use Rattle.depot_laws.proofs.Superseded.{below_closed, precedes_below, trimmed_to, trimmed_from}
+use Rattle.depot_laws.proofs.of_readers.Superseded.{below_closed, precedes_below, trimmed_to, trimmed_from}
 use Rattle.depot_laws.proofs.trimming.superseded_updates_are_trimmed.Goals as goal
 
 pub returns-clause-closed : goal.returns-clause-closed

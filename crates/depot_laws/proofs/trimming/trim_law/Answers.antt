@@ -1,6 +1,6 @@
-use Rattle.depot_laws.proofs.Worlds.{one_text}
-use Rattle.depot_laws.proofs.TrimLaw.{trim}
-use Rattle.depot_laws.proofs.NeverBelow.{never_below}
+use Rattle.depot_laws.proofs.of_worlds.Worlds.{one_text}
+use Rattle.depot_laws.proofs.of_readers.TrimLaw.{trim}
+use Rattle.depot_laws.proofs.of_readers.NeverBelow.{never_below}
 use Rattle.depot_laws.proofs.trimming.trim_law.Goals as goal
 
 pub returns-clause-names : goal.returns-clause-names

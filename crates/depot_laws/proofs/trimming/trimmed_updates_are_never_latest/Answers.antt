@@ -1,4 +1,4 @@
-use Rattle.depot_laws.proofs.NeverLatest.{never_latest}
+use Rattle.depot_laws.proofs.of_readers.NeverLatest.{never_latest}
 use Rattle.depot_laws.proofs.trimming.trimmed_updates_are_never_latest.Goals as goal
 
 pub returns : goal.returns

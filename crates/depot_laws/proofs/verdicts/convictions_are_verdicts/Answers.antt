@@ -1,4 +1,4 @@
-use Rattle.depot_laws.proofs.GoodProofs.{verdict_from_allowed, allowed_from_verdict}
+use Rattle.depot_laws.proofs.convicting.GoodProofs.{verdict_from_allowed, allowed_from_verdict}
 use Rattle.depot_laws.proofs.verdicts.convictions_are_verdicts.Goals as goal
 
 pub returns : goal.returns

@@ -1,4 +1,4 @@
-use Rattle.depot_laws.proofs.Exposures.{fork_convicts, step_back_convicts}
+use Rattle.depot_laws.proofs.convicting.Exposures.{fork_convicts, step_back_convicts}
 use Rattle.depot_laws.proofs.verdicts.forks_and_steps_back_convict.Goals as goal
 
 pub returns-clause-forks : goal.returns-clause-forks

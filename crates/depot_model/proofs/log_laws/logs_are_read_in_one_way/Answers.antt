@@ -1,4 +1,4 @@
-use Rattle.depot_model.proofs.LogLaws.{one_log, log_has_no_fault, one_log_fault}
+use Rattle.depot_model.proofs.of_texts.LogLaws.{one_log, log_has_no_fault, one_log_fault}
 use Rattle.depot_model.proofs.log_laws.logs_are_read_in_one_way.Goals as goal
 
 pub returns-clause-one_list : goal.returns-clause-one_list

@@ -1,6 +1,6 @@
-use Rattle.depot_model.specs.Lists.{IsIn}
-use Rattle.depot_model.specs.Order.{Precedes}
-use Rattle.depot_model.proofs.LatestLaws.{one_latest_list}
+use Rattle.depot_model.specs.lists.Lists.{IsIn}
+use Rattle.depot_model.specs.updates.Order.{Precedes}
+use Rattle.depot_model.proofs.of_updates.LatestLaws.{one_latest_list}
 use Rattle.depot_model.proofs.order_laws.latest_writes_are_one_list.Goals as goal
 
 pub returns : goal.returns

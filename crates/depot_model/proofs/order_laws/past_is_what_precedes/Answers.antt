@@ -1,4 +1,4 @@
-use Rattle.depot_model.proofs.Pasts.{past_of_listed, past_of_next}
+use Rattle.depot_model.proofs.of_updates.Pasts.{past_of_listed, past_of_next}
 use Rattle.depot_model.proofs.order_laws.past_is_what_precedes.Goals as goal
 
 pub returns-clause-listed : goal.returns-clause-listed

@@ -1,6 +1,6 @@
 use Rattle.std.proofs.Common.{rules, refl}
 use Rattle.std.proofs.lemmas.Result.{err_from_is_err_and}
-use Rattle.depot_model.proofs.JournalCallLaws.{idle_call, never_stopped}
+use Rattle.depot_model.proofs.of_journals.JournalCallLaws.{idle_call, never_stopped}
 use Rattle.depot_node.specs.Holdings.{journal_on}
 use Rattle.depot_node.proofs.put.put.Goals as goal
 

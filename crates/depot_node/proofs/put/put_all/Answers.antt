@@ -2,7 +2,7 @@ use Rattle.std.proofs.Common.{◌≡◌, List, [], Ok, Err, rules, refl, sym, su
 use Rattle.std.proofs.lemmas.Result.{err_from_is_err_and}
 use Rattle.depot_base.specs.declared.record.Record.{Record}
 use Rattle.depot_model.specs.declared.put_answers.PutError.TheVariants as put_error
-use Rattle.depot_model.proofs.JournalCallLaws.{idle_call, never_stopped}
+use Rattle.depot_model.proofs.of_journals.JournalCallLaws.{idle_call, never_stopped}
 use Rattle.depot_readings.specs.ReadingsView as readings
 use Rattle.depot_readings.specs.ReadingsView.{Known}
 use Rattle.depot_readings.specs.RecordTexts.{IsGiven}

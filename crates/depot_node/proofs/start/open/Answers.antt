@@ -3,11 +3,11 @@ use Rattle.depot_base.specs.Calls.{FailsAmong, made}
 use Rattle.depot_base.specs.Disk.{LeavesOnly}
 use Rattle.depot_base.specs.File.{IsFileOf}
 use Rattle.depot_accept.specs.StateView.{setting}
-use Rattle.depot_model.specs.Checks.{Setting}
+use Rattle.depot_model.specs.checks.Checks.{Setting}
 use Rattle.depot_base.specs.declared.record.Record.{Record}
-use Rattle.depot_model.specs.Records.{text_of_record}
-use Rattle.depot_model.specs.Stops.{calls_to_record}
-use Rattle.depot_model.specs.RecordFaults.{AreTextsOf}
+use Rattle.depot_model.specs.texts.Records.{text_of_record}
+use Rattle.depot_model.specs.journals.Stops.{calls_to_record}
+use Rattle.depot_model.specs.checks.RecordFaults.{AreTextsOf}
 use Rattle.depot_node.specs.Holdings.{Holding, node_setting}
 use Rattle.depot_node.specs.Starting.{AreNotRead, IsDiskThen, LeavesNew, birth_after, calls_to_start_node, of_journal, started}
 use Rattle.depot_node.proofs.Fills.{says_damaged}

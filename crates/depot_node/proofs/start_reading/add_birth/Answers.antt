@@ -2,8 +2,8 @@
 use Rattle.std.proofs.Common.{◌≡◌, [], ◌∷◌, ◌++◌, List, Ok, Err, sym, ap, subst, ◌∙◌}
 use Rattle.depot_base.specs.declared.record.Record.{Record}
 use Rattle.depot_base.specs.declared.record.Record.TheVariants.{Birth}
-use Rattle.depot_model.specs.Lawful.{IsLawful}
-use Rattle.depot_model.specs.Texts.{hash_of_roster}
+use Rattle.depot_model.specs.journals.Lawful.{IsLawful}
+use Rattle.depot_model.specs.texts.Texts.{hash_of_roster}
 use Rattle.depot_readings.specs.RecordTexts.{IsGiven}
 use Rattle.depot_node.specs.Holdings.{node_setting}
 use Rattle.depot_node.specs.Starting.{birth_after}

@@ -1,8 +1,8 @@
 use Rattle.std.proofs.Common.{Bool, sym, ap, subst, ◌∙◌}
 use Rattle.std.proofs.lemmas.Result.{err_from_is_err_and}
-use Rattle.depot_model.specs.Checks.{Setting}
-use Rattle.depot_model.specs.Stops.{LeavesAll}
-use Rattle.depot_model.specs.RecordFaults.{AreTextsOf}
+use Rattle.depot_model.specs.checks.Checks.{Setting}
+use Rattle.depot_model.specs.journals.Stops.{LeavesAll}
+use Rattle.depot_model.specs.checks.RecordFaults.{AreTextsOf}
 use Rattle.depot_node.specs.Holdings.{Holding, IsWhole, node_setting}
 use Rattle.depot_node.proofs.RecordReads.{reading_begins, reading_ends, reading_goes_on, reading_is_shorter, reading_runs, reading_stands, reading_stops}
 use Rattle.depot_node.proofs.start_reading.read_all.Given.{Over}

@@ -1,6 +1,6 @@
 use Rattle.std.proofs.Common.{◌≡◌, ◌∷◌, ◌++◌, ℕ, List, Err, refl, subst, ◌∙◌}
-use Rattle.depot_model.specs.Journal.{accepted}
-use Rattle.depot_model.specs.Lawful.{IsLawful}
+use Rattle.depot_model.specs.journals.Journal.{accepted}
+use Rattle.depot_model.specs.journals.Lawful.{IsLawful}
 use Rattle.depot_readings.specs.ReadingsView as readings
 use Rattle.depot_readings.specs.ReadingsView.{Known}
 use Rattle.depot_node.specs.Holdings.{node_setting}

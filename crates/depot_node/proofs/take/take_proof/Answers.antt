@@ -1,10 +1,10 @@
 use Rattle.std.proofs.Common.{rules, refl, subst}
 use Rattle.std.proofs.lemmas.Result.{err_from_is_err_and}
 use Rattle.depot_base.specs.Closed.{closing}
-use Rattle.depot_model.specs.Checks.{given_proof}
-use Rattle.depot_model.specs.Texts.{proof}
-use Rattle.depot_model.specs.Taking.{as_proof}
-use Rattle.depot_model.proofs.JournalCallLaws.{idle_call, never_stopped}
+use Rattle.depot_model.specs.checks.Checks.{given_proof}
+use Rattle.depot_model.specs.texts.Texts.{proof}
+use Rattle.depot_model.specs.checks.Taking.{as_proof}
+use Rattle.depot_model.proofs.of_journals.JournalCallLaws.{idle_call, never_stopped}
 use Rattle.depot_readings.specs.ReadingsView as readings
 use Rattle.depot_readings.specs.ReadingsView.{Known}
 use Rattle.depot_decide.specs.Deciding.{DecidesProof}

@@ -1,5 +1,5 @@
 use Rattle.std.proofs.Common.{◌≡◌, List, ℕ, length, sym, ap, subst, ◌∙◌}
-use Rattle.depot_model.specs.Items.{places_of}
+use Rattle.depot_model.specs.lists.Items.{places_of}
 use Rattle.depot_order.specs.Spots.{chain_count}
 use Rattle.depot_graph.specs.Kept.{updates_in, prev_places}
 use Rattle.depot_graph.specs.UpdateRows.{IsJoinedRow}

@@ -1,7 +1,7 @@
 use Rattle.std.proofs.Common.{◌<◌, length, sym, subst, ◌∙◌}
 use Rattle.std.specs.List.{AllByRecursion}
 use Rattle.depot_graph.specs.Kept.{updates_in}
-use Rattle.depot_model.proofs.Members.{all_push}
+use Rattle.depot_model.proofs.lists.Members.{all_push}
 use Rattle.depot_graph.proofs.CoveredItems.{named_more, place_within}
 use Rattle.depot_queries.proofs.candidate_places.items_named.Goals as goal
 

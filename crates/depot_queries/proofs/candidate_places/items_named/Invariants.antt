@@ -1,6 +1,6 @@
 use Rattle.std.proofs.Common.{◌≡◌, ◌<◌, length, take}
 use Rattle.std.specs.List.{AllByRecursion}
-use Rattle.depot_model.specs.Items.{places_of}
+use Rattle.depot_model.specs.lists.Items.{places_of}
 use Rattle.depot_graph.specs.Kept.{updates_in}
 use Rattle.depot_queries.proofs.candidate_places.items_named.Given as goal
 

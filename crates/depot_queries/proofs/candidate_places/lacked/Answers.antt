@@ -2,8 +2,8 @@ use Rattle.std.proofs.Common.{◌<◌, ℕ, length, sym, subst}
 use Rattle.std.specs.List.{AllByRecursion}
 use Rattle.std.specs.List.Sorted.{IsNonDecreasing}
 use Rattle.std.proofs.lemmas.List.Sorted.{IsNonDecreasingBy-from_sort, IsPermutation-sym}
-use Rattle.depot_model.specs.Lists.{IsIn}
-use Rattle.depot_model.proofs.Members.{all_at, all_from, in_permuted}
+use Rattle.depot_model.specs.lists.Lists.{IsIn}
+use Rattle.depot_model.proofs.lists.Members.{all_at, all_from, in_permuted}
 use Rattle.depot_graph.specs.Kept.{updates_in}
 use Rattle.depot_queries.proofs.candidate_places.lacked.Goals as goal
 

@@ -2,8 +2,8 @@ use Rattle.std.proofs.Common.{ℕ, ◌+◌, ◌<◌, ◌≤◌, [], refl, length
 use Rattle.std.proofs.lemmas.Option.{slice_get-get_or}
 use Rattle.depot_graph.specs.Causal.{causal_from_test}
 use Rattle.depot_graph.specs.Kept.{updates_in}
-use Rattle.depot_model.specs.Bundle.{is_candidate}
-use Rattle.depot_model.proofs.Elements.{each_at}
+use Rattle.depot_model.specs.exchange.Bundle.{is_candidate}
+use Rattle.depot_model.proofs.lists.Elements.{each_at}
 use Rattle.depot_base.proofs.GeneralLaws.{at_place}
 use Rattle.depot_queries.proofs.BesidePlaces.{IsSoFar, so_far_more, so_far_same, so_far_all}
 use Rattle.depot_queries.proofs.TailLaws.{looked_more, so_far_to}

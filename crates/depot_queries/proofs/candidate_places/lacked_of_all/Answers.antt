@@ -1,7 +1,7 @@
 use Rattle.std.proofs.Common.{◌+◌, ◌<◌, length, get_or, sym, subst, ◌∙◌, arith}
 use Rattle.std.proofs.lemmas.Option.{slice_get-get_or}
 use Rattle.depot_graph.specs.Kept.{updates_in}
-use Rattle.depot_model.specs.Bundle.{is_candidate}
+use Rattle.depot_model.specs.exchange.Bundle.{is_candidate}
 use Rattle.depot_base.proofs.GeneralLaws.{at_place}
 use Rattle.depot_queries.proofs.BesidePlaces.{IsSoFar, so_far_more, so_far_same, so_far_all}
 use Rattle.depot_queries.proofs.candidate_places.lacked_of_all.Goals as goal

@@ -1,7 +1,7 @@
 use Rattle.std.proofs.Common.{List, ℕ}
-use Rattle.depot_model.specs.Items.{places_of}
+use Rattle.depot_model.specs.lists.Items.{places_of}
 use Rattle.depot_graph.specs.Kept.{updates_in}
-use Rattle.depot_model.specs.Bundle.{is_candidate}
+use Rattle.depot_model.specs.exchange.Bundle.{is_candidate}
 use Rattle.depot_graph.specs.UpdateRows.{IsJoinedRow}
 use Rattle.depot_queries.proofs.BesidePlaces.{IsSoFar}
 use Rattle.depot_queries.proofs.candidate_places.lacked_of_all.Given as goal

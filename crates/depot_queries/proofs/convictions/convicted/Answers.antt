@@ -1,9 +1,9 @@
 use Rattle.std.proofs.Common.{List, map, filter, ap, ◌∙◌}
 use Rattle.std.proofs.lemmas.List.{take_all}
 use Rattle.depot_base.specs.declared.key.RosterEntry.{RosterEntry}
-use Rattle.depot_model.specs.Checks.{Setting}
-use Rattle.depot_model.specs.Hello.{convicted_nodes}
-use Rattle.depot_model.specs.Journal.{is_convicted}
+use Rattle.depot_model.specs.checks.Checks.{Setting}
+use Rattle.depot_model.specs.exchange.Hello.{convicted_nodes}
+use Rattle.depot_model.specs.journals.Journal.{is_convicted}
 use Rattle.depot_queries.proofs.convictions.convicted.Goals as goal
 
 pub returns : goal.returns

@@ -1,6 +1,6 @@
 use Rattle.std.proofs.Common.{◌≡◌, map, take, filter}
 use Rattle.depot_base.specs.declared.key.RosterEntry.{RosterEntry}
-use Rattle.depot_model.specs.Journal.{is_convicted}
+use Rattle.depot_model.specs.journals.Journal.{is_convicted}
 use Rattle.depot_queries.proofs.convictions.convicted.Given as goal
 
 abbrev pub invariant-loop-entry : goal.invariant-loop-entry

@@ -1,7 +1,7 @@
 use Rattle.std.proofs.Common.{List, ◌∙◌, ap, not}
 use Rattle.std.specs.Prelude.{find}
 use Rattle.depot_base.specs.declared.update.Update.{Update}
-use Rattle.depot_model.specs.Journal.{has_id}
+use Rattle.depot_model.specs.journals.Journal.{has_id}
 use Rattle.depot_queries.proofs.DueReceipts.{nothing_against, unknown_against, value_against}
 use Rattle.depot_queries.proofs.due.changes_due.Goals as goal
 

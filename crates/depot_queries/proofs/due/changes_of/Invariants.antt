@@ -1,5 +1,5 @@
 use Rattle.std.proofs.Common.{◌≡◌, take}
-use Rattle.depot_model.specs.Receipts.{receipt_changes}
+use Rattle.depot_model.specs.worlds.Receipts.{receipt_changes}
 use Rattle.depot_queries.proofs.due.changes_of.Given as goal
 
 abbrev pub invariant-loop-id : goal.invariant-loop-id

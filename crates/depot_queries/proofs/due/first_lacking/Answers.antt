@@ -1,5 +1,5 @@
 use Rattle.std.proofs.Common.{◌∙◌, sym}
-use Rattle.depot_model.specs.Receipts.{lacks_one}
+use Rattle.depot_model.specs.worlds.Receipts.{lacks_one}
 use Rattle.depot_queries.proofs.DueReceipts.{found_first, passed_over}
 use Rattle.depot_queries.proofs.due.first_lacking.Goals as goal
 

@@ -1,6 +1,6 @@
 use Rattle.std.proofs.Common.{◌≡◌, take, None}
 use Rattle.std.specs.Prelude.{find}
-use Rattle.depot_model.specs.Receipts.{lacks_one}
+use Rattle.depot_model.specs.worlds.Receipts.{lacks_one}
 use Rattle.depot_queries.proofs.due.first_lacking.Given as goal
 
 abbrev pub invariant-loop-id : goal.invariant-loop-id

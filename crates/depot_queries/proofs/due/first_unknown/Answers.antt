@@ -1,6 +1,6 @@
 use Rattle.std.proofs.Common.{◌∙◌, sym, not}
 use Rattle.depot_graph.specs.Kept.{updates_in}
-use Rattle.depot_model.specs.Journal.{has_id}
+use Rattle.depot_model.specs.journals.Journal.{has_id}
 use Rattle.depot_queries.proofs.DueReceipts.{found_first, passed_over}
 use Rattle.depot_queries.proofs.due.first_unknown.Goals as goal
 

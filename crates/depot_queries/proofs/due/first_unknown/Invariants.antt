@@ -1,7 +1,7 @@
 use Rattle.std.proofs.Common.{◌≡◌, take, not, None}
 use Rattle.std.specs.Prelude.{find}
 use Rattle.depot_graph.specs.Kept.{updates_in}
-use Rattle.depot_model.specs.Journal.{has_id}
+use Rattle.depot_model.specs.journals.Journal.{has_id}
 use Rattle.depot_queries.proofs.due.first_unknown.Given as goal
 
 abbrev pub invariant-loop-id : goal.invariant-loop-id

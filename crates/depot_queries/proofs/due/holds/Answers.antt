@@ -1,5 +1,5 @@
 use Rattle.std.proofs.Common.{Some, None}
-use Rattle.depot_laws.proofs.HeldByHash.{held_by_hash}
+use Rattle.depot_laws.proofs.records.HeldByHash.{held_by_hash}
 use Rattle.depot_queries.proofs.due.holds.Goals as goal
 
 pub returns-in-Some : goal.returns-in-Some

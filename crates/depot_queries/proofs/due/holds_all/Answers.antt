@@ -1,5 +1,5 @@
 use Rattle.std.proofs.Common.{◌∙◌, sym}
-use Rattle.depot_model.specs.Journal.{holds}
+use Rattle.depot_model.specs.journals.Journal.{holds}
 use Rattle.depot_queries.proofs.DueReceipts.{written_more, written_fails}
 use Rattle.depot_queries.proofs.due.holds_all.Goals as goal
 

@@ -1,7 +1,7 @@
 use Rattle.std.proofs.Common.{◌≡◌, true, take}
 use Rattle.std.specs.List.{list_all}
 use Rattle.depot_base.specs.Writes.{values_in}
-use Rattle.depot_model.specs.Journal.{holds}
+use Rattle.depot_model.specs.journals.Journal.{holds}
 use Rattle.depot_queries.proofs.due.holds_all.Given as goal
 
 abbrev pub invariant-loop-write : goal.invariant-loop-write

@@ -5,8 +5,8 @@ use Rattle.depot_base.specs.declared.update.Update.{Update}
 use Rattle.depot_base.specs.declared.write.Write.{Write}
 use Rattle.depot_graph.specs.Causal.{causal_from_test}
 use Rattle.depot_graph.specs.Kept.{updates_in}
-use Rattle.depot_model.specs.Items.{place_of_id}
-use Rattle.depot_model.specs.Journal.{holds}
+use Rattle.depot_model.specs.lists.Items.{place_of_id}
+use Rattle.depot_model.specs.journals.Journal.{holds}
 use Rattle.depot_queries.proofs.DueReceipts.{lacks_at, lacks_none}
 use Rattle.depot_queries.proofs.due.is_lacking.Goals as goal
 

@@ -2,11 +2,11 @@ use Rattle.std.proofs.Common.{◌≡◌, ◌∙◌, ℕ, List, true, refl, sym, 
 use Rattle.depot_base.specs.Pairs.{AllPairsByRecursion}
 use Rattle.depot_base.specs.Parts.{is_below}
 use Rattle.depot_base.specs.declared.write.Change.{Change}
-use Rattle.depot_model.proofs.JournalCallLaws.{idle_call}
-use Rattle.depot_model.specs.Replicas.{journal_of}
-use Rattle.depot_model.specs.Putting.{IsPutCall}
-use Rattle.depot_model.specs.Receipts.{receipt_changes}
-use Rattle.depot_laws.proofs.TrueReceipts.{keys_rise}
+use Rattle.depot_model.proofs.of_journals.JournalCallLaws.{idle_call}
+use Rattle.depot_model.specs.journals.Replicas.{journal_of}
+use Rattle.depot_model.specs.checks.Putting.{IsPutCall}
+use Rattle.depot_model.specs.worlds.Receipts.{receipt_changes}
+use Rattle.depot_laws.proofs.of_audits.TrueReceipts.{keys_rise}
 use Rattle.depot_queries.proofs.GivenAnswers.{given_are_true, no_fault, as_put_call}
 use Rattle.depot_queries.proofs.giving.give.Goals as goal
 

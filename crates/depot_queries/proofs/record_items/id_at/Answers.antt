@@ -1,5 +1,5 @@
 use Rattle.std.proofs.Common.{[], ◌∷◌, List, ℕ, map, sym, ap, ◌∙◌}
-use Rattle.depot_model.specs.Texts.{id_of_update}
+use Rattle.depot_model.specs.texts.Texts.{id_of_update}
 use Rattle.depot_graph.specs.Kept.{updates_in}
 use Rattle.depot_queries.proofs.RecordItems.{item_within, item_update}
 use Rattle.depot_queries.proofs.record_items.id_at.Goals as goal

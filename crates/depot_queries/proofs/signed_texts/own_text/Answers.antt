@@ -1,9 +1,9 @@
 use Rattle.std.proofs.Common.{◌≡◌, length, ap, ◌∙◌, arith}
 use Rattle.std.proofs.lemmas.Result.{IfOk-weaker}
 use Rattle.depot_base.specs.declared.statement.Statement.{Statement}
-use Rattle.depot_model.specs.Bundle.{signed_with}
-use Rattle.depot_model.specs.Texts.{IsStatement, text_of_statement, text_of_signed}
-use Rattle.depot_model.proofs.TextLaws.{statement_is_short}
+use Rattle.depot_model.specs.exchange.Bundle.{signed_with}
+use Rattle.depot_model.specs.texts.Texts.{IsStatement, text_of_statement, text_of_signed}
+use Rattle.depot_model.proofs.of_texts.TextLaws.{statement_is_short}
 use Rattle.depot_queries.proofs.StatementTexts.{body_is_long, seq_in_body, signed_by_parts}
 use Rattle.depot_queries.proofs.signed_texts.own_text.Goals as goal
 

@@ -1,7 +1,7 @@
 use Rattle.std.proofs.Common.{◌≡◌, take}
 use Rattle.std.specs.List.{flat_map}
 use Rattle.depot_graph.specs.Kept.{updates_in}
-use Rattle.depot_model.specs.Items.{updates_at}
+use Rattle.depot_model.specs.lists.Items.{updates_at}
 use Rattle.depot_questions.specs.Answers.{write_told}
 use Rattle.depot_questions.proofs.latest.latest_writes.Given as goal
 

@@ -1,6 +1,6 @@
 use Rattle.std.proofs.Common.{◌++◌, ℕ, List, ap, ◌∙◌, arith}
 use Rattle.std.proofs.lemmas.List.{take_all}
-use Rattle.depot_model.specs.Vouching.{records_of}
+use Rattle.depot_model.specs.checks.Vouching.{records_of}
 use Rattle.depot_readings.specs.FrontPlaces.{voucher_places_from, with_place}
 use Rattle.depot_readings.specs.NewRecords.{vouchers_of}
 use Rattle.depot_readings.specs.declared.news.NewVoucher.{NewVoucher}

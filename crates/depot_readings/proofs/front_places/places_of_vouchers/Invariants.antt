@@ -1,5 +1,5 @@
 use Rattle.std.proofs.Common.{◌≡◌, ◌+◌, take}
-use Rattle.depot_model.specs.Vouching.{records_of}
+use Rattle.depot_model.specs.checks.Vouching.{records_of}
 use Rattle.depot_readings.specs.FrontPlaces.{voucher_places_from}
 use Rattle.depot_readings.specs.NewRecords.{vouchers_of}
 use Rattle.depot_readings.proofs.front_places.places_of_vouchers.Given as goal

@@ -1,6 +1,6 @@
 use Rattle.std.proofs.Common.{◌≡◌, map, take}
-use Rattle.depot_model.specs.Records.{text_of_record}
-use Rattle.depot_model.specs.Vouching.{records_of}
+use Rattle.depot_model.specs.texts.Records.{text_of_record}
+use Rattle.depot_model.specs.checks.Vouching.{records_of}
 use Rattle.depot_readings.specs.NewRecords.{vouchers_of}
 use Rattle.depot_readings.proofs.news.voucher_texts.Given as goal
 

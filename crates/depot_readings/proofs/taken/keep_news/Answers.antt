@@ -1,7 +1,7 @@
 use Rattle.std.proofs.Common.{ap, subst}
 use Rattle.std.specs.List.{AllByRecursion}
-use Rattle.depot_model.specs.Records.{IsRecord}
-use Rattle.depot_laws.proofs.LawfulRecords.{IsSigned-from_record}
+use Rattle.depot_model.specs.texts.Records.{IsRecord}
+use Rattle.depot_laws.proofs.records.LawfulRecords.{IsSigned-from_record}
 use Rattle.depot_readings.specs.NewRecords.{records_in}
 use Rattle.depot_readings.specs.declared.news.News.{News}
 use Rattle.depot_readings.proofs.TakenLaws.{none_taken, no_vouchers}

@@ -5,8 +5,8 @@ use Rattle.std.proofs.lemmas.Result.{on_err_weaker, on_ok_weaker}
 use Rattle.depot_base.proofs.Writing.{on_err_from}
 use Rattle.depot_base.specs.declared.limits.TheConstants.{MOST_LINES}
 use Rattle.depot_base.specs.Reading.{AddsFrontOf}
-use Rattle.depot_model.proofs.Members.{any_from}
-use Rattle.depot_model.specs.Lists.{IsIn}
+use Rattle.depot_model.proofs.lists.Members.{any_from}
+use Rattle.depot_model.specs.lists.Lists.{IsIn}
 use Rattle.depot_schedule.specs.declared.event.Event.{Event}
 use Rattle.depot_schedule.specs.declared.schedule.Schedule.{Schedule}
 use Rattle.depot_schedule.specs.declared.member.Member.{Member}
@@ -14,7 +14,7 @@ use Rattle.depot_schedule.specs.Schedules.{IsSchedule}
 use Rattle.depot_world.specs.Run.{run_of}
 use Rattle.depot_world.specs.Setups.{setup_of, suite_of}
 use Rattle.depot_world.specs.Transcript.{printed, transcript_of}
-use Rattle.depot_world.proofs.SoundRuns.{runs_are_sound}
+use Rattle.depot_world.proofs.of_worlds.SoundRuns.{runs_are_sound}
 use Rattle.depot_scenario.specs.MemberSigners.{AreSigners, member_signers_of}
 use Rattle.depot_scenario.specs.Scenarios.{IsSet, MayHappen}
 use Rattle.depot_simulation.specs.Asking.{asks_right_history}

@@ -2,7 +2,7 @@ use Rattle.std.proofs.Common.{[], ◌∷◌, ◌++◌, sym, ap, subst, ◌∙◌
 use Rattle.depot_base.specs.declared.update.Update.{Update}
 use Rattle.depot_graph.specs.Causal.{causal_from_test}
 use Rattle.depot_graph.specs.Kept.{updates_in}
-use Rattle.depot_model.specs.Order.{IsCausal}
+use Rattle.depot_model.specs.updates.Order.{IsCausal}
 use Rattle.depot_scenario.proofs.SeenUpdates.{fits_behind, seen_already, seen_more}
 use Rattle.depot_scenario.proofs.known_updates.hold.Goals as goal
 

@@ -1,4 +1,4 @@
-use Rattle.depot_model.proofs.BodyLaws.{IsStatement-from_update}
+use Rattle.depot_model.proofs.of_texts.BodyLaws.{IsStatement-from_update}
 use Rattle.depot_scenario.proofs.texts.update.Goals as goal
 
 pub signed-requires-clause-fits : goal.signed-requires-clause-fits

@@ -1,5 +1,5 @@
 use Rattle.std.proofs.Common.{◌≡◌, ◌++◌, take}
-use Rattle.depot_model.specs.Own.{values_of}
+use Rattle.depot_model.specs.checks.Own.{values_of}
 use Rattle.depot_world.specs.FaultySigning.{text_of_values}
 use Rattle.depot_scenario.proofs.value_frames.put_values.Given as goal
 

@@ -1,4 +1,4 @@
-use Rattle.depot_laws.proofs.SameBodies.{body_is, body_from}
+use Rattle.depot_laws.proofs.orders.SameBodies.{body_is, body_from}
 use Rattle.depot_search.proofs.Tests.{one_test}
 use Rattle.depot_search.proofs.accepted.is_one_body.Goals as goal
 

@@ -3,7 +3,7 @@ use Rattle.std.specs.Prelude.{option_map}
 use Rattle.std.specs.List.{AllByRecursion}
 use Rattle.std.proofs.lemmas.Result.{IfOk-weaker}
 use Rattle.depot_base.specs.declared.update.Update.{Update}
-use Rattle.depot_model.specs.Audit.{is_parent}
+use Rattle.depot_model.specs.worlds.Audit.{is_parent}
 use Rattle.depot_search.proofs.Findings.{is_made, found_is}
 use Rattle.depot_search.proofs.Journals.{all_told, all_of, all_few, few_reads}
 use Rattle.depot_search.proofs.Tables.{table_of}

@@ -1,5 +1,5 @@
 use Rattle.std.proofs.Common.{◌≡◌, drop}
-use Rattle.depot_model.specs.Contents.{value_for}
+use Rattle.depot_model.specs.texts.Contents.{value_for}
 use Rattle.depot_search.proofs.puts.value_for.Given as goal
 
 abbrev pub invariant-loop-write : goal.invariant-loop-write

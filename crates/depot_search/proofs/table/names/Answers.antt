@@ -2,8 +2,8 @@ use Rattle.std.proofs.Common.{ap, sym, ◌∙◌, ◌||◌, Bool, List, map}
 use Rattle.std.specs.List.{list_any}
 use Rattle.std.specs.Str.{bytes_eq}
 use Rattle.depot_base.specs.declared.update.Dep.{Dep}
-use Rattle.depot_model.specs.Lists.{is_among}
-use Rattle.depot_model.specs.Order.{prevs}
+use Rattle.depot_model.specs.lists.Lists.{is_among}
+use Rattle.depot_model.specs.updates.Order.{prevs}
 use Rattle.depot_search.proofs.Tests.{any_map, any_behind}
 use Rattle.depot_search.proofs.table.names.Goals as goal
 

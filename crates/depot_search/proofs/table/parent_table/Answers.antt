@@ -1,7 +1,7 @@
 use Rattle.std.proofs.Common.{ap, ◌∙◌, ℕ, List, map}
-use Rattle.depot_model.specs.Audit.{is_parent}
-use Rattle.depot_model.specs.Lists.{is_among}
-use Rattle.depot_model.specs.Order.{parents}
+use Rattle.depot_model.specs.worlds.Audit.{is_parent}
+use Rattle.depot_model.specs.lists.Lists.{is_among}
+use Rattle.depot_model.specs.updates.Order.{parents}
 use Rattle.depot_search.proofs.Tests.{seen_more}
 use Rattle.depot_search.proofs.table.parent_table.Goals as goal
 

@@ -1,5 +1,5 @@
 use Rattle.std.proofs.Common.{◌≡◌, map, take}
-use Rattle.depot_model.specs.Audit.{is_parent}
+use Rattle.depot_model.specs.worlds.Audit.{is_parent}
 use Rattle.depot_search.proofs.table.parent_table.Given as goal
 
 abbrev pub invariant-loop-write : goal.invariant-loop-write

@@ -1,5 +1,5 @@
 use Rattle.std.proofs.Common.{◌≡◌, drop}
-use Rattle.depot_model.specs.Journal.{accepted}
+use Rattle.depot_model.specs.journals.Journal.{accepted}
 use Rattle.depot_search.specs.Writes.{with_bodies}
 use Rattle.depot_search.proofs.writes.put_all.Given as goal
 

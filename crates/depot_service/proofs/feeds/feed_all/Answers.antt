@@ -6,8 +6,8 @@ use Rattle.depot_streams.specs.Pieces.{Stream, at_work}
 use Rattle.depot_streams.specs.declared.feed_error.FeedError.TheVariants as error
 use Rattle.depot_streams.proofs.FedCalls.{all_fed, chunk_fails, chunk_left, none_left, nothing_fed, runs_left}
 use Rattle.depot_streams.proofs.PieceLaws.{under_way_fails, under_way_first}
-use Rattle.depot_model.specs.Feeding.{feeding_from}
-use Rattle.depot_model.proofs.JournalCallLaws.{never_answered, never_stopped, runs_on}
+use Rattle.depot_model.specs.exchange.Feeding.{feeding_from}
+use Rattle.depot_model.proofs.of_journals.JournalCallLaws.{never_answered, never_stopped, runs_on}
 use Rattle.depot_service.proofs.FedStreams.{goes_on, renamed_fed, same_failure, told_all, under_way_on}
 use Rattle.depot_service.proofs.feeds.feed_all.Goals as goal
 

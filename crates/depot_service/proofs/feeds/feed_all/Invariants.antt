@@ -1,5 +1,5 @@
 use Rattle.std.proofs.Common.{◌≡◌, length, false}
-use Rattle.depot_model.specs.Feeding.{feeding_from}
+use Rattle.depot_model.specs.exchange.Feeding.{feeding_from}
 use Rattle.depot_streams.specs.Pieces.{at_work}
 use Rattle.depot_streams.proofs.FedCalls.{IsLeftWith}
 use Rattle.depot_streams.proofs.PieceLaws.{IsUnderWay}

@@ -1,7 +1,7 @@
 use Rattle.std.proofs.Common.{ℕ, List, [], ◌∷◌, ◌++◌, refl, ap, ◌∙◌, arith}
 use Rattle.std.proofs.lemmas.List.{take_all}
-use Rattle.depot_model.specs.Items.{updates_at}
-use Rattle.depot_model.specs.Journal.{accepted}
+use Rattle.depot_model.specs.lists.Items.{updates_at}
+use Rattle.depot_model.specs.journals.Journal.{accepted}
 use Rattle.depot_service.specs.Printing.{shown_text}
 use Rattle.depot_service.proofs.FedReaders.{printed_more_by, shown_are_by, shown_as_by}
 use Rattle.depot_service.proofs.ShownWrites.{is_one_of_them}

@@ -1,7 +1,7 @@
 use Rattle.std.proofs.Common.{◌≡◌, take}
-use Rattle.depot_model.specs.Items.{updates_at}
-use Rattle.depot_model.specs.Journal.{accepted}
-use Rattle.depot_model.specs.Readers.{Reader}
+use Rattle.depot_model.specs.lists.Items.{updates_at}
+use Rattle.depot_model.specs.journals.Journal.{accepted}
+use Rattle.depot_model.specs.readers.Readers.{Reader}
 use Rattle.depot_trim.specs.ReaderView.{IsReaderOf}
 use Rattle.depot_service.specs.Printing.{shown_text}
 use Rattle.depot_service.proofs.FedReaders.{shown_as_by}

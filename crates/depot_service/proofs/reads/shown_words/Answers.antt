@@ -1,10 +1,10 @@
 use Rattle.std.proofs.Common.{ℕ, List, get_or, refl, sym, ap, subst, ◌∙◌, arith}
 use Rattle.std.specs.Prelude.{slice_get}
 use Rattle.depot_base.specs.declared.update.Update.{Update}
-use Rattle.depot_model.specs.Order.{AreLatestIn}
+use Rattle.depot_model.specs.updates.Order.{AreLatestIn}
 use Rattle.std.proofs.lemmas.List.{take_all}
-use Rattle.depot_model.specs.Items.{updates_at}
-use Rattle.depot_model.specs.Journal.{accepted}
+use Rattle.depot_model.specs.lists.Items.{updates_at}
+use Rattle.depot_model.specs.journals.Journal.{accepted}
 use Rattle.depot_service.specs.Printing.{shown_text}
 use Rattle.depot_service.proofs.ShownWrites.{is_one_of_them, printed_more, shown_are, shown_as}
 use Rattle.depot_service.proofs.reads.shown_words.Goals as goal

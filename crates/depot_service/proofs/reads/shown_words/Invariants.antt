@@ -1,6 +1,6 @@
 use Rattle.std.proofs.Common.{◌≡◌, take}
-use Rattle.depot_model.specs.Items.{updates_at}
-use Rattle.depot_model.specs.Journal.{accepted}
+use Rattle.depot_model.specs.lists.Items.{updates_at}
+use Rattle.depot_model.specs.journals.Journal.{accepted}
 use Rattle.depot_service.specs.Printing.{shown_text}
 use Rattle.depot_service.proofs.ShownWrites.{shown_as}
 use Rattle.depot_service.proofs.reads.shown_words.Given as goal

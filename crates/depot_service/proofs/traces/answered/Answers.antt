@@ -2,8 +2,8 @@ use Rattle.std.proofs.Common.{◌≡◌, ◌∙◌, List, ap, sym, subst}
 use Rattle.std.specs.Prelude.{slice_get}
 use Rattle.depot_answers.specs.Sightings.{sighting_of_seen}
 use Rattle.depot_base.specs.declared.update.Update.{Update}
-use Rattle.depot_model.specs.Items.{at}
-use Rattle.depot_model.specs.Texts.{id_of_update}
+use Rattle.depot_model.specs.lists.Items.{at}
+use Rattle.depot_model.specs.texts.Texts.{id_of_update}
 use Rattle.depot_service.proofs.TracedReads.{is_answered, seen_fits}
 use Rattle.depot_service.proofs.traces.answered.Goals as goal
 

@@ -1,11 +1,11 @@
 use Rattle.std.proofs.Common.{ℕ, List, refl, ap, subst, ◌∙◌, map, arith}
 use Rattle.depot_base.specs.declared.update.Update.{Update}
-use Rattle.depot_model.specs.Order.{AreLatestIn}
+use Rattle.depot_model.specs.updates.Order.{AreLatestIn}
 use Rattle.std.proofs.lemmas.List.{take_all}
-use Rattle.depot_model.proofs.Members.{all_push}
-use Rattle.depot_model.specs.Items.{updates_at}
-use Rattle.depot_model.specs.Journal.{accepted}
-use Rattle.depot_model.specs.Traces as traces
+use Rattle.depot_model.proofs.lists.Members.{all_push}
+use Rattle.depot_model.specs.lists.Items.{updates_at}
+use Rattle.depot_model.specs.journals.Journal.{accepted}
+use Rattle.depot_model.specs.worlds.Traces as traces
 use Rattle.depot_traces.specs.TraceTexts.{answered_text}
 use Rattle.depot_service.proofs.ShownWrites.{is_one_of_them, shown_as}
 use Rattle.depot_service.proofs.TracedReads.{is_read, told_more}

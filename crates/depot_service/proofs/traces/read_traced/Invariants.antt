@@ -1,8 +1,8 @@
 use Rattle.std.proofs.Common.{◌≡◌, map, take}
 use Rattle.std.specs.List.{AllByRecursion}
-use Rattle.depot_model.specs.Items.{updates_at}
-use Rattle.depot_model.specs.Journal.{accepted}
-use Rattle.depot_model.specs.Traces.{answered}
+use Rattle.depot_model.specs.lists.Items.{updates_at}
+use Rattle.depot_model.specs.journals.Journal.{accepted}
+use Rattle.depot_model.specs.worlds.Traces.{answered}
 use Rattle.depot_traces.specs.SeenTraces.{answered_of}
 use Rattle.depot_traces.specs.TraceTexts.{answered_text}
 use Rattle.depot_service.proofs.ShownWrites.{shown_as}

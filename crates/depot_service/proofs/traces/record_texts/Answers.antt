@@ -1,5 +1,5 @@
 use Rattle.std.proofs.Common.{List, ◌∷◌, ◌++◌, map, take, sym, ap, ◌∙◌, ℕ, []}
-use Rattle.depot_model.specs.Records.{text_of_record}
+use Rattle.depot_model.specs.texts.Records.{text_of_record}
 use Rattle.depot_service.proofs.NodeTraces.{one_more_text}
 use Rattle.depot_service.proofs.traces.record_texts.Goals as goal
 

@@ -1,5 +1,5 @@
 use Rattle.std.proofs.Common.{◌≡◌, map, take}
-use Rattle.depot_model.specs.Records.{text_of_record}
+use Rattle.depot_model.specs.texts.Records.{text_of_record}
 use Rattle.depot_service.proofs.traces.record_texts.Given as goal
 
 abbrev pub invariant-loop-place : goal.invariant-loop-place

@@ -1,6 +1,6 @@
 use Rattle.std.proofs.Common.{Err, refl, ap, ◌∙◌, arith, inl}
 use Rattle.depot_session.specs.declared.ending.ScriptEnding.TheVariants as ending
-use Rattle.depot_model.proofs.JournalCallLaws.{never_answered}
+use Rattle.depot_model.proofs.of_journals.JournalCallLaws.{never_answered}
 use Rattle.depot_outside.specs.Told.{shelves, sinks}
 use Rattle.depot_session.proofs.AskedShelves.{unstored}
 use Rattle.depot_session.proofs.AskedTurns.{asked_to_disk, asked_told, asked_without_memory, keeps_cut, keeps_told, keeps_unasked, stores_of_step, unstored_by_step}

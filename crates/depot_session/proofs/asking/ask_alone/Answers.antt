@@ -2,7 +2,7 @@ use Rattle.std.proofs.Common.{refl, arith}
 use Rattle.depot_outside.specs.Told.{shelves, sinks}
 use Rattle.depot_session.proofs.AskedShelves.{not_stored, unstored}
 use Rattle.depot_session.proofs.ToldFaults.{names_memory, never_rose}
-use Rattle.depot_session.proofs.Uncalled.{keeps_uncalled, uncalled_without_memory}
+use Rattle.depot_session.proofs.on_disks.Uncalled.{keeps_uncalled, uncalled_without_memory}
 use Rattle.depot_session.proofs.asking.ask_alone.Goals as goal
 
 pub returns-in_err-request-clause-keeps : goal.returns-in_err-request-clause-keeps

@@ -6,7 +6,7 @@ use Rattle.depot_session.proofs.AskedCommands.{loads_file, loads_none}
 use Rattle.depot_session.proofs.AskedShelves.{not_stored, unstored}
 use Rattle.depot_session.proofs.KeptSteps.{on_ok}
 use Rattle.depot_session.proofs.ToldFaults.{names_memory, never_rose}
-use Rattle.depot_session.proofs.Uncalled.{keeps_uncalled, uncalled_without_memory}
+use Rattle.depot_session.proofs.on_disks.Uncalled.{keeps_uncalled, uncalled_without_memory}
 use Rattle.depot_session.proofs.asking.ask_node.Goals as goal
 
 pub returns-in_err-keep_read-clause-keeps : goal.returns-in_err-keep_read-clause-keeps

@@ -6,7 +6,7 @@ use Rattle.depot_session.proofs.AskedCommands.{names_file, step_absent}
 use Rattle.depot_session.proofs.AskedShelves.{not_stored, unstored}
 use Rattle.depot_session.proofs.StoredFiles.{shelves_from}
 use Rattle.depot_session.proofs.ToldFaults.{names_fault, names_memory, never_rose}
-use Rattle.depot_session.proofs.Uncalled.{keeps_uncalled, uncalled_without_file, uncalled_without_memory}
+use Rattle.depot_session.proofs.on_disks.Uncalled.{keeps_uncalled, uncalled_without_file, uncalled_without_memory}
 use Rattle.depot_session.proofs.asking.ask_with_file.Goals as goal
 
 pub returns-in_err-bytes-clause-keeps : goal.returns-in_err-bytes-clause-keeps

@@ -3,7 +3,7 @@ use Rattle.depot_outside.specs.Told.{shelves, sinks}
 use Rattle.depot_session.proofs.AskedShelves.{not_stored, stored_once}
 use Rattle.depot_session.proofs.ExportTurns.{export_turns}
 use Rattle.depot_session.proofs.ToldFaults.{names_memory, names_stored, never_rose}
-use Rattle.depot_session.proofs.Uncalled.{keeps_uncalled, uncalled_without_memory}
+use Rattle.depot_session.proofs.on_disks.Uncalled.{keeps_uncalled, uncalled_without_memory}
 use Rattle.depot_session.proofs.exporting.export.Goals as goal
 
 pub returns-in_err-text-clause-keeps : goal.returns-in_err-text-clause-keeps

@@ -2,7 +2,7 @@ use Rattle.std.proofs.Common.{refl, arith}
 use Rattle.depot_outside.specs.Told.{sinks}
 use Rattle.depot_session.proofs.ReaderTurns.{tget_turns}
 use Rattle.depot_session.proofs.ToldFaults.{names_memory, names_told, never_rose}
-use Rattle.depot_session.proofs.Uncalled.{keeps_uncalled, uncalled_without_memory}
+use Rattle.depot_session.proofs.on_disks.Uncalled.{keeps_uncalled, uncalled_without_memory}
 use Rattle.depot_session.proofs.reader_commands.tget.Goals as goal
 
 pub returns-in_err-line-clause-keeps : goal.returns-in_err-line-clause-keeps

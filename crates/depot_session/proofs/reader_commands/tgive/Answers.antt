@@ -1,6 +1,6 @@
 use Rattle.std.proofs.Common.{Some, refl, sym, ap, subst, ◌∙◌, arith}
 use Rattle.std.proofs.lemmas.List.{append-nil}
-use Rattle.depot_model.specs.ReaderFeeds.{reader_feed_of}
+use Rattle.depot_model.specs.readers.ReaderFeeds.{reader_feed_of}
 use Rattle.depot_outside.specs.Told.{shelves, sinks}
 use Rattle.depot_session.specs.Sessions.{ending_of_tgive}
 use Rattle.depot_session.specs.Turns.{KeepsReader}
@@ -8,7 +8,7 @@ use Rattle.depot_session.specs.declared.ending.ScriptEnding.TheVariants as endin
 use Rattle.depot_session.proofs.KeptSteps.{on_ok}
 use Rattle.depot_session.proofs.ReaderTurns.{fed_reader, fed_told, idle_reader, idle_told, none_kept, not_without_memory, one_kept, tgive_ends_calmly, tgives_absent}
 use Rattle.depot_session.proofs.ToldFaults.{EndsCalmly, names_fault, names_memory, names_told, never_rose}
-use Rattle.depot_session.proofs.Uncalled.{keeps_uncalled, uncalled_without_file, uncalled_without_memory}
+use Rattle.depot_session.proofs.on_disks.Uncalled.{keeps_uncalled, uncalled_without_file, uncalled_without_memory}
 use Rattle.depot_session.proofs.reader_commands.tgive.Goals as goal
 
 -- ---- no reader was made

@@ -1,12 +1,12 @@
 use Rattle.std.proofs.Common.{Some, refl, sym, ap, subst, ◌∙◌, arith}
 use Rattle.depot_outside.specs.Told.{shelves, sinks}
-use Rattle.depot_model.specs.Readers.{trim_of}
+use Rattle.depot_model.specs.readers.Readers.{trim_of}
 use Rattle.depot_session.specs.Turns.{KeepsReader}
 use Rattle.depot_session.specs.declared.ending.ScriptEnding.TheVariants as ending
 use Rattle.depot_session.proofs.KeptSteps.{on_ok}
 use Rattle.depot_session.proofs.ReaderTurns.{not_without_memory, trim_ends, trim_ends_calmly, trim_reader, trim_told, trims_absent}
 use Rattle.depot_session.proofs.ToldFaults.{EndsCalmly, names_fault, names_memory, names_told, never_rose}
-use Rattle.depot_session.proofs.Uncalled.{keeps_uncalled, uncalled_without_file, uncalled_without_memory}
+use Rattle.depot_session.proofs.on_disks.Uncalled.{keeps_uncalled, uncalled_without_file, uncalled_without_memory}
 use Rattle.depot_session.proofs.reader_commands.trim.Goals as goal
 
 pub trim-made-requires-clause-runs : goal.trim-made-requires-clause-runs

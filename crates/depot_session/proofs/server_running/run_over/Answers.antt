@@ -1,14 +1,14 @@
 use Rattle.std.proofs.Common.{◌≡◌, ◌<◌, ◌≤◌, ◌⊎◌, Bool, IsTrue, List, [], append-nil, ℕ, refl, sym, ap, subst, ◌∙◌, arith, inl, inr}
-use Rattle.depot_model.specs.Checks.{Setting}
-use Rattle.depot_model.specs.Stops.{HasFront, LeavesAll}
-use Rattle.depot_model.proofs.StopLaws.{idle_lasts}
+use Rattle.depot_model.specs.checks.Checks.{Setting}
+use Rattle.depot_model.specs.journals.Stops.{HasFront, LeavesAll}
+use Rattle.depot_model.proofs.of_journals.StopLaws.{idle_lasts}
 use Rattle.depot_node.specs.Starting.{birth_after, placed}
 use Rattle.depot_node.proofs.StartLaws.{lawful_file_starts}
 use Rattle.depot_outside.specs.Told.{disks, sinks}
-use Rattle.depot_session.proofs.RunImages.{either, has_from_key, refused_goes_on}
+use Rattle.depot_session.proofs.on_disks.RunImages.{either, has_from_key, refused_goes_on}
 use Rattle.depot_source.specs.Inputs.{inputs}
 use Rattle.depot_session.specs.Answering.{serves_at}
-use Rattle.depot_session.proofs.NodesOnDisks.{ComesTo, birth_brought, comes_to}
+use Rattle.depot_session.proofs.of_serving.NodesOnDisks.{ComesTo, birth_brought, comes_to}
 use Rattle.depot_session.proofs.server_running.run_over.Given.{Over}
 use Rattle.depot_session.proofs.server_running.run_over.Goals as goal
 

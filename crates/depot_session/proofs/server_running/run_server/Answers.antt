@@ -1,5 +1,5 @@
 use Rattle.std.proofs.Common.{rules, sym}
-use Rattle.depot_session.proofs.RunImages.{settled_there}
+use Rattle.depot_session.proofs.on_disks.RunImages.{settled_there}
 use Rattle.depot_session.proofs.server_running.run_server.Goals as goal
 
 pub returns-clause-stable : goal.returns-clause-stable

@@ -1,4 +1,4 @@
-use Rattle.depot_session.proofs.ServerTurns.{lawful_by_nothing}
+use Rattle.depot_session.proofs.of_serving.ServerTurns.{lawful_by_nothing}
 use Rattle.depot_session.proofs.server_running.stay.Goals as goal
 
 pub returns-in-Err-clause-lawful : goal.returns-in-Err-clause-lawful

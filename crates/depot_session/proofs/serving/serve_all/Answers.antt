@@ -4,9 +4,9 @@ use Rattle.depot_outside.specs.Told.{sinks}
 use Rattle.depot_source.specs.Inputs.{inputs}
 use Rattle.depot_session.specs.Answering.{serves_of}
 use Rattle.depot_session.specs.declared.server_ending.ServeEnding.TheVariants as ending
-use Rattle.depot_session.proofs.SameNodes.{serves_so}
+use Rattle.depot_session.proofs.of_serving.SameNodes.{serves_so}
 use Rattle.depot_session.proofs.RunTurns.{answered_more, cut_short, ended_by_count, none_answered, of_first, place_more, quiet, same_failing}
-use Rattle.depot_session.proofs.ServerTurns.{grows_by_nothing, lawful_by_nothing}
+use Rattle.depot_session.proofs.of_serving.ServerTurns.{grows_by_nothing, lawful_by_nothing}
 use Rattle.depot_session.proofs.serving.serve_all.Goals as goal
 
 pub loop-init : goal.loop-init

@@ -5,7 +5,7 @@ use Rattle.depot_requests.specs.declared.reply.Halt.{Halt}
 use Rattle.depot_requests.specs.declared.reply.Halt.TheVariants as halt
 use Rattle.depot_source.specs.Inputs.{inputs}
 use Rattle.depot_session.specs.Answering.{serves_of}
-use Rattle.depot_session.proofs.ServerTurns.{answered_long, begun_in_vain, disk_failed, half_told, none_written, unheard}
+use Rattle.depot_session.proofs.of_serving.ServerTurns.{answered_long, begun_in_vain, disk_failed, half_told, none_written, unheard}
 use Rattle.depot_session.proofs.serving.turn.Goals as goal
 
 not_both : (r : Result (List ℕ) Halt) → r ≡ Err halt.Memory → r ≡ Err halt.Disk → ⊥

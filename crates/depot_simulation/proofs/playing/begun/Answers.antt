@@ -1,7 +1,7 @@
 use Rattle.std.proofs.Common.{◌≡◌, ◌+◌, List, [], ◌∷◌, ◌++◌, get_or, take, map, Some, sym, ap, subst, ◌∙◌}
 use Rattle.std.proofs.lemmas.Bool.{not-true, not-false}
 use Rattle.std.proofs.lemmas.List.{take_all, map-append}
-use Rattle.depot_model.specs.Roster.{key_of}
+use Rattle.depot_model.specs.texts.Roster.{key_of}
 use Rattle.depot_schedule.specs.declared.member.Member.{Member}
 use Rattle.depot_world.specs.Run.{run_of}
 use Rattle.depot_world.specs.Setups.{setup_of}

@@ -1,11 +1,11 @@
 use Rattle.std.proofs.Common.{◌≡◌, ℕ, List, ◌++◌, length, false, Ok, Err, refl, sym, ap, subst, ◌∙◌, arith, length-append}
 use Rattle.std.proofs.lemmas.Result.{err_from_is_err_and}
-use Rattle.depot_model.specs.Frames.{frame_at, open_frame, no_frame, whole_frame}
+use Rattle.depot_model.specs.texts.Frames.{frame_at, open_frame, no_frame, whole_frame}
 use Rattle.depot_streams.specs.Pieces.{Feeds, at_work}
 use Rattle.depot_streams.specs.NodeCalls.{stream_by, frame_of, TakesFrame}
 use Rattle.depot_streams.proofs.ChunkLaws.{in_reach, stands_in}
 use Rattle.depot_streams.proofs.FedCalls.{nothing_fed, frame_fed}
-use Rattle.depot_model.proofs.JournalCallLaws.{never_stopped}
+use Rattle.depot_model.proofs.of_journals.JournalCallLaws.{never_stopped}
 use Rattle.depot_streams.proofs.PieceLaws.{over_is_ill, chunk_is_dropped, chunk_is_open, chunk_is_ill, frame_is_fed, chunk_is_taken}
 use Rattle.depot_streams.proofs.feed.feed_chunk.Goals as goal
 

@@ -8,7 +8,7 @@ use Rattle.depot_streams.specs.Pieces.{at_work}
 use Rattle.depot_streams.specs.NodeCalls.{stream_by}
 use Rattle.depot_streams.proofs.ChunkLaws.{in_reach}
 use Rattle.depot_streams.proofs.FedCalls.{none_left, runs_left, chunk_left, chunk_fails, all_fed}
-use Rattle.depot_model.proofs.JournalCallLaws.{never_answered}
+use Rattle.depot_model.proofs.of_journals.JournalCallLaws.{never_answered}
 use Rattle.depot_streams.proofs.PieceLaws.{under_way_first, under_way_on, under_way_fails}
 use Rattle.depot_streams.proofs.feed.feed_piece.Goals as goal
 

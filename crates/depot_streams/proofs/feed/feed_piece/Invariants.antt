@@ -1,5 +1,5 @@
 use Rattle.std.proofs.Common.{◌≡◌, length, false}
-use Rattle.depot_model.specs.Frames.{frame_at, open_frame}
+use Rattle.depot_model.specs.texts.Frames.{frame_at, open_frame}
 use Rattle.depot_streams.specs.Pieces.{at_work}
 use Rattle.depot_streams.specs.NodeCalls.{stream_by, IsTally}
 use Rattle.depot_streams.proofs.FedCalls.{IsLeftWith}

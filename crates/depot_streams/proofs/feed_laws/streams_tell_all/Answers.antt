@@ -1,6 +1,6 @@
 use Rattle.std.proofs.Common.{refl, sym, ap}
 use Rattle.std.specs.Prelude.{Option}
-use Rattle.depot_model.specs.Feeding.{Closing, report_of, ending_of}
+use Rattle.depot_model.specs.exchange.Feeding.{Closing, report_of, ending_of}
 use Rattle.depot_streams.proofs.feed_laws.streams_tell_all.Goals as goal
 
 pub returns-clause-report : goal.returns-clause-report

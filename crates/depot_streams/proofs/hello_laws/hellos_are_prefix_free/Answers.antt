@@ -1,6 +1,6 @@
 use Rattle.depot_base.proofs.Combined.{prefix_free}
-use Rattle.depot_model.specs.Hello.{hello}
-use Rattle.depot_model.proofs.HelloLaws.{hello_lawful}
+use Rattle.depot_model.specs.exchange.Hello.{hello}
+use Rattle.depot_model.proofs.of_texts.HelloLaws.{hello_lawful}
 use Rattle.depot_streams.proofs.hello_laws.hellos_are_prefix_free.Goals as goal
 
 pub returns : goal.returns

@@ -1,7 +1,7 @@
 use Rattle.std.proofs.Common.{arith}
 use Rattle.depot_base.proofs.Decoding.{is_early, decodes}
-use Rattle.depot_model.specs.Hello.{hello}
-use Rattle.depot_model.proofs.HelloLaws.{hello_lawful}
+use Rattle.depot_model.specs.exchange.Hello.{hello}
+use Rattle.depot_model.proofs.of_texts.HelloLaws.{hello_lawful}
 use Rattle.depot_streams.proofs.hello_text.decode_hello.Goals as goal
 
 pub answer-requires : goal.answer-requires

@@ -6,7 +6,7 @@ use Rattle.std.proofs.lemmas.Result.{on_ok_weaker}
 use Rattle.depot_base.specs.Cursor.{numeral}
 use Rattle.depot_base.specs.Format.{number, bytes_of, list_of}
 use Rattle.depot_base.specs.Parts.{node_number, digest}
-use Rattle.depot_model.specs.Hello.{hello, hello_leaf}
+use Rattle.depot_model.specs.exchange.Hello.{hello, hello_leaf}
 use Rattle.depot_streams.proofs.hello_text.put_hello.Goals as goal
 
 -- seven pieces, the last three of which are a count and a list

@@ -1,7 +1,7 @@
 use Rattle.std.proofs.Common.{◌≡◌, ◌++◌, take}
 use Rattle.std.specs.List.{flat_map}
 use Rattle.depot_base.specs.Tags.{frame_byte}
-use Rattle.depot_model.specs.Frames.{text_of_frame}
+use Rattle.depot_model.specs.texts.Frames.{text_of_frame}
 use Rattle.depot_streams.specs.Sendings.{payloads_of, frames_under}
 use Rattle.depot_streams.proofs.sending.put_frames.Given as goal
 

@@ -1,6 +1,6 @@
 use Rattle.std.proofs.Common.{arith}
 use Rattle.depot_base.specs.declared.tags.FrameTag.TheVariants as tag
-use Rattle.depot_model.specs.Taking.{as_proof, as_statement, as_value}
+use Rattle.depot_model.specs.checks.Taking.{as_proof, as_statement, as_value}
 use Rattle.depot_streams.specs.NodeCalls.{frame_of}
 use Rattle.depot_streams.proofs.GivenLaws.{proof_answers, statement_answers, value_answers}
 use Rattle.depot_streams.proofs.FrameGrowth.{proof_brings, statement_brings, value_brings, given_call}

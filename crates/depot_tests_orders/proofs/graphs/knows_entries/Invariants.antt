@@ -1,6 +1,6 @@
 use Rattle.std.proofs.Common.{ℕ, List, map, take}
-use Rattle.depot_model.specs.Lists.{IsIn}
-use Rattle.depot_model.specs.Texts.{id_of_update}
+use Rattle.depot_model.specs.lists.Lists.{IsIn}
+use Rattle.depot_model.specs.texts.Texts.{id_of_update}
 use Rattle.depot_graph.specs.Kept.{updates_in}
 use Rattle.depot_tests_orders.proofs.graphs.knows_entries.Given as goal
 

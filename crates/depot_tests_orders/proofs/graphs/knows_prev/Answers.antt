@@ -1,5 +1,5 @@
 use Rattle.std.proofs.Common.{map, true}
-use Rattle.depot_model.specs.Texts.{id_of_update}
+use Rattle.depot_model.specs.texts.Texts.{id_of_update}
 use Rattle.depot_graph.specs.Kept.{updates_in}
 use Rattle.depot_graph.proofs.Known.{prev_is_known}
 use Rattle.depot_tests_orders.proofs.graphs.knows_prev.Goals as goal

@@ -3,16 +3,16 @@ use Rattle.std.specs.List.{filter}
 use Rattle.std.proofs.lemmas.List.{append-nil}
 use Rattle.depot_base.specs.declared.update.Update.{Update}
 use Rattle.depot_base.proofs.GeneralLaws.{at_place}
-use Rattle.depot_model.specs.Bundle.{is_covered}
-use Rattle.depot_model.specs.Items.{places_of}
-use Rattle.depot_model.specs.Lists.{IsIn}
-use Rattle.depot_model.specs.Order.{IsCausal}
-use Rattle.depot_model.proofs.Elements.{in_at}
+use Rattle.depot_model.specs.exchange.Bundle.{is_covered}
+use Rattle.depot_model.specs.lists.Items.{places_of}
+use Rattle.depot_model.specs.lists.Lists.{IsIn}
+use Rattle.depot_model.specs.updates.Order.{IsCausal}
+use Rattle.depot_model.proofs.lists.Elements.{in_at}
 use Rattle.depot_graph.specs.Causal.{causal_from_test}
 use Rattle.depot_graph.specs.Kept.{updates_in}
 use Rattle.depot_graph.specs.UpdateRows.{IsJoinedRow}
 use Rattle.depot_graph.proofs.CoveredItems.{row_counts_covered}
-use Rattle.depot_laws.proofs.OwnTexts.{accepted_fit}
+use Rattle.depot_laws.proofs.own_updates.OwnTexts.{accepted_fit}
 use Rattle.depot_trim.specs.Trimmings.{ids_in}
 use Rattle.depot_trim.proofs.BelowLaws.{below_fits, fewer_below, few_items, next_fits}
 use Rattle.depot_trim.proofs.SoFar.{filter_next}

@@ -1,6 +1,6 @@
 use Rattle.std.proofs.Common.{◌≡◌, take}
 use Rattle.std.specs.List.{filter}
-use Rattle.depot_model.specs.Bundle.{is_covered}
+use Rattle.depot_model.specs.exchange.Bundle.{is_covered}
 use Rattle.depot_graph.specs.Kept.{updates_in}
 use Rattle.depot_trim.specs.Trimmings.{ids_in}
 use Rattle.depot_trim.proofs.below.graph_below.Given as goal

@@ -1,9 +1,9 @@
 use Rattle.std.proofs.Common.{◌∙◌, List, map, ap}
 use Rattle.std.specs.List.{list_any}
 use Rattle.depot_base.specs.declared.write.Write.{Write}
-use Rattle.depot_model.specs.Journal.{has_id}
-use Rattle.depot_model.specs.LatestList.{latest_in}
-use Rattle.depot_model.specs.Texts.{id_of_update}
+use Rattle.depot_model.specs.journals.Journal.{has_id}
+use Rattle.depot_model.specs.updates.LatestList.{latest_in}
+use Rattle.depot_model.specs.texts.Texts.{id_of_update}
 use Rattle.depot_graph.specs.Kept.{updates_in}
 use Rattle.depot_trim.proofs.BelowLaws.{there_is, none_is}
 use Rattle.depot_trim.proofs.below.is_given_up.Goals as goal

@@ -2,9 +2,9 @@ use Rattle.std.proofs.Common.{◌≡◌, Some, false, map, take}
 use Rattle.std.specs.Prelude.{slice_get}
 use Rattle.std.specs.List.{list_any}
 use Rattle.depot_base.specs.declared.update.Update.{Update}
-use Rattle.depot_model.specs.Journal.{has_id}
-use Rattle.depot_model.specs.LatestList.{latest_in}
-use Rattle.depot_model.specs.Texts.{id_of_update}
+use Rattle.depot_model.specs.journals.Journal.{has_id}
+use Rattle.depot_model.specs.updates.LatestList.{latest_in}
+use Rattle.depot_model.specs.texts.Texts.{id_of_update}
 use Rattle.depot_graph.specs.Kept.{updates_in}
 use Rattle.depot_trim.proofs.below.is_latest.Given as goal
 

@@ -1,6 +1,6 @@
 use Rattle.depot_base.proofs.Combined.{prefix_free}
-use Rattle.depot_model.specs.Checkpoints.{checkpoint}
-use Rattle.depot_model.proofs.CheckpointLaws.{checkpoint_lawful}
+use Rattle.depot_model.specs.readers.Checkpoints.{checkpoint}
+use Rattle.depot_model.proofs.of_texts.CheckpointLaws.{checkpoint_lawful}
 use Rattle.depot_trim.proofs.checkpoint_laws.checkpoints_are_prefix_free.Goals as goal
 
 pub returns : goal.returns

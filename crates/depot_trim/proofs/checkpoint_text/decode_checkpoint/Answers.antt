@@ -1,7 +1,7 @@
 use Rattle.std.proofs.Common.{arith}
 use Rattle.depot_base.proofs.Decoding.{is_early, decodes}
-use Rattle.depot_model.specs.Checkpoints.{checkpoint}
-use Rattle.depot_model.proofs.CheckpointLaws.{checkpoint_lawful}
+use Rattle.depot_model.specs.readers.Checkpoints.{checkpoint}
+use Rattle.depot_model.proofs.of_texts.CheckpointLaws.{checkpoint_lawful}
 use Rattle.depot_trim.proofs.checkpoint_text.decode_checkpoint.Goals as goal
 
 pub answer-requires : goal.answer-requires

@@ -6,8 +6,8 @@ use Rattle.std.proofs.lemmas.Result.{on_ok_weaker}
 use Rattle.depot_base.specs.Cursor.{numeral}
 use Rattle.depot_base.specs.Format.{number, bytes_of, list_of}
 use Rattle.depot_model.specs.declared.hello.HelloLeaf.{HelloLeaf}
-use Rattle.depot_model.specs.Hello.{hello_leaf}
-use Rattle.depot_model.specs.Checkpoints.{Checkpoint, checkpoint, text_of_checkpoint}
+use Rattle.depot_model.specs.exchange.Hello.{hello_leaf}
+use Rattle.depot_model.specs.readers.Checkpoints.{Checkpoint, checkpoint, text_of_checkpoint}
 use Rattle.depot_trim.proofs.checkpoint_text.put_checkpoint.Goals as goal
 
 -- four pieces, the last of which is a count and a list

@@ -1,9 +1,9 @@
 use Rattle.std.proofs.Common.{refl}
 use Rattle.std.proofs.lemmas.Result.{on_ok_weaker}
 use Rattle.depot_base.specs.declared.record.Record.TheVariants.{Foreign}
-use Rattle.depot_model.specs.Journal.{update_in}
-use Rattle.depot_laws.proofs.LawfulRecords.{IsSigned-from_record}
-use Rattle.depot_laws.proofs.Splits.{lawful_last}
+use Rattle.depot_model.specs.journals.Journal.{update_in}
+use Rattle.depot_laws.proofs.records.LawfulRecords.{IsSigned-from_record}
+use Rattle.depot_laws.proofs.lists.Splits.{lawful_last}
 use Rattle.depot_trim.proofs.Fillings.{few, few_foreign, fill, fits, told_of_voucher}
 use Rattle.depot_trim.proofs.filling.add_foreign.Goals as goal
 

@@ -1,10 +1,10 @@
 use Rattle.std.proofs.Common.{◌∙◌, true, false, [], ◌∷◌, refl, sym, ap}
 use Rattle.std.proofs.lemmas.Result.{on_ok_weaker}
 use Rattle.depot_base.specs.declared.record.Record.TheVariants.{OwnPut, Foreign}
-use Rattle.depot_model.specs.Journal.{update_in}
-use Rattle.depot_laws.proofs.LawfulRecords.{IsSigned-from_record}
-use Rattle.depot_laws.proofs.Splits.{lawful_last}
-use Rattle.depot_model.specs.Texts.{id_of_statement}
+use Rattle.depot_model.specs.journals.Journal.{update_in}
+use Rattle.depot_laws.proofs.records.LawfulRecords.{IsSigned-from_record}
+use Rattle.depot_laws.proofs.lists.Splits.{lawful_last}
+use Rattle.depot_model.specs.texts.Texts.{id_of_statement}
 use Rattle.depot_readings.proofs.StateGrowth.{id_of_put}
 use Rattle.depot_trim.proofs.Fillings.{few, few_foreign, fill, fits, flag, flag_inside, inside, is_update, next, told_of_update}
 use Rattle.depot_trim.proofs.filling.add_foreign_update.Goals as goal

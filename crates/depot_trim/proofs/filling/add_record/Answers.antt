@@ -2,13 +2,13 @@ use Rattle.std.proofs.Common.{◌∙◌, [], ◌∷◌, ◌++◌, refl, sym, ap,
 use Rattle.std.proofs.lemmas.Result.{on_ok_weaker}
 use Rattle.depot_base.specs.declared.record.Record.{Record}
 use Rattle.depot_base.specs.declared.record.Record.TheVariants.{OwnVoucher, Conviction}
-use Rattle.depot_model.specs.Journal.{accepted_by}
-use Rattle.depot_model.specs.Lawful.{IsLawful}
-use Rattle.depot_model.specs.Pruning.{pruned_by}
-use Rattle.depot_model.specs.Records.{IsRecord}
-use Rattle.depot_model.specs.Roster.{has_node}
-use Rattle.depot_laws.proofs.LawfulRecords.{IsStatement-from_own_voucher}
-use Rattle.depot_laws.proofs.Splits.{lawful_last}
+use Rattle.depot_model.specs.journals.Journal.{accepted_by}
+use Rattle.depot_model.specs.journals.Lawful.{IsLawful}
+use Rattle.depot_model.specs.readers.Pruning.{pruned_by}
+use Rattle.depot_model.specs.texts.Records.{IsRecord}
+use Rattle.depot_model.specs.texts.Roster.{has_node}
+use Rattle.depot_laws.proofs.records.LawfulRecords.{IsStatement-from_own_voucher}
+use Rattle.depot_laws.proofs.lists.Splits.{lawful_last}
 use Rattle.depot_accept.specs.StateView.{setting}
 use Rattle.depot_readings.proofs.StateGrowth.{accused_is_listed, silent_state}
 use Rattle.depot_trim.proofs.Fillings.{few, fill, fits, is_update, next}

@@ -1,9 +1,9 @@
 use Rattle.std.proofs.Common.{◌∙◌, take, Some, arith, sym, ap}
 use Rattle.depot_base.specs.declared.record.Record.{Record}
-use Rattle.depot_model.specs.Records.{text_of_record}
-use Rattle.depot_model.proofs.Elements.{in_at}
+use Rattle.depot_model.specs.texts.Records.{text_of_record}
+use Rattle.depot_model.proofs.lists.Elements.{in_at}
 use Rattle.depot_graph.specs.Kept.{updates_in}
-use Rattle.depot_laws.proofs.Splits.{lawful_texts}
+use Rattle.depot_laws.proofs.lists.Splits.{lawful_texts}
 use Rattle.depot_accept.specs.StateView.{setting}
 use Rattle.depot_trim.proofs.Fillings.{filled_next, filling, none_filled, stands_so, text_is}
 use Rattle.depot_trim.proofs.SoFar.{take_next}

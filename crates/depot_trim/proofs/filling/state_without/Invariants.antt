@@ -1,6 +1,6 @@
 use Rattle.std.proofs.Common.{◌≡◌, List, take}
 use Rattle.depot_base.specs.declared.update.Update.{Update}
-use Rattle.depot_model.specs.Pruning.{pruned}
+use Rattle.depot_model.specs.readers.Pruning.{pruned}
 use Rattle.depot_graph.specs.Kept.{updates_in}
 use Rattle.depot_accept.specs.StateView.{IsStateOf, setting}
 use Rattle.depot_trim.specs.Trimmings.{given_up}

@@ -1,6 +1,6 @@
 use Rattle.std.proofs.Common.{◌∙◌, sym}
 use Rattle.std.proofs.lemmas.Result.{on_ok_weaker}
-use Rattle.depot_model.specs.Journal.{held}
+use Rattle.depot_model.specs.journals.Journal.{held}
 use Rattle.depot_trim.proofs.KeptValues.{held_fits, none_more}
 use Rattle.depot_trim.proofs.keeping.add_name.Goals as goal
 

@@ -3,8 +3,8 @@ use Rattle.std.specs.List.{list_any}
 use Rattle.std.proofs.Math.Bool.{or_assoc}
 use Rattle.depot_base.specs.declared.update.NamedValue.{NamedValue}
 use Rattle.depot_base.proofs.GeneralLaws.{or_none}
-use Rattle.depot_model.specs.Contents.{names_value}
-use Rattle.depot_model.specs.Journal.{held}
+use Rattle.depot_model.specs.texts.Contents.{names_value}
+use Rattle.depot_model.specs.journals.Journal.{held}
 use Rattle.depot_readings.specs.Named.{is_value_named}
 use Rattle.depot_trim.proofs.KeptValues.{kept_alike}
 use Rattle.depot_trim.proofs.SoFar.{any_next, element_at, whole}

@@ -1,6 +1,6 @@
 use Rattle.std.proofs.Common.{◌≡◌, ℕ, Bool, List, ◌||◌, take}
 use Rattle.std.specs.List.{list_any}
-use Rattle.depot_model.specs.Journal.{held}
+use Rattle.depot_model.specs.journals.Journal.{held}
 use Rattle.depot_readings.specs.Named.{is_value_named}
 use Rattle.depot_kept.specs.Values as values
 use Rattle.depot_trim.specs.Trimmings.{kept_of}

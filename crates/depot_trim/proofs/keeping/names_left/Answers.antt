@@ -3,9 +3,9 @@ use Rattle.std.specs.Prelude.{slice_get}
 use Rattle.std.proofs.lemmas.List.{append-nil, length-map}
 use Rattle.depot_base.specs.declared.update.Update.{Update}
 use Rattle.depot_base.proofs.GeneralLaws.{at_place}
-use Rattle.depot_model.specs.Journal.{has_id}
-use Rattle.depot_model.specs.Readers.{left_of}
-use Rattle.depot_model.specs.Texts.{id_of_update}
+use Rattle.depot_model.specs.journals.Journal.{has_id}
+use Rattle.depot_model.specs.readers.Readers.{left_of}
+use Rattle.depot_model.specs.texts.Texts.{id_of_update}
 use Rattle.depot_graph.specs.Kept.{updates_in}
 use Rattle.depot_readings.specs.Named.{AreNamed}
 use Rattle.depot_trim.proofs.SoFar.{filter_next, map_at}

@@ -1,6 +1,6 @@
 use Rattle.std.proofs.Common.{◌≡◌, List, take}
 use Rattle.depot_base.specs.declared.update.Update.{Update}
-use Rattle.depot_model.specs.Readers.{left_of}
+use Rattle.depot_model.specs.readers.Readers.{left_of}
 use Rattle.depot_graph.specs.Kept.{updates_in}
 use Rattle.depot_readings.specs.Named.{AreNamed}
 use Rattle.depot_trim.specs.Trimmings.{given_up}

@@ -3,10 +3,10 @@ use Rattle.std.specs.Prelude.{slice_get}
 use Rattle.std.proofs.lemmas.List.{append-nil, length-map}
 use Rattle.depot_base.specs.declared.update.Update.{Update}
 use Rattle.depot_base.proofs.GeneralLaws.{at_place}
-use Rattle.depot_model.specs.Contents.{names_value}
-use Rattle.depot_model.specs.Journal.{accepted, has_id, held, is_wanted}
-use Rattle.depot_model.specs.Readers.{left_of}
-use Rattle.depot_model.specs.Texts.{id_of_update}
+use Rattle.depot_model.specs.texts.Contents.{names_value}
+use Rattle.depot_model.specs.journals.Journal.{accepted, has_id, held, is_wanted}
+use Rattle.depot_model.specs.readers.Readers.{left_of}
+use Rattle.depot_model.specs.texts.Texts.{id_of_update}
 use Rattle.depot_kept.specs.Values as values
 use Rattle.depot_trim.specs.Trimmings.{kept_of}
 use Rattle.depot_trim.proofs.KeptValues.{kept_alike, kept_are_left, none_wanted, wants_more}

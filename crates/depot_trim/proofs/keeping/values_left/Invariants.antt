@@ -1,7 +1,7 @@
 use Rattle.std.proofs.Common.{◌≡◌, ℕ, List, take}
 use Rattle.depot_base.specs.declared.update.Update.{Update}
-use Rattle.depot_model.specs.Journal.{accepted, held, is_wanted}
-use Rattle.depot_model.specs.Readers.{left_of}
+use Rattle.depot_model.specs.journals.Journal.{accepted, held, is_wanted}
+use Rattle.depot_model.specs.readers.Readers.{left_of}
 use Rattle.depot_kept.specs.Values as values
 use Rattle.depot_trim.specs.Trimmings.{given_up, kept_of}
 use Rattle.depot_trim.proofs.keeping.values_left.Given as goal

@@ -2,8 +2,8 @@ use Rattle.std.proofs.Common.{◌<◌, ◌∙◌, ℕ, List, [], ◌∷◌, ◌+
 use Rattle.std.specs.List.{AllByRecursion}
 use Rattle.std.proofs.lemmas.List.{append-nil}
 use Rattle.depot_model.specs.declared.hello.HelloLeaf.{HelloLeaf}
-use Rattle.depot_model.specs.Items.{places_of}
-use Rattle.depot_model.proofs.Members.{all_push}
+use Rattle.depot_model.specs.lists.Items.{places_of}
+use Rattle.depot_model.proofs.lists.Members.{all_push}
 use Rattle.depot_graph.specs.Kept.{updates_in}
 use Rattle.depot_graph.proofs.CoveredItems.{place_within}
 use Rattle.depot_trim.specs.Trimmings.{ids_in}

@@ -1,6 +1,6 @@
 use Rattle.std.proofs.Common.{◌≡◌, ◌<◌, length, take}
 use Rattle.std.specs.List.{AllByRecursion}
-use Rattle.depot_model.specs.Items.{places_of}
+use Rattle.depot_model.specs.lists.Items.{places_of}
 use Rattle.depot_graph.specs.Kept.{updates_in}
 use Rattle.depot_trim.specs.Trimmings.{ids_in}
 use Rattle.depot_trim.proofs.leaf_items.leaf_items.Given as goal

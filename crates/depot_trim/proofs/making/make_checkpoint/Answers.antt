@@ -1,5 +1,5 @@
 use Rattle.std.proofs.Common.{◌≤◌, ℕ, List, length, sym, ap, ◌∙◌, arith}
-use Rattle.depot_model.specs.Opening.{made_text}
+use Rattle.depot_model.specs.readers.Opening.{made_text}
 use Rattle.depot_trim.proofs.Leaves.{named_few, none_is, many_is, few_is, few_fit}
 use Rattle.depot_trim.proofs.making.make_checkpoint.Goals as goal
 

@@ -1,5 +1,5 @@
 use Rattle.std.proofs.Common.{◌≡◌, map, take}
-use Rattle.depot_model.specs.Lists.{is_among}
+use Rattle.depot_model.specs.lists.Lists.{is_among}
 use Rattle.depot_trim.specs.MarkedNames.{first_place}
 use Rattle.depot_trim.proofs.naming.first_of_entries.Given as goal
 

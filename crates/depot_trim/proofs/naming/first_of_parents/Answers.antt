@@ -1,6 +1,6 @@
 use Rattle.std.proofs.Common.{◌∙◌, ap, List, map}
 use Rattle.depot_base.specs.declared.update.Dep.{Dep}
-use Rattle.depot_model.specs.Lists.{is_among}
+use Rattle.depot_model.specs.lists.Lists.{is_among}
 use Rattle.depot_trim.specs.declared.marks.UpdateMark.{UpdateMark}
 use Rattle.depot_trim.specs.MarkedNames.{first_place}
 use Rattle.depot_trim.proofs.MarkedPlaces.{both_earlier, of_parents}

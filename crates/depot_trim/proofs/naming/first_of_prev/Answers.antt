@@ -1,5 +1,5 @@
 use Rattle.std.proofs.Common.{◌∙◌, ap, sym, Bool, [], ◌∷◌, if◌then◌else◌}
-use Rattle.depot_model.specs.Order.{prevs}
+use Rattle.depot_model.specs.updates.Order.{prevs}
 use Rattle.depot_trim.proofs.MarkedPlaces.{of_none, of_one}
 use Rattle.depot_trim.proofs.naming.first_of_prev.Goals as goal
 

@@ -1,8 +1,8 @@
 use Rattle.std.proofs.Common.{ap, sym, ◌∙◌}
 use Rattle.std.specs.Str.{bytes_eq}
 use Rattle.std.proofs.lemmas.Result.{err_from_is_err_and}
-use Rattle.depot_laws.proofs.Tests.{holds_from_not, fails_from_not}
-use Rattle.depot_model.specs.Checkpoints.{Checkpoint}
+use Rattle.depot_laws.proofs.lists.Tests.{holds_from_not, fails_from_not}
+use Rattle.depot_model.specs.readers.Checkpoints.{Checkpoint}
 use Rattle.depot_trim.proofs.Openings.{not_read, other_is, leaves_say}
 use Rattle.depot_trim.proofs.opening.opened.Goals as goal
 

@@ -1,9 +1,9 @@
 use Rattle.std.proofs.Common.{◌∙◌, List, ℕ, refl, sym, subst}
 use Rattle.depot_base.specs.Writes.{one_change}
-use Rattle.depot_model.proofs.JournalCallLaws.{idle_call}
-use Rattle.depot_model.specs.Checkpoints.{checkpoint_key}
-use Rattle.depot_model.specs.Putting.{IsPutCall}
-use Rattle.depot_model.specs.Replicas.{journal_of}
+use Rattle.depot_model.proofs.of_journals.JournalCallLaws.{idle_call}
+use Rattle.depot_model.specs.readers.Checkpoints.{checkpoint_key}
+use Rattle.depot_model.specs.checks.Putting.{IsPutCall}
+use Rattle.depot_model.specs.journals.Replicas.{journal_of}
 use Rattle.depot_trim.proofs.Signings.{no_fault, as_put_call}
 use Rattle.depot_trim.proofs.signing.sign_checkpoint.Goals as goal
 

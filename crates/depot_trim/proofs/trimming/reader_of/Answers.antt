@@ -2,10 +2,10 @@ use Rattle.std.proofs.Common.{◌∙◌, List, length, map, sym, ap, subst}
 use Rattle.std.specs.List.{filter}
 use Rattle.std.proofs.lemmas.List.{length-map}
 use Rattle.depot_base.specs.declared.update.Update.{Update}
-use Rattle.depot_model.specs.Journal.{accepted}
-use Rattle.depot_model.specs.Readers.{left_of}
-use Rattle.depot_model.specs.Trimming.{is_trimmed, trimmed}
-use Rattle.depot_laws.proofs.Causes.{lawful_is_causal}
+use Rattle.depot_model.specs.journals.Journal.{accepted}
+use Rattle.depot_model.specs.readers.Readers.{left_of}
+use Rattle.depot_model.specs.readers.Trimming.{is_trimmed, trimmed}
+use Rattle.depot_laws.proofs.records.Causes.{lawful_is_causal}
 use Rattle.depot_readings.specs.Named.{AreNamed}
 use Rattle.depot_trim.specs.ReaderView.{mark_of}
 use Rattle.depot_trim.specs.Trimmings.{ids_in, given_up}

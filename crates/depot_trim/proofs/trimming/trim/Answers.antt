@@ -1,8 +1,8 @@
 use Rattle.std.proofs.Common.{◌∙◌, List, Err, sym, ap, subst}
 use Rattle.depot_model.specs.declared.hello.HelloLeaf.{HelloLeaf}
-use Rattle.depot_model.specs.Checkpoints.{Checkpoint}
-use Rattle.depot_model.specs.Opening.{ids_of, opened}
-use Rattle.depot_model.specs.Readers.{reader_of}
+use Rattle.depot_model.specs.readers.Checkpoints.{Checkpoint}
+use Rattle.depot_model.specs.readers.Opening.{ids_of, opened}
+use Rattle.depot_model.specs.readers.Readers.{reader_of}
 use Rattle.depot_graph.specs.Kept.{updates_in}
 use Rattle.depot_trim.specs.ReaderAnswers.{Trims}
 use Rattle.depot_trim.specs.Trimmings.{ids_in}

@@ -1,8 +1,8 @@
 use Rattle.std.proofs.Common.{◌≡◌, ◌∙◌, ℕ, List, true, arith, sym, subst}
 use Rattle.std.proofs.lemmas.List.{length-map}
 use Rattle.depot_model.specs.declared.hello.HelloLeaf.{HelloLeaf}
-use Rattle.depot_model.specs.Journal.{has_id}
-use Rattle.depot_model.specs.Order.{past}
+use Rattle.depot_model.specs.journals.Journal.{has_id}
+use Rattle.depot_model.specs.updates.Order.{past}
 use Rattle.depot_graph.specs.Kept.{updates_in}
 use Rattle.depot_trim.specs.Trimmings.{ids_in, has_all_in_past}
 use Rattle.depot_trim.proofs.SoFar.{all_next, element_at, map_at, not_all, whole}

@@ -2,8 +2,8 @@ use Rattle.std.proofs.Common.{◌≡◌, ◌∙◌, Bool, List, false, not, ◌|
 use Rattle.std.specs.List.{list_any}
 use Rattle.depot_base.specs.declared.update.Update.{Update}
 use Rattle.depot_base.proofs.GeneralLaws.{at_place}
-use Rattle.depot_model.proofs.Elements.{in_at}
-use Rattle.depot_model.proofs.Members.{any_from}
+use Rattle.depot_model.proofs.lists.Elements.{in_at}
+use Rattle.depot_model.proofs.lists.Members.{any_from}
 use Rattle.depot_graph.specs.Kept.{updates_in}
 use Rattle.depot_trim.specs.Trimmings.{ids_in, signs_as}
 use Rattle.depot_trim.proofs.SoFar.{any_next, whole}

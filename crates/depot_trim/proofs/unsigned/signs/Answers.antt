@@ -1,7 +1,7 @@
 use Rattle.std.proofs.Common.{◌≡◌, ◌∙◌, eqb, refl, sym, subst}
 use Rattle.depot_base.specs.declared.update.Update.{Update}
 use Rattle.depot_base.proofs.GeneralLaws.{same_at}
-use Rattle.depot_laws.proofs.Tests.{holds_from_not}
+use Rattle.depot_laws.proofs.lists.Tests.{holds_from_not}
 use Rattle.depot_graph.specs.Kept.{updates_in}
 use Rattle.depot_trim.specs.Trimmings.{ids_in, signs_as}
 use Rattle.depot_trim.proofs.Signers.{signs_where}

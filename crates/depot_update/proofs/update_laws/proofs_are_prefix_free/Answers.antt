@@ -1,6 +1,6 @@
 use Rattle.depot_base.proofs.Combined.{prefix_free}
-use Rattle.depot_model.specs.Texts.{proof}
-use Rattle.depot_model.proofs.TextLaws.{proof_lawful}
+use Rattle.depot_model.specs.texts.Texts.{proof}
+use Rattle.depot_model.proofs.of_texts.TextLaws.{proof_lawful}
 use Rattle.depot_update.proofs.update_laws.proofs_are_prefix_free.Goals as goal
 
 pub returns : goal.returns

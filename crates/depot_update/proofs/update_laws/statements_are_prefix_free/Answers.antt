@@ -1,6 +1,6 @@
 use Rattle.depot_base.proofs.Combined.{prefix_free}
-use Rattle.depot_model.specs.Texts.{statement}
-use Rattle.depot_model.proofs.TextLaws.{statement_lawful}
+use Rattle.depot_model.specs.texts.Texts.{statement}
+use Rattle.depot_model.proofs.of_texts.TextLaws.{statement_lawful}
 use Rattle.depot_update.proofs.update_laws.statements_are_prefix_free.Goals as goal
 
 pub returns : goal.returns

@@ -1,6 +1,6 @@
 use Rattle.std.proofs.Common.{◌≡◌, ℕ, ◌*◌, ◌<◌, ◌≤◌, length, take, get_or}
 use Rattle.std.specs.List.{flat_map}
-use Rattle.depot_model.specs.Winternitz.{nibbles, checksum}
+use Rattle.depot_model.specs.texts.Winternitz.{nibbles, checksum}
 use Rattle.depot_winter.proofs.base16.digits.Given as goal
 
 -- the digits of the bytes so far are at the front, and the checksum is theirs

@@ -1,5 +1,5 @@
 use Rattle.std.proofs.Common.{◌≡◌, ◌-◌, ◌*◌, drop}
-use Rattle.depot_model.specs.Winternitz.{climb}
+use Rattle.depot_model.specs.texts.Winternitz.{climb}
 use Rattle.depot_winter.proofs.tree.climb.Given as goal
 
 -- the levels that are left lead to where all of them lead

@@ -2,7 +2,7 @@ use Rattle.std.proofs.Common.{ℕ, List, ap, ◌∙◌}
 use Rattle.std.specs.List.{filter_map}
 use Rattle.std.specs.Borrow.{Bor}
 use Rattle.depot_world.specs.Summaries.{are_same, writes_under}
-use Rattle.depot_world.proofs.KeptLoads.{last_seen}
+use Rattle.depot_world.proofs.of_loads.KeptLoads.{last_seen}
 use Rattle.depot_world.proofs.agreement.agree_on.Goals as goal
 
 pub returns : goal.returns

@@ -2,7 +2,7 @@ use Rattle.std.proofs.Common.{ℕ, List, [], ◌∷◌, ◌++◌, map, ap, sym, 
 use Rattle.std.proofs.lemmas.List.{map-append}
 use Rattle.std.specs.Borrow.{Bor}
 use Rattle.depot_world.specs.Summaries.{writes_under}
-use Rattle.depot_world.proofs.KeptLoads.{none_more, some_more}
+use Rattle.depot_world.proofs.of_loads.KeptLoads.{none_more, some_more}
 use Rattle.depot_world.proofs.agreement.all_writes.Goals as goal
 
 pub loop-line-preserved-in_default : goal.loop-line-preserved-in_default

@@ -1,4 +1,4 @@
-use Rattle.depot_world.proofs.LoadFits.{is_schedule}
+use Rattle.depot_world.proofs.of_loads.LoadFits.{is_schedule}
 use Rattle.depot_world.proofs.load_laws.loads_are_schedules.Goals as goal
 
 pub returns : goal.returns

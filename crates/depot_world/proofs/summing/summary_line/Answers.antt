@@ -2,7 +2,7 @@ use Rattle.std.proofs.Common.{◌≡◌, ℕ, [], ◌∷◌, ◌++◌, codes, ap
 use Rattle.std.specs.List.{count_by}
 use Rattle.depot_answers.specs.AnswerTexts.{text_of_number, spaced}
 use Rattle.depot_world.specs.Summaries.{agree, agreement_text, convicted_last, is_put_line, reports_text}
-use Rattle.depot_world.proofs.KeptLoads.{six_parts}
+use Rattle.depot_world.proofs.of_loads.KeptLoads.{six_parts}
 use Rattle.depot_world.proofs.summing.summary_line.Goals as goal
 
 pub returns : goal.returns

@@ -1,4 +1,4 @@
-use Rattle.depot_world.proofs.GoodWorlds.{schedule_receipts_are_true}
+use Rattle.depot_world.proofs.of_worlds.GoodWorlds.{schedule_receipts_are_true}
 use Rattle.depot_world.proofs.world_laws.receipts_of_schedules_are_true.Goals as goal
 
 pub returns : goal.returns

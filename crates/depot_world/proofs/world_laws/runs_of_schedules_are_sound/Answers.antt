@@ -1,4 +1,4 @@
-use Rattle.depot_world.proofs.SoundRuns.{runs_are_sound}
+use Rattle.depot_world.proofs.of_worlds.SoundRuns.{runs_are_sound}
 use Rattle.depot_world.proofs.world_laws.runs_of_schedules_are_sound.Goals as goal
 
 pub returns : goal.returns

@@ -1,4 +1,4 @@
-use Rattle.depot_world.proofs.GoodWorlds.{schedule_makes_world, schedule_world_has_roster}
+use Rattle.depot_world.proofs.of_worlds.GoodWorlds.{schedule_makes_world, schedule_world_has_roster}
 use Rattle.depot_world.proofs.world_laws.schedules_make_worlds.Goals as goal
 
 pub returns-clause-world : goal.returns-clause-world

@@ -1,4 +1,4 @@
-use Rattle.depot_world.proofs.GoodWorlds.{schedule_world_is_causal, schedule_world_convicts_none, schedule_pairs_spare}
+use Rattle.depot_world.proofs.of_worlds.GoodWorlds.{schedule_world_is_causal, schedule_world_convicts_none, schedule_pairs_spare}
 use Rattle.depot_world.proofs.world_laws.worlds_of_schedules_are_causal.Goals as goal
 
 pub returns-clause-causal : goal.returns-clause-causal

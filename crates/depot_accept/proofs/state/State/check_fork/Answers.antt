@@ -1,7 +1,7 @@
 use Rattle.std.proofs.Common.{true, false, Some, None, sym, ap, ◌∙◌}
 use Rattle.depot_base.specs.Statement.{writer_of}
 use Rattle.depot_base.specs.declared.statement.Statement.{Statement}
-use Rattle.depot_model.proofs.BodyLaws.{IsStatement-from_signed}
+use Rattle.depot_model.proofs.of_texts.BodyLaws.{IsStatement-from_signed}
 use Rattle.depot_accept.proofs.DueConvictions.{behind_parents, writer_convicted, update_vouched, same_foreign, opponent_found, found_within, passes_convicted, passes_vouched, passes_alone, update_refused, fork_refused}
 use Rattle.depot_accept.proofs.state.State.check_fork.Goals as goal
 

@@ -1,8 +1,8 @@
 use Rattle.std.proofs.Common.{sym, ap, ◌∙◌}
 use Rattle.std.specs.Prelude.{Option, is_some}
 use Rattle.depot_base.specs.declared.key.PublicKey.{PublicKey}
-use Rattle.depot_model.specs.Roster.{is_signed}
-use Rattle.depot_model.proofs.BodyLaws.{IsStatement-from_signed}
+use Rattle.depot_model.specs.texts.Roster.{is_signed}
+use Rattle.depot_model.proofs.of_texts.BodyLaws.{IsStatement-from_signed}
 use Rattle.depot_accept.specs.StateView.{View}
 use Rattle.depot_accept.proofs.CheckAnswers.{early_known, early_unknown, early_mine, early_unsigned, early_passed}
 use Rattle.depot_accept.proofs.state.State.check_to_signature.Goals as goal

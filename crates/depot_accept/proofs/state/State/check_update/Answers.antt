@@ -1,5 +1,5 @@
 use Rattle.std.proofs.Common.{Some, sym}
-use Rattle.depot_model.specs.Checks.{sight}
+use Rattle.depot_model.specs.checks.Checks.{sight}
 use Rattle.depot_accept.proofs.PlainContent.{few_deps, content_tells_no_fork}
 use Rattle.depot_accept.proofs.LaterChecks.{fails_in_content}
 use Rattle.depot_accept.proofs.DueConvictions.{content_seen}

@@ -1,7 +1,7 @@
 use Rattle.std.proofs.Common.{◌≡◌, List, sym, subst, ap, true, ◌∙◌}
 use Rattle.depot_base.specs.declared.key.RosterEntry.{RosterEntry}
 use Rattle.depot_base.specs.declared.record.Record.TheVariants.{Conviction}
-use Rattle.depot_model.specs.Roster.{has_node}
+use Rattle.depot_model.specs.texts.Roster.{has_node}
 use Rattle.depot_kept.specs.VouchedView.{with_node}
 use Rattle.depot_accept.specs.StateView.{View}
 use Rattle.depot_accept.proofs.Convicting.{has_place, convicts_more}

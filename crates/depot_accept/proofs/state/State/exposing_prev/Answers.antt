@@ -1,7 +1,7 @@
 use Rattle.std.proofs.Common.{true, false, sym, ap, ◌∙◌}
 use Rattle.depot_base.specs.Statement.{writer_of}
 use Rattle.depot_base.specs.declared.statement.Statement.{Statement}
-use Rattle.depot_model.proofs.BodyLaws.{IsStatement-from_signed}
+use Rattle.depot_model.proofs.of_texts.BodyLaws.{IsStatement-from_signed}
 use Rattle.depot_accept.proofs.DueConvictions.{writer_convicted, named_found, none_exposed, step_back_exposed}
 use Rattle.depot_accept.proofs.state.State.exposing_prev.Goals as goal
 

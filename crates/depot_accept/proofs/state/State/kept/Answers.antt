@@ -1,4 +1,4 @@
-use Rattle.depot_model.proofs.BodyLaws.{IsStatement-from_signed}
+use Rattle.depot_model.proofs.of_texts.BodyLaws.{IsStatement-from_signed}
 use Rattle.depot_kept.specs.Entries.{kept_signed}
 use Rattle.depot_accept.proofs.state.State.kept.Goals as goal
 

@@ -1,10 +1,10 @@
 use Rattle.std.proofs.Common.{List, map}
 use Rattle.std.specs.List.{flat_map}
 use Rattle.std.proofs.lemmas.Result.{IfOk-weaker}
-use Rattle.depot_model.specs.World.{Correct, World}
+use Rattle.depot_model.specs.worlds.World.{Correct, World}
 use Rattle.depot_traces.specs.SeenTraces.{trace_of}
 use Rattle.depot_audit.specs.MetTexts.{AreToldBy, IsMetOf}
-use Rattle.depot_model.specs.Traces.{IsWorldOf}
+use Rattle.depot_model.specs.worlds.Traces.{IsWorldOf}
 use Rattle.depot_audit.specs.TracedWorlds.{IsMetIn}
 use Rattle.depot_audit.proofs.NodesOfTraces.{told_in}
 use Rattle.depot_audit.proofs.met.Met.of_traces.Goals as goal

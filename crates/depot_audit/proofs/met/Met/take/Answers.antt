@@ -2,8 +2,8 @@ use Rattle.std.proofs.Common.{[], ◌∷◌, ◌++◌, sym, subst, refl}
 use Rattle.std.specs.List.{flat_map}
 use Rattle.std.proofs.lemmas.Result.{on_ok_weaker}
 use Rattle.depot_base.specs.declared.record.Record.{Record}
-use Rattle.depot_model.specs.Journal.{value_by}
-use Rattle.depot_model.specs.Records.{IsTextOf}
+use Rattle.depot_model.specs.journals.Journal.{value_by}
+use Rattle.depot_model.specs.texts.Records.{IsTextOf}
 use Rattle.depot_audit.specs.MetTexts.{IsMetOf}
 use Rattle.depot_audit.proofs.MetRecords.{birth_brings, voucher_brings, conviction_brings, held_brings}
 use Rattle.depot_audit.proofs.met.Met.take.Goals as goal

@@ -1,8 +1,8 @@
 use Rattle.std.proofs.Common.{ap, refl, ◌∙◌}
 use Rattle.std.proofs.lemmas.Result.{on_ok_weaker}
 use Rattle.sha2.specs.Sha256.{sha256}
-use Rattle.depot_model.specs.Causality.{puts_of}
-use Rattle.depot_model.specs.Journal.{accepted}
+use Rattle.depot_model.specs.worlds.Causality.{puts_of}
+use Rattle.depot_model.specs.journals.Journal.{accepted}
 use Rattle.depot_audit.proofs.MetRecords.{body_id, foreign_brings, vouching_brings}
 use Rattle.depot_audit.proofs.met.Met.take_foreign.Goals as goal
 

@@ -1,7 +1,7 @@
 use Rattle.std.specs.List.{flat_map}
 use Rattle.std.proofs.lemmas.Result.{on_ok_weaker}
-use Rattle.depot_model.specs.Causality.{puts_of}
-use Rattle.depot_model.specs.Journal.{accepted, value_by}
+use Rattle.depot_model.specs.worlds.Causality.{puts_of}
+use Rattle.depot_model.specs.journals.Journal.{accepted, value_by}
 use Rattle.depot_audit.proofs.MetRecords.{put_brings}
 use Rattle.depot_audit.proofs.met.Met.take_put.Goals as goal
 

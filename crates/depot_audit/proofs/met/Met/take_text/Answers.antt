@@ -1,7 +1,7 @@
 use Rattle.std.proofs.Common.{[], ◌∷◌, ◌++◌, sym, subst}
 use Rattle.std.proofs.lemmas.Result.{on_ok_weaker}
 use Rattle.depot_base.specs.declared.record.Record.{Record}
-use Rattle.depot_model.specs.Records.{IsTextOf}
+use Rattle.depot_model.specs.texts.Records.{IsTextOf}
 use Rattle.depot_audit.specs.MetTexts.{IsMetOf}
 use Rattle.depot_audit.proofs.met.Met.take_text.Goals as goal
 

@@ -1,7 +1,7 @@
 use Rattle.std.proofs.Common.{◌<◌, ℕ, List, [], ◌∷◌, ◌++◌, length, take, sym, ap, subst, ◌∙◌, append_assoc, arith}
 use Rattle.std.proofs.lemmas.List.{append-nil, take_all}
 use Rattle.depot_base.specs.declared.record.Record.{Record}
-use Rattle.depot_model.specs.Records.{IsTextOf}
+use Rattle.depot_model.specs.texts.Records.{IsTextOf}
 use Rattle.depot_audit.specs.MetTexts.{AreTexts, IsMetOf}
 use Rattle.depot_audit.proofs.ListLaws.{pair_in, pair_next, pair_last, no_pairs}
 use Rattle.depot_audit.proofs.met.Met.take_texts.Goals as goal

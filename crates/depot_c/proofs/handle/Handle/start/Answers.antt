@@ -1,8 +1,8 @@
 use Rattle.std.proofs.Common.{◌≡◌, ℕ, List, true, Option, Some, None, ap, sym, subst, refl}
 use Rattle.std.specs.Prelude.{is_none, option_map}
 use Rattle.depot_base.specs.declared.key.RosterEntry.{RosterEntry}
-use Rattle.depot_model.specs.Checks.{Setting}
-use Rattle.depot_model.specs.Winternitz.{winternitz_verifies}
+use Rattle.depot_model.specs.checks.Checks.{Setting}
+use Rattle.depot_model.specs.texts.Winternitz.{winternitz_verifies}
 use Rattle.depot_c.specs.Handles.{KeptSigner}
 use Rattle.depot_c.specs.NodeViews.{NodeView}
 use Rattle.depot_c.specs.Starts.{IsViewStarted}

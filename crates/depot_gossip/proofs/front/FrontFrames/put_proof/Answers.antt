@@ -1,10 +1,10 @@
 use Rattle.std.proofs.Common.{List, ℕ, [], ◌∷◌, ◌++◌, ap, length, subst, arith}
 use Rattle.std.specs.Prelude.{OnOk}
 use Rattle.depot_base.specs.declared.record.Record.TheVariants.{Conviction}
-use Rattle.depot_model.proofs.Elements.{in_at}
-use Rattle.depot_model.proofs.TextLaws.{proof_is_short}
-use Rattle.depot_laws.proofs.LawfulRecords.{IsProof-from_record}
-use Rattle.depot_laws.proofs.Splits.{lawful_texts}
+use Rattle.depot_model.proofs.lists.Elements.{in_at}
+use Rattle.depot_model.proofs.of_texts.TextLaws.{proof_is_short}
+use Rattle.depot_laws.proofs.records.LawfulRecords.{IsProof-from_record}
+use Rattle.depot_laws.proofs.lists.Splits.{lawful_texts}
 use Rattle.depot_gossip.specs.Fronts.{AreFrames}
 use Rattle.depot_gossip.proofs.front.FrontFrames.put_proof.Goals as goal
 

@@ -2,9 +2,9 @@ use Rattle.std.proofs.Common.{◌≡◌, ◌≤◌, List, ℕ, [], ◌∷◌, �
 use Rattle.std.specs.Prelude.{OnOk}
 use Rattle.depot_base.specs.declared.statement.Statement.TheVariants as statement
 use Rattle.depot_base.specs.declared.record.Record.TheVariants.{OwnVoucher}
-use Rattle.depot_model.specs.Bundle.{signed_by, signed_with}
-use Rattle.depot_model.specs.Texts.{text_of_signed}
-use Rattle.depot_model.proofs.Elements.{in_at}
+use Rattle.depot_model.specs.exchange.Bundle.{signed_by, signed_with}
+use Rattle.depot_model.specs.texts.Texts.{text_of_signed}
+use Rattle.depot_model.proofs.lists.Elements.{in_at}
 use Rattle.depot_gossip.specs.Fronts.{AreFrames}
 use Rattle.depot_gossip.proofs.ChoiceLaws.{told_is_short}
 use Rattle.depot_gossip.proofs.front.FrontFrames.put_voucher.Goals as goal

@@ -1,6 +1,6 @@
 use Rattle.std.proofs.Common.{[], ◌<◌, length, get_or}
 use Rattle.std.proofs.lemmas.Option.{slice_get-get_or}
-use Rattle.depot_model.proofs.Elements.{each_at}
+use Rattle.depot_model.proofs.lists.Elements.{each_at}
 use Rattle.depot_graph.specs.Causal.{causal_from_test}
 use Rattle.depot_graph.specs.Kept.{updates_in}
 use Rattle.depot_graph.proofs.ClockedUpdates.{item_low}

@@ -1,6 +1,6 @@
 use Rattle.std.proofs.Common.{◌≡◌, ◌++◌, map, take}
-use Rattle.depot_model.specs.Items.{places_of}
-use Rattle.depot_model.specs.Order.{prevs}
+use Rattle.depot_model.specs.lists.Items.{places_of}
+use Rattle.depot_model.specs.updates.Order.{prevs}
 use Rattle.depot_graph.specs.Kept.{updates_in}
 use Rattle.depot_graph.proofs.graph.Graph.parents_of.Given as goal
 

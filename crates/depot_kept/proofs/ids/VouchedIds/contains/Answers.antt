@@ -1,5 +1,5 @@
 use Rattle.std.proofs.Common.{ap, ◌∙◌}
-use Rattle.depot_model.specs.Lists.{is_among}
+use Rattle.depot_model.specs.lists.Lists.{is_among}
 use Rattle.depot_kept.specs.VouchedView.{IdsWithRoom}
 use Rattle.depot_kept.proofs.IdSlotLaws.{found_is_vouched, missing_is_not_vouched}
 use Rattle.depot_kept.proofs.ids.VouchedIds.contains.Goals as goal

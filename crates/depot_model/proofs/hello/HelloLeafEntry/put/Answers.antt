@@ -4,7 +4,7 @@ use Rattle.std.specs.Int.{w16}
 use Rattle.depot_base.specs.Cursor.{numeral}
 use Rattle.depot_base.specs.Format.{number, bytes_of}
 use Rattle.depot_base.proofs.Writing.{begins_with}
-use Rattle.depot_model.specs.Hello.{hello_leaf}
+use Rattle.depot_model.specs.exchange.Hello.{hello_leaf}
 use Rattle.depot_model.proofs.hello.HelloLeafEntry.put.Goals as goal
 
 pub returns-clause-err : goal.returns-clause-err

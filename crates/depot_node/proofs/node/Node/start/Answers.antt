@@ -2,10 +2,10 @@ use Rattle.std.proofs.Common.{◌≡◌, List, Some, is_some, refl, sym, ap, sub
 use Rattle.depot_accept.specs.StateView.{View, setting}
 use Rattle.depot_base.specs.declared.key.RosterEntry.{RosterEntry}
 use Rattle.depot_base.specs.declared.record.Record.{Record}
-use Rattle.depot_model.specs.Checks.{Setting}
-use Rattle.depot_model.specs.Lawful.{IsLawful, is_empty}
-use Rattle.depot_model.specs.Roster.{key_of}
-use Rattle.depot_model.specs.Texts.{IsRoster}
+use Rattle.depot_model.specs.checks.Checks.{Setting}
+use Rattle.depot_model.specs.journals.Lawful.{IsLawful, is_empty}
+use Rattle.depot_model.specs.texts.Roster.{key_of}
+use Rattle.depot_model.specs.texts.Texts.{IsRoster}
 use Rattle.depot_node.specs.Holdings.{node_setting}
 use Rattle.depot_node.specs.Starting.{IsDiskThen, IsHandedBack, IsStartedOn, started}
 use Rattle.depot_node.specs.declared.start_error.StartError.TheVariants as refused

@@ -1,6 +1,6 @@
 use Rattle.std.proofs.Common.{rules}
-use Rattle.depot_laws.proofs.Rosters.{is_listed}
-use Rattle.depot_model.specs.Own.{leaf_count}
+use Rattle.depot_laws.proofs.records.Rosters.{is_listed}
+use Rattle.depot_model.specs.checks.Own.{leaf_count}
 use Rattle.depot_node.proofs.node.NodeLocalNode.leaf_count.Goals as goal
 
 pub leaves_of_tree-requires : goal.leaves_of_tree-requires

@@ -1,5 +1,5 @@
 use Rattle.std.proofs.Common.{refl}
-use Rattle.depot_model.proofs.JournalCallLaws.{call_within}
+use Rattle.depot_model.proofs.of_journals.JournalCallLaws.{call_within}
 use Rattle.depot_node.specs.Holdings.{journal_on}
 use Rattle.depot_node.proofs.node.NodeReplica.take_proof.Goals as goal
 

@@ -4,12 +4,12 @@ use Rattle.std.proofs.lemmas.Result.{err_from_is_err_and}
 use Rattle.depot_base.specs.WithRest.{with_rest}
 use Rattle.depot_base.specs.declared.key.RosterEntry.{RosterEntry}
 use Rattle.depot_base.specs.declared.record.Record.{Record}
-use Rattle.depot_model.specs.JournalCalls.{IsJournalCall}
-use Rattle.depot_model.specs.Limits.{IsCutShort}
-use Rattle.depot_model.specs.Journal.{accepted}
-use Rattle.depot_model.specs.Lawful.{IsLawful}
-use Rattle.depot_model.specs.Stops.{LeavesAll}
-use Rattle.depot_laws.proofs.OwnTexts.{lawful_is_light}
+use Rattle.depot_model.specs.journals.JournalCalls.{IsJournalCall}
+use Rattle.depot_model.specs.checks.Limits.{IsCutShort}
+use Rattle.depot_model.specs.journals.Journal.{accepted}
+use Rattle.depot_model.specs.journals.Lawful.{IsLawful}
+use Rattle.depot_model.specs.journals.Stops.{LeavesAll}
+use Rattle.depot_laws.proofs.own_updates.OwnTexts.{lawful_is_light}
 use Rattle.depot_decide.specs.Deciding.{AreJoined}
 use Rattle.depot_journal.specs.declared.journal_error.AppendError.{AppendError}
 use Rattle.depot_journal.specs.declared.journal_error.AppendError.TheVariants as refused

@@ -1,6 +1,6 @@
 use Rattle.std.proofs.Common.{◌≡◌, Ok, Err, refl, sym, ap, subst, ◌∙◌}
-use Rattle.depot_model.proofs.JournalCallLaws.{idle_call}
-use Rattle.depot_model.specs.Room.{full_by}
+use Rattle.depot_model.proofs.of_journals.JournalCallLaws.{idle_call}
+use Rattle.depot_model.specs.checks.Room.{full_by}
 use Rattle.depot_readings.specs.NewRecords.{AreNew}
 use Rattle.depot_readings.specs.ReadingsView as readings
 use Rattle.depot_readings.specs.ReadingsView.{Known}

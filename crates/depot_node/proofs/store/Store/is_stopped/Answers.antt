@@ -1,5 +1,5 @@
 use Rattle.std.proofs.Common.{◌≡◌, [], IsTrue, subst}
-use Rattle.depot_model.specs.Stops.{LeavesAll}
+use Rattle.depot_model.specs.journals.Stops.{LeavesAll}
 use Rattle.depot_node.specs.Holdings.{Holding}
 use Rattle.depot_node.proofs.JournalTexts.{all_of_records, whole_texts}
 use Rattle.depot_node.proofs.store.Store.is_stopped.Goals as goal

@@ -1,9 +1,9 @@
 use Rattle.std.proofs.Common.{List, ◌++◌, length, sym, ap, refl, subst, ◌∙◌, arith}
 use Rattle.std.proofs.lemmas.List.{length-map}
-use Rattle.depot_model.specs.Journal.{accepted}
-use Rattle.depot_model.specs.Lawful.{IsLawful}
-use Rattle.depot_model.specs.Records.{text_of_record}
-use Rattle.depot_laws.proofs.OwnTexts.{lawful_is_short}
+use Rattle.depot_model.specs.journals.Journal.{accepted}
+use Rattle.depot_model.specs.journals.Lawful.{IsLawful}
+use Rattle.depot_model.specs.texts.Records.{text_of_record}
+use Rattle.depot_laws.proofs.own_updates.OwnTexts.{lawful_is_short}
 use Rattle.depot_decide.specs.Deciding.{AreJoined}
 use Rattle.depot_readings.specs.ReadingsView as readings
 use Rattle.depot_readings.specs.ReadingsView.{Known}

@@ -1,6 +1,6 @@
 use Rattle.std.proofs.Common.{◌+◌, drop, sym, ap, ◌∙◌}
 use Rattle.depot_node.specs.Holdings.{Holding}
-use Rattle.depot_model.proofs.Elements.{from_place}
+use Rattle.depot_model.proofs.lists.Elements.{from_place}
 use Rattle.depot_node.proofs.store.Store.unread.Goals as goal
 
 pub returns-then-self-count-clause-some : goal.returns-then-self-count-clause-some

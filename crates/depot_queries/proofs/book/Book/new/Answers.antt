@@ -1,5 +1,5 @@
 use Rattle.std.proofs.Common.{refl}
-use Rattle.depot_model.specs.Receipts.{numbers_rising}
+use Rattle.depot_model.specs.worlds.Receipts.{numbers_rising}
 use Rattle.depot_queries.proofs.book.Book.new.Goals as goal
 
 pub returns : goal.returns

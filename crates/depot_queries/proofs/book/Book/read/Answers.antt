@@ -1,6 +1,6 @@
 use Rattle.std.proofs.Common.{◌∙◌, List, ℕ, cond, ap, refl}
-use Rattle.depot_model.specs.Lists.{is_among}
-use Rattle.depot_model.specs.Receipts.{put_number}
+use Rattle.depot_model.specs.lists.Lists.{is_among}
+use Rattle.depot_model.specs.worlds.Receipts.{put_number}
 use Rattle.depot_queries.specs.HolderLists.{holders_of}
 use Rattle.depot_queries.proofs.BookLaws.{book_more}
 use Rattle.depot_queries.proofs.book.Book.read.Goals as goal

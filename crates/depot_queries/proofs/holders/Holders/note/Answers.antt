@@ -1,6 +1,6 @@
 use Rattle.std.proofs.Common.{◌≡◌, ◌∙◌, ap, Some, Option, Vec, ℕ, is_some, true, sym}
 use Rattle.std.specs.declared.alloc.Global.{Global}
-use Rattle.depot_model.specs.Receipts.{put_number}
+use Rattle.depot_model.specs.worlds.Receipts.{put_number}
 use Rattle.depot_queries.specs.HolderLists.{holders_of, has_place}
 use Rattle.depot_queries.proofs.HolderLaws.{kept, nodes_in, node_noted, places_stay}
 use Rattle.depot_queries.proofs.holders.Holders.note.Goals as goal

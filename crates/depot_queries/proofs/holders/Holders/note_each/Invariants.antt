@@ -1,6 +1,6 @@
 use Rattle.std.proofs.Common.{◌≡◌, ℕ, List, true, take, if◌then◌else◌}
-use Rattle.depot_model.specs.Lists.{is_among}
-use Rattle.depot_model.specs.Receipts.{put_number}
+use Rattle.depot_model.specs.lists.Lists.{is_among}
+use Rattle.depot_model.specs.worlds.Receipts.{put_number}
 use Rattle.depot_queries.specs.HolderLists.{holders_of, has_place}
 use Rattle.depot_queries.proofs.holders.Holders.note_each.Given as goal
 

@@ -1,6 +1,6 @@
 use Rattle.std.proofs.Common.{length, ap, arith}
 use Rattle.depot_base.specs.declared.record.Record.TheVariants.{Foreign, Conviction}
-use Rattle.depot_laws.proofs.LawfulRecords.{IsRecord-Conviction, IsRecord-Foreign}
+use Rattle.depot_laws.proofs.records.LawfulRecords.{IsRecord-Conviction, IsRecord-Foreign}
 use Rattle.depot_readings.proofs.GrowthLaws.{both_made}
 use Rattle.depot_readings.proofs.RecordTextLaws.{foreign_long, record_short}
 use Rattle.depot_readings.proofs.growth.Growth.convicting.Goals as goal

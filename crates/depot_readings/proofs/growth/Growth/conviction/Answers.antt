@@ -1,6 +1,6 @@
 use Rattle.std.proofs.Common.{length, refl, ap, arith}
 use Rattle.depot_base.specs.declared.record.Record.TheVariants.{Conviction}
-use Rattle.depot_laws.proofs.LawfulRecords.{IsRecord-Conviction}
+use Rattle.depot_laws.proofs.records.LawfulRecords.{IsRecord-Conviction}
 use Rattle.depot_readings.proofs.GrowthLaws.{one_made}
 use Rattle.depot_readings.proofs.RecordTextLaws.{record_short}
 use Rattle.depot_readings.proofs.growth.Growth.conviction.Goals as goal

@@ -1,6 +1,6 @@
 use Rattle.std.proofs.Common.{length, refl, ap, arith}
 use Rattle.depot_base.specs.declared.record.Record.TheVariants.{Held}
-use Rattle.depot_laws.proofs.LawfulRecords.{IsRecord-Held}
+use Rattle.depot_laws.proofs.records.LawfulRecords.{IsRecord-Held}
 use Rattle.depot_readings.proofs.GrowthLaws.{one_read}
 use Rattle.depot_readings.proofs.RecordTextLaws.{held_long}
 use Rattle.depot_readings.proofs.growth.Growth.held.Goals as goal

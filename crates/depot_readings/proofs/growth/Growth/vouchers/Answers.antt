@@ -1,6 +1,6 @@
 use Rattle.std.proofs.Common.{◌≡◌, ◌+◌, List, Some, length, refl, sym, ap, subst, ◌∙◌, arith}
 use Rattle.depot_readings.specs.NewRecords.{IsGrowth, vouchers_of}
-use Rattle.depot_model.specs.Vouching.{records_of}
+use Rattle.depot_model.specs.checks.Vouching.{records_of}
 use Rattle.depot_readings.specs.declared.news.NewVoucher.{NewVoucher}
 use Rattle.depot_readings.specs.declared.news.News.TheVariants as news
 use Rattle.depot_base.specs.declared.record.Record.TheVariants.{OwnVoucher}

@@ -1,8 +1,8 @@
 use Rattle.std.proofs.Common.{[], refl, arith}
 use Rattle.depot_base.specs.declared.record.Record.TheVariants.{OwnVoucher}
-use Rattle.depot_laws.proofs.Splits.{lawful_last}
+use Rattle.depot_laws.proofs.lists.Splits.{lawful_last}
 use Rattle.depot_kept.proofs.ConvictedNodes.{where_ok}
-use Rattle.depot_laws.proofs.LawfulRecords.{IsStatement-from_own_voucher}
+use Rattle.depot_laws.proofs.records.LawfulRecords.{IsStatement-from_own_voucher}
 use Rattle.depot_readings.proofs.BoundLaws.{few_of_own, few_updates}
 use Rattle.depot_readings.proofs.KeptLaws.{voucher_kept}
 use Rattle.depot_readings.proofs.OwnIdLaws.{adds_one}

@@ -1,5 +1,5 @@
 use Rattle.std.proofs.Common.{sym, ap, ◌∙◌}
-use Rattle.depot_model.specs.Roster.{has_node}
+use Rattle.depot_model.specs.texts.Roster.{has_node}
 use Rattle.depot_readings.proofs.KeptLaws.{conviction_kept}
 use Rattle.depot_readings.proofs.StateGrowth.{accused_is_listed}
 use Rattle.depot_readings.proofs.kept.Kept.convict.Goals as goal

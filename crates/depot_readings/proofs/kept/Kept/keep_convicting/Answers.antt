@@ -1,8 +1,8 @@
 use Rattle.std.proofs.Common.{◌∷◌, [], refl}
 use Rattle.depot_base.specs.declared.record.Record.TheVariants.{Foreign}
 use Rattle.depot_base.proofs.Writing.{on_err_from}
-use Rattle.depot_laws.proofs.LawfulRecords.{IsSigned-from_record}
-use Rattle.depot_laws.proofs.Splits.{lawful_front, lawful_last}
+use Rattle.depot_laws.proofs.records.LawfulRecords.{IsSigned-from_record}
+use Rattle.depot_laws.proofs.lists.Splits.{lawful_front, lawful_last}
 use Rattle.depot_readings.proofs.BoundLaws.{few_statements, few_updates}
 use Rattle.depot_readings.proofs.KeptLaws.{both_kept, still_keeps, same_state}
 use Rattle.depot_readings.proofs.StateGrowth.{accepted_still, accused_is_listed, fits_behind, foreign_still, lawful_both}

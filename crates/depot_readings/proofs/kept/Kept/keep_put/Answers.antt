@@ -4,7 +4,7 @@ use Rattle.depot_base.specs.declared.update.NamedValue.{NamedValue}
 use Rattle.depot_readings.specs.AddedValues.{AddsAll}
 use Rattle.depot_base.specs.declared.record.Record.TheVariants.{OwnPut}
 use Rattle.depot_base.proofs.Writing.{on_err_from}
-use Rattle.depot_laws.proofs.Splits.{lawful_last}
+use Rattle.depot_laws.proofs.lists.Splits.{lawful_last}
 use Rattle.depot_readings.proofs.BoundLaws.{few_of_own, few_updates}
 use Rattle.depot_readings.proofs.KeptLaws.{put_kept, still_keeps, same_state}
 use Rattle.depot_readings.proofs.StateGrowth.{fits_behind, id_of_put, put_hashes, put_is_mine, put_is_statement}

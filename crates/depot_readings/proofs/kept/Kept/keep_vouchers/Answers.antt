@@ -1,7 +1,7 @@
 use Rattle.std.proofs.Common.{List, length, refl, sym, ap, subst, ◌∙◌, arith}
 use Rattle.std.specs.List.{AllByRecursion}
 use Rattle.depot_base.proofs.Writing.{on_err_from}
-use Rattle.depot_model.specs.Vouching.{records_of}
+use Rattle.depot_model.specs.checks.Vouching.{records_of}
 use Rattle.depot_readings.specs.NewRecords.{HasOwnId, vouchers_of}
 use Rattle.depot_readings.specs.OwnIds.{AddsMine, HaveRoom}
 use Rattle.depot_readings.specs.ReadingsParts.{KeepsRecords, MayKeep, StillKeeps}

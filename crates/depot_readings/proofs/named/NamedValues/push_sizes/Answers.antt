@@ -1,8 +1,8 @@
 use Rattle.std.proofs.Common.{◌≡◌, ◌++◌, ◌<◌, ℕ, List, sym, subst, arith, inl, inr}
 use Rattle.std.specs.Map.Iter.{deref_pair}
 use Rattle.std.proofs.lemmas.Map.Iter.{rest_more, rest_all}
-use Rattle.depot_model.specs.Lists.{IsIn}
-use Rattle.depot_model.proofs.Members.{in_left, in_right, in_parts}
+use Rattle.depot_model.specs.lists.Lists.{IsIn}
+use Rattle.depot_model.proofs.lists.Members.{in_left, in_right, in_parts}
 use Rattle.depot_readings.proofs.PairsInRange.{names_between, sizes_in, size_found, size_left, all_sizes, runs_forward, named_between, between_named}
 use Rattle.depot_readings.proofs.named.NamedValues.push_sizes.Goals as goal
 

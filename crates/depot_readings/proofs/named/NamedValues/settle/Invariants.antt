@@ -1,6 +1,6 @@
 use Rattle.std.proofs.Common.{◌≡◌, ℕ, List, true, false, cond, not, take}
 use Rattle.depot_base.specs.declared.update.NamedValue.{NamedValue}
-use Rattle.depot_model.specs.Lists.{IsIn}
+use Rattle.depot_model.specs.lists.Lists.{IsIn}
 use Rattle.depot_readings.specs.Lacking.{is_held}
 use Rattle.depot_readings.specs.Named.{has_named_value, is_name, has_room}
 use Rattle.depot_readings.proofs.named.NamedValues.settle.Given as goal

@@ -1,7 +1,7 @@
 use Rattle.std.proofs.Common.{◌≡◌, List, map, sym, ap, subst, ◌∙◌}
 use Rattle.std.proofs.lemmas.Result.{IfOk-weaker}
-use Rattle.depot_model.specs.Records.{text_of_record}
-use Rattle.depot_model.specs.Vouching.{records_of}
+use Rattle.depot_model.specs.texts.Records.{text_of_record}
+use Rattle.depot_model.specs.checks.Vouching.{records_of}
 use Rattle.depot_readings.specs.NewRecords.{AreWritten, records_in, vouchers_of}
 use Rattle.depot_readings.specs.declared.news.NewVoucher.{NewVoucher}
 use Rattle.depot_readings.specs.declared.news.News.{News}

@@ -1,7 +1,7 @@
 use Rattle.std.proofs.Common.{◌++◌, ◌||◌, ◌&&◌, ℕ, List, cond, not, sym, ap, ◌∙◌, arith}
 use Rattle.std.specs.Option.{option_to_list}
 use Rattle.depot_base.specs.declared.record.Record.{Record}
-use Rattle.depot_model.specs.Bundle.{records_where}
+use Rattle.depot_model.specs.exchange.Bundle.{records_where}
 use Rattle.depot_accept.specs.StateView.{setting}
 use Rattle.depot_readings.specs.NewRecords.{records_in}
 use Rattle.depot_readings.specs.Lacking.{is_held}

@@ -1,7 +1,7 @@
 use Rattle.std.proofs.Common.{length, ap, ◌∙◌, arith}
-use Rattle.depot_model.specs.Records.{journal_bytes}
-use Rattle.depot_model.specs.Room.{foreign_leaves}
-use Rattle.depot_laws.proofs.OwnTexts.{lawful_is_light}
+use Rattle.depot_model.specs.texts.Records.{journal_bytes}
+use Rattle.depot_model.specs.checks.Room.{foreign_leaves}
+use Rattle.depot_laws.proofs.own_updates.OwnTexts.{lawful_is_light}
 use Rattle.depot_readings.specs.ReadingsView.{Known}
 use Rattle.depot_readings.proofs.ReadingsLaws.{lawful_seen}
 use Rattle.depot_readings.proofs.readings.Readings.counts.Goals as goal

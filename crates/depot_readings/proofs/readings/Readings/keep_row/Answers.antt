@@ -1,6 +1,6 @@
 use Rattle.std.proofs.Common.{List, sym, ap, subst, ◌∙◌}
 use Rattle.depot_base.specs.declared.update.Update.{Update}
-use Rattle.depot_model.specs.Journal.{accepted}
+use Rattle.depot_model.specs.journals.Journal.{accepted}
 use Rattle.depot_accept.specs.StateView.{View}
 use Rattle.depot_graph.specs.UpdateRows.{IsJoinedRow}
 use Rattle.depot_readings.specs.ReadingsParts.{AreCounted, AreReadings}

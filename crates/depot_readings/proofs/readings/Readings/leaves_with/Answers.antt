@@ -1,5 +1,5 @@
 use Rattle.std.proofs.Common.{arith}
-use Rattle.depot_laws.proofs.OwnTexts.{lawful_is_short}
+use Rattle.depot_laws.proofs.own_updates.OwnTexts.{lawful_is_short}
 use Rattle.depot_readings.proofs.LeafLaws.{few_leaves}
 use Rattle.depot_readings.proofs.readings.Readings.leaves_with.Goals as goal
 

@@ -1,5 +1,5 @@
 use Rattle.std.proofs.Common.{ℕ, sym, ap, ◌∙◌}
-use Rattle.depot_model.specs.Journal.{accepted}
+use Rattle.depot_model.specs.journals.Journal.{accepted}
 use Rattle.depot_readings.specs.LeavesWith.{leaves_with}
 use Rattle.depot_readings.specs.ReadingsView.{standing}
 use Rattle.depot_readings.proofs.readings.Readings.limit.Goals as goal

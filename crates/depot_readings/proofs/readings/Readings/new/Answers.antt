@@ -1,6 +1,6 @@
 use Rattle.std.proofs.Common.{List, refl, sym, subst, arith}
 use Rattle.depot_base.specs.declared.record.Record.{Record}
-use Rattle.depot_laws.proofs.Splits.{lawful_none}
+use Rattle.depot_laws.proofs.lists.Splits.{lawful_none}
 use Rattle.depot_readings.specs.ReadingsParts.{AreCounted, AreReadings}
 use Rattle.depot_readings.proofs.readings.Readings.new.Goals as goal
 

@@ -1,6 +1,6 @@
 use Rattle.std.proofs.Common.{subst, arith}
 use Rattle.std.specs.Prelude.{OnOk}
-use Rattle.depot_laws.proofs.OwnTexts.{lawful_is_short}
+use Rattle.depot_laws.proofs.own_updates.OwnTexts.{lawful_is_short}
 use Rattle.depot_readings.specs.FrontPlaces.{AddsPlaces}
 use Rattle.depot_readings.specs.ReadingsView.{Known}
 use Rattle.depot_readings.proofs.FrontPlaceLaws.{adds_places}

@@ -1,11 +1,11 @@
 use Rattle.std.proofs.Common.{◌≡◌, List, ◌++◌, length, sym, ap, subst, ◌∙◌, arith, length-append}
 use Rattle.depot_base.specs.declared.record.Record.{Record}
-use Rattle.depot_model.specs.Checks.{Setting}
-use Rattle.depot_model.specs.Lawful.{IsLawful}
-use Rattle.depot_model.specs.Records.{journal_bytes}
+use Rattle.depot_model.specs.checks.Checks.{Setting}
+use Rattle.depot_model.specs.journals.Lawful.{IsLawful}
+use Rattle.depot_model.specs.texts.Records.{journal_bytes}
 use Rattle.depot_accept.specs.StateView.{setting}
-use Rattle.depot_laws.proofs.Counts.{bytes_more}
-use Rattle.depot_laws.proofs.OwnTexts.{lawful_is_light, lawful_is_short}
+use Rattle.depot_laws.proofs.records.Counts.{bytes_more}
+use Rattle.depot_laws.proofs.own_updates.OwnTexts.{lawful_is_light, lawful_is_short}
 use Rattle.depot_readings.specs.NewRecords.{records_in}
 use Rattle.depot_readings.specs.ReadingsParts.{AreReadings}
 use Rattle.depot_readings.proofs.ReadingsLaws.{lawful_inside, view_read}

@@ -2,8 +2,8 @@ use Rattle.std.proofs.Common.{◌≡◌, ◌∙◌, ℕ, List, map, take, ap}
 use Rattle.std.proofs.lemmas.Result.{IfOk-weaker}
 use Rattle.depot_base.specs.declared.limits.TheConstants.{MOST_WANTED}
 use Rattle.depot_base.specs.declared.update.NamedValue.{NamedValue}
-use Rattle.depot_model.specs.Hello.{wanted_of}
-use Rattle.depot_model.specs.Vouching.{rising}
+use Rattle.depot_model.specs.exchange.Hello.{wanted_of}
+use Rattle.depot_model.specs.checks.Vouching.{rising}
 use Rattle.depot_readings.specs.Named.{is_name, has_named_value}
 use Rattle.depot_readings.specs.ReadingsView.{Known}
 use Rattle.depot_readings.proofs.LackingLaws.{wanted_are}

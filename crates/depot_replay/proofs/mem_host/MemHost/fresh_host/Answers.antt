@@ -1,9 +1,9 @@
 use Rattle.std.proofs.Common.{◌≡◌, List, [], ◌∷◌, refl, ap, ◌∙◌}
 use Rattle.depot_base.specs.declared.key.RosterEntry.{RosterEntry}
 use Rattle.depot_base.specs.declared.record.Record.TheVariants.{Birth}
-use Rattle.depot_model.specs.Bundle.{Signs}
-use Rattle.depot_model.specs.Checks.{Setting}
-use Rattle.depot_model.specs.Texts.{hash_of_roster}
+use Rattle.depot_model.specs.exchange.Bundle.{Signs}
+use Rattle.depot_model.specs.checks.Checks.{Setting}
+use Rattle.depot_model.specs.texts.Texts.{hash_of_roster}
 use Rattle.depot_outside.specs.Stopping.{fresh, state_of}
 use Rattle.depot_replay.proofs.MemHostEvents.{view_is}
 use Rattle.depot_replay.proofs.MemHostStarts.{fresh_from, fresh_wants}

@@ -1,7 +1,7 @@
 use Rattle.std.proofs.Common.{◌≡◌, ◌<◌, List, length, sym, subst}
 use Rattle.depot_base.specs.declared.update.Update.{Update}
-use Rattle.depot_model.specs.Items.{at}
-use Rattle.depot_model.specs.Texts.{id_of_update}
+use Rattle.depot_model.specs.lists.Items.{at}
+use Rattle.depot_model.specs.texts.Texts.{id_of_update}
 use Rattle.depot_replay.proofs.mem_host.MemHostActor.id.Goals as goal
 
 pub id-requires : goal.id-requires

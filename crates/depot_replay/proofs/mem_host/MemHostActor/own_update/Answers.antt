@@ -1,7 +1,7 @@
 use Rattle.std.proofs.Common.{◌≡◌, false, true, List, sym, ap, ◌∙◌, arith}
 use Rattle.std.proofs.lemmas.List.{take_all}
 use Rattle.depot_base.specs.declared.update.Update.{Update}
-use Rattle.depot_model.specs.Journal.{accepted}
+use Rattle.depot_model.specs.journals.Journal.{accepted}
 use Rattle.depot_world.specs.Run.{first_update}
 use Rattle.depot_replay.specs.MemHostFacts.{lawful_there}
 use Rattle.depot_replay.proofs.OwnUpdates.{found, not_yet, of_seq, own_by_seq}

@@ -1,5 +1,5 @@
 use Rattle.std.proofs.Common.{◌≡◌, [], take}
-use Rattle.depot_model.specs.Journal.{accepted}
+use Rattle.depot_model.specs.journals.Journal.{accepted}
 use Rattle.depot_replay.proofs.OwnUpdates.{of_seq}
 use Rattle.depot_replay.proofs.mem_host.MemHostActor.own_update.Given as goal
 

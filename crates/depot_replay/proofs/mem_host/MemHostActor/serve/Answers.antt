@@ -1,5 +1,5 @@
 use Rattle.std.proofs.Common.{refl, ◌∙◌}
-use Rattle.depot_model.proofs.JournalCallLaws.{never_answered, runs_on}
+use Rattle.depot_model.proofs.of_journals.JournalCallLaws.{never_answered, runs_on}
 use Rattle.depot_outside.specs.Stopping.{state_of}
 use Rattle.depot_replay.proofs.MemHostCalls.{done_on}
 use Rattle.depot_replay.proofs.MemHostEvents.{begun_there, if_printed, of_printed, same_signs}

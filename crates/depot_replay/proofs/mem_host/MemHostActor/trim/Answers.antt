@@ -1,7 +1,7 @@
 use Rattle.std.proofs.Common.{subst, sym, ◌∙◌}
 use Rattle.std.proofs.lemmas.Result.{IfOk-weaker}
-use Rattle.depot_model.specs.Checks.{Setting}
-use Rattle.depot_model.specs.Readers.{trim_of}
+use Rattle.depot_model.specs.checks.Checks.{Setting}
+use Rattle.depot_model.specs.readers.Readers.{trim_of}
 use Rattle.depot_simulation.specs.Readers.{HasTrimmed}
 use Rattle.depot_trim.specs.ReaderView.{IsReaderOf}
 use Rattle.depot_replay.proofs.MemHostEvents.{same_setting}

@@ -1,7 +1,7 @@
 use Rattle.std.proofs.Common.{◌≡◌, List, Some, true, ap, subst, rules, ◌∙◌}
 use Rattle.std.proofs.lemmas.Result.{IfOk-weaker, IfErr-weaker}
 use Rattle.depot_base.specs.declared.key.RosterEntry.{RosterEntry}
-use Rattle.depot_model.specs.Roster.{key_of}
+use Rattle.depot_model.specs.texts.Roster.{key_of}
 use Rattle.depot_node.specs.Starting.{placed}
 use Rattle.depot_node.proofs.StartLaws.{lawful_file_starts}
 use Rattle.depot_outside.specs.Stopping.{state_of}

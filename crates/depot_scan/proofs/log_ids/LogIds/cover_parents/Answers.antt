@@ -1,7 +1,7 @@
 use Rattle.std.proofs.Common.{List, map, subst}
 use Rattle.std.proofs.lemmas.Result.{on_ok_weaker}
 use Rattle.depot_base.specs.declared.update.Dep.{Dep}
-use Rattle.depot_model.specs.Order.{prevs}
+use Rattle.depot_model.specs.updates.Order.{prevs}
 use Rattle.depot_scan.specs.Ids.{HasMore, is_id_covered}
 use Rattle.depot_scan.proofs.IdSteps.{more_trans}
 use Rattle.depot_scan.proofs.log_ids.LogIds.cover_parents.Goals as goal

@@ -1,7 +1,7 @@
 use Rattle.std.proofs.Common.{◌≡◌, ℕ, List, Bool, true, ◌&&◌, sym, ap, ◌∙◌}
 use Rattle.std.specs.List.{list_all}
 use Rattle.depot_base.specs.declared.update.Dep.{Dep}
-use Rattle.depot_model.specs.Order.{prevs}
+use Rattle.depot_model.specs.updates.Order.{prevs}
 use Rattle.depot_scan.specs.Ids.{knows}
 use Rattle.depot_scan.proofs.IdSteps.{all_parents}
 use Rattle.depot_scan.proofs.log_ids.LogIds.has_parents.Goals as goal

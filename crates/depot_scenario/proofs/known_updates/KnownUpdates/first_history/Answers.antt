@@ -3,8 +3,8 @@ use Rattle.std.proofs.lemmas.Result.{IfOk-weaker}
 use Rattle.depot_base.specs.declared.update.Update.{Update}
 use Rattle.depot_graph.specs.Closure.{closure_of}
 use Rattle.depot_graph.specs.Kept.{updates_in}
-use Rattle.depot_model.specs.History.{history_hash}
-use Rattle.depot_model.specs.Order.{past}
+use Rattle.depot_model.specs.updates.History.{history_hash}
+use Rattle.depot_model.specs.updates.Order.{past}
 use Rattle.depot_scenario.proofs.SeenUpdates.{hash_of_none}
 use Rattle.depot_scenario.proofs.known_updates.KnownUpdates.first_history.Goals as goal
 

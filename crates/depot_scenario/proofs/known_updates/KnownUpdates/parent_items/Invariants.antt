@@ -1,7 +1,7 @@
 use Rattle.std.proofs.Common.{◌++◌, map, take}
-use Rattle.depot_model.specs.Items.{AreItemsOf}
+use Rattle.depot_model.specs.lists.Items.{AreItemsOf}
 use Rattle.depot_graph.specs.Kept.{updates_in}
-use Rattle.depot_model.specs.Order.{prevs}
+use Rattle.depot_model.specs.updates.Order.{prevs}
 use Rattle.depot_scenario.proofs.known_updates.KnownUpdates.parent_items.Given as goal
 
 abbrev pub invariant-loop-dep : goal.invariant-loop-dep

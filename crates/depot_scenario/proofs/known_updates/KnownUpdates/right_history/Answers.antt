@@ -4,8 +4,8 @@ use Rattle.std.specs.List.{AllByRecursion}
 use Rattle.std.proofs.lemmas.Result.{IfOk-weaker}
 use Rattle.depot_graph.specs.Kept.{updates_in}
 use Rattle.depot_graph.specs.Closure.{closure_of}
-use Rattle.depot_model.specs.History.{history_hash}
-use Rattle.depot_model.specs.Order.{parents, past}
+use Rattle.depot_model.specs.updates.History.{history_hash}
+use Rattle.depot_model.specs.updates.Order.{parents, past}
 use Rattle.depot_graph.proofs.ItemPlaces.{places_within}
 use Rattle.depot_scenario.proofs.SeenUpdates.{hash_of_items}
 use Rattle.depot_scenario.proofs.known_updates.KnownUpdates.right_history.Goals as goal

@@ -1,7 +1,7 @@
 use Rattle.std.proofs.Common.{subst}
 use Rattle.depot_base.specs.declared.record.Record.{Record}
-use Rattle.depot_model.specs.Records.{IsRecord}
-use Rattle.depot_model.proofs.RecordLaws.{update_of_own_put}
+use Rattle.depot_model.specs.texts.Records.{IsRecord}
+use Rattle.depot_model.proofs.of_texts.RecordLaws.{update_of_own_put}
 use Rattle.depot_search.proofs.entry.JournalEntry.puts.Goals as goal
 
 pub is_one_body-requires-clause-some : goal.is_one_body-requires-clause-some

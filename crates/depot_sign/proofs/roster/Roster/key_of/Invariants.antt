@@ -1,5 +1,5 @@
 use Rattle.std.proofs.Common.{◌≡◌, drop}
-use Rattle.depot_model.specs.Roster.{key_of}
+use Rattle.depot_model.specs.texts.Roster.{key_of}
 use Rattle.depot_sign.proofs.roster.Roster.key_of.Given as goal
 
 abbrev pub invariant-loop-entry : goal.invariant-loop-entry

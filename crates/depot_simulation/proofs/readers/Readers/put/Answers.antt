@@ -3,7 +3,7 @@ use Rattle.std.specs.BTreeMap.{UpdatesBy}
 use Rattle.std.specs.Cmp.Lexicographic.{slice_cmp}
 use Rattle.std.specs.Ordering.{nat_cmp}
 use Rattle.depot_base.proofs.GeneralLaws.{vec_cmp}
-use Rattle.depot_model.specs.Readers.{Reader}
+use Rattle.depot_model.specs.readers.Readers.{Reader}
 use Rattle.depot_world.specs.Run.{NamedReader}
 use Rattle.depot_scenario.specs.Labels.{named_in}
 use Rattle.depot_simulation.specs.Readers.{AreReaders, IsMade}

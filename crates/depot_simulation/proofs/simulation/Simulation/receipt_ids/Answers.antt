@@ -1,5 +1,5 @@
 use Rattle.std.proofs.Common.{ap, sym, ◌∙◌}
-use Rattle.depot_model.specs.Vouching.{rising}
+use Rattle.depot_model.specs.checks.Vouching.{rising}
 use Rattle.depot_simulation.proofs.NamedIds.{ids_named, none_named}
 use Rattle.depot_world.specs.FaultySigning.{all_referred}
 use Rattle.depot_simulation.proofs.simulation.Simulation.receipt_ids.Goals as goal

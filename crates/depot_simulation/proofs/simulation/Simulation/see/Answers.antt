@@ -1,8 +1,8 @@
 use Rattle.std.proofs.Common.{◌≡◌, ◌<◌, List, [], ◌∷◌, length, take, Some, refl, sym, ap, subst, ◌∙◌}
 use Rattle.std.proofs.lemmas.Option.{slice_get_within}
 use Rattle.depot_base.specs.declared.update.Update.{Update}
-use Rattle.depot_model.specs.Journal.{accepted}
-use Rattle.depot_model.specs.Texts.{id_of_update}
+use Rattle.depot_model.specs.journals.Journal.{accepted}
+use Rattle.depot_model.specs.texts.Texts.{id_of_update}
 use Rattle.depot_world.specs.Run.{seen_with}
 use Rattle.depot_scenario.specs.KnownUpdates.{HasSeenParents}
 use Rattle.depot_simulation.proofs.NewUpdates.{added_fits, added_has_parents, adding_goes_on, room_for_next}

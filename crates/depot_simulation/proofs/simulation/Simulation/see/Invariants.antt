@@ -1,5 +1,5 @@
 use Rattle.std.proofs.Common.{◌≡◌, take}
-use Rattle.depot_model.specs.Journal.{accepted}
+use Rattle.depot_model.specs.journals.Journal.{accepted}
 use Rattle.depot_world.specs.Run.{seen_with}
 use Rattle.depot_simulation.proofs.simulation.Simulation.see.Given as goal
 

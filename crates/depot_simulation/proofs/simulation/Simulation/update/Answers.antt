@@ -1,7 +1,7 @@
 use Rattle.std.proofs.Common.{List, ℕ, refl, ap, sym, subst, ◌∙◌}
 use Rattle.std.specs.Prelude.{IfSome}
 use Rattle.depot_base.specs.declared.update.Update.{Update}
-use Rattle.depot_model.specs.Journal.{update_in}
+use Rattle.depot_model.specs.journals.Journal.{update_in}
 use Rattle.depot_schedule.specs.EventLines.{event_changes, event_node}
 use Rattle.depot_world.specs.Setups.{signs_on}
 use Rattle.depot_world.specs.Transcript.{Done, done_by_text}

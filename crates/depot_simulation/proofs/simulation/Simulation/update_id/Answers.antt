@@ -1,5 +1,5 @@
 use Rattle.std.proofs.Common.{List, ℕ, Some, option_map, ap, ◌∙◌}
-use Rattle.depot_model.specs.Texts.{id_of_update}
+use Rattle.depot_model.specs.texts.Texts.{id_of_update}
 use Rattle.depot_simulation.proofs.LabelledUpdates.{fits_here}
 use Rattle.depot_simulation.proofs.simulation.Simulation.update_id.Goals as goal
 

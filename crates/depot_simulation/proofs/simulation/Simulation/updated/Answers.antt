@@ -1,7 +1,7 @@
 use Rattle.std.proofs.Common.{◌≡◌, List, map, sym, ap, subst, ◌∙◌, []}
 use Rattle.depot_base.specs.Zeros.{zeros}
 use Rattle.depot_base.specs.declared.write.Write.{Write}
-use Rattle.depot_model.specs.Own.{entry_of}
+use Rattle.depot_model.specs.checks.Own.{entry_of}
 use Rattle.depot_base.specs.declared.update.Update.{Update}
 use Rattle.depot_world.specs.FaultySigning.{drafted, history_by, with_history}
 use Rattle.depot_scenario.specs.KnownUpdates.{HasSeenParents}

@@ -1,5 +1,5 @@
 use Rattle.std.proofs.Common.{List, ℕ, Some, option_map, sym, ap, ◌∙◌}
-use Rattle.depot_model.specs.Vouching.{rising}
+use Rattle.depot_model.specs.checks.Vouching.{rising}
 use Rattle.depot_simulation.proofs.DraftTexts.{vouched_has_text}
 use Rattle.depot_simulation.proofs.simulation.Simulation.vouched_ids.Goals as goal
 

@@ -1,6 +1,6 @@
 use Rattle.std.proofs.Common.{ℕ, ◌<◌, ◌^◌, ap, sym, subst, ◌∙◌}
 use Rattle.std.proofs.lemmas.Result.{IfOk-weaker}
-use Rattle.depot_model.specs.Bundle.{Signs}
+use Rattle.depot_model.specs.exchange.Bundle.{Signs}
 use Rattle.depot_world.specs.FaultySigning as signing
 use Rattle.depot_world.specs.Setups.{signs_on}
 use Rattle.depot_scenario.specs.MemberSigners.{MemberSigner}

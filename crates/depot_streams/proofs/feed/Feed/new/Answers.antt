@@ -1,5 +1,5 @@
 use Rattle.std.proofs.Common.{refl}
-use Rattle.depot_model.specs.Frames.{frame_at}
+use Rattle.depot_model.specs.texts.Frames.{frame_at}
 use Rattle.depot_streams.proofs.feed.Feed.new.Goals as goal
 
 pub invariant_of-result : goal.invariant_of-result

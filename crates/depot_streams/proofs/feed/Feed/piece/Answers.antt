@@ -1,5 +1,5 @@
 use Rattle.std.proofs.Common.{refl, sym, ◌∙◌}
-use Rattle.depot_model.specs.Frames.{frame_at}
+use Rattle.depot_model.specs.texts.Frames.{frame_at}
 use Rattle.depot_streams.proofs.FedCalls.{nothing_fed}
 use Rattle.depot_streams.proofs.feed.Feed.piece.Goals as goal
 

@@ -3,7 +3,7 @@ use Rattle.std.specs.List.{flat_map}
 use Rattle.std.proofs.lemmas.List.{length-map}
 use Rattle.std.proofs.lemmas.Grind.{flat_map-append}
 use Rattle.std.specs.Borrow.{Bor}
-use Rattle.depot_model.specs.Frames.{text_of_frame}
+use Rattle.depot_model.specs.texts.Frames.{text_of_frame}
 use Rattle.depot_streams.specs.Sendings.{payloads_of, frames_under}
 use Rattle.depot_streams.proofs.FrameLengths.{frames_long, bytes_both}
 use Rattle.depot_streams.proofs.sending.Sending.add.Goals as goal

@@ -1,5 +1,5 @@
 use Rattle.std.proofs.Common.{refl, arith}
-use Rattle.depot_model.specs.Bundle.{sent_foreign}
+use Rattle.depot_model.specs.exchange.Bundle.{sent_foreign}
 use Rattle.depot_streams.proofs.sending.Sending.new.Goals as goal
 
 pub returns : goal.returns

@@ -3,11 +3,11 @@ use Rattle.std.proofs.lemmas.Result.{err_from_is_err_and}
 use Rattle.depot_base.specs.declared.record.Record.{Record}
 use Rattle.depot_base.specs.declared.tags.FrameTag.TheVariants as tag
 use Rattle.depot_model.specs.declared.bundle.Refusal.{Refusal}
-use Rattle.depot_model.specs.Feeding.{passed, counted}
+use Rattle.depot_model.specs.exchange.Feeding.{passed, counted}
 use Rattle.depot_streams.specs.Pieces.{at_work}
 use Rattle.depot_streams.specs.NodeCalls.{stream_by, frame_of}
 use Rattle.depot_streams.proofs.GivenLaws.{end_is_passed, counted_is_fed, error_leaves, given_byte}
-use Rattle.depot_model.proofs.JournalCallLaws.{never_stopped}
+use Rattle.depot_model.proofs.of_journals.JournalCallLaws.{never_stopped}
 use Rattle.depot_streams.proofs.LawfulCalls.{idle_on, renamed_on}
 use Rattle.depot_streams.proofs.tally.Tally.take.Goals as goal
 

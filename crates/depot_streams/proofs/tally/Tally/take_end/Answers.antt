@@ -1,5 +1,5 @@
 use Rattle.std.proofs.Common.{Bool, false, Some, [], ap, ◌∙◌}
-use Rattle.depot_model.specs.Feeding.{passed}
+use Rattle.depot_model.specs.exchange.Feeding.{passed}
 use Rattle.depot_streams.specs.Pieces.{at_work}
 use Rattle.depot_streams.specs.NodeCalls.{stream_by}
 use Rattle.depot_streams.proofs.tally.Tally.take_end.Goals as goal

@@ -3,7 +3,7 @@ use Rattle.std.specs.Prelude.{slice_get}
 use Rattle.std.specs.List.{list_any}
 use Rattle.std.specs.Str.{bytes_eq}
 use Rattle.depot_base.specs.declared.update.Update.{Update}
-use Rattle.depot_model.specs.Items.{place_of_id}
+use Rattle.depot_model.specs.lists.Items.{place_of_id}
 use Rattle.depot_trim.specs.declared.marks.UpdateMark.{UpdateMark}
 use Rattle.depot_trim.proofs.ReaderReads.{accepted_is, marked, named_trimmed, named_nowhere, named_kept}
 use Rattle.depot_trim.proofs.trimmed.Trimmed.body.Goals as goal

@@ -1,7 +1,7 @@
 use Rattle.std.proofs.Common.{Result, sym, ap, subst, ◌∙◌}
 use Rattle.depot_model.specs.declared.taken.Taken.{Taken}
-use Rattle.depot_model.specs.Readers.{with_more, told_as_node}
-use Rattle.depot_model.specs.Journal.{accepted}
+use Rattle.depot_model.specs.readers.Readers.{with_more, told_as_node}
+use Rattle.depot_model.specs.journals.Journal.{accepted}
 use Rattle.depot_readings.specs.LeavesWith.{leaves_with}
 use Rattle.depot_trim.specs.ReaderAnswers.{Becomes}
 use Rattle.depot_trim.specs.ReaderView.{IsReaderOf}

@@ -1,7 +1,7 @@
 use Rattle.std.proofs.Common.{refl, ◌∙◌}
-use Rattle.depot_model.specs.Journal.{accepted}
-use Rattle.depot_model.specs.Pruning.{pruned}
-use Rattle.depot_model.specs.Readers.{kept}
+use Rattle.depot_model.specs.journals.Journal.{accepted}
+use Rattle.depot_model.specs.readers.Pruning.{pruned}
+use Rattle.depot_model.specs.readers.Readers.{kept}
 use Rattle.depot_trim.proofs.ReaderTakes.{grown_lawful, records_taken, records_fit, few_accepted, few_foreign, grown_reader}
 use Rattle.depot_trim.proofs.trimmed.Trimmed.grow.Goals as goal
 

@@ -1,8 +1,8 @@
 use Rattle.std.proofs.Common.{◌<◌, ◌∙◌, List, length, sym, subst}
 use Rattle.std.specs.Prelude.{All}
 use Rattle.depot_base.specs.declared.update.Update.{Update}
-use Rattle.depot_model.specs.Items.{updates_at}
-use Rattle.depot_model.specs.Order.{AreLatestIn}
+use Rattle.depot_model.specs.lists.Items.{updates_at}
+use Rattle.depot_model.specs.updates.Order.{AreLatestIn}
 use Rattle.depot_trim.proofs.ReaderReads.{accepted_is, items_kept}
 use Rattle.depot_trim.proofs.trimmed.Trimmed.latest.Goals as goal
 

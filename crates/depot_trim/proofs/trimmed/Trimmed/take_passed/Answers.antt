@@ -1,7 +1,7 @@
 use Rattle.std.proofs.Common.{◌∙◌}
-use Rattle.depot_model.specs.Checks.{given_statement}
-use Rattle.depot_model.specs.Pruning.{pruned}
-use Rattle.depot_model.specs.Readers.{reader_outcome, told_as_node}
+use Rattle.depot_model.specs.checks.Checks.{given_statement}
+use Rattle.depot_model.specs.readers.Pruning.{pruned}
+use Rattle.depot_model.specs.readers.Readers.{reader_outcome, told_as_node}
 use Rattle.depot_trim.proofs.ReaderTold.{told_below, told_here}
 use Rattle.depot_trim.proofs.ReaderTakes.{becomes_as, passed_checked, statement_decided, first_below}
 use Rattle.depot_trim.proofs.trimmed.Trimmed.take_passed.Goals as goal

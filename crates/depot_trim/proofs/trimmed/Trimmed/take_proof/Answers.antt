@@ -1,9 +1,9 @@
 use Rattle.std.proofs.Common.{Err, refl, ap, ◌∙◌}
 use Rattle.depot_base.specs.declared.fault.DecodeError.{DecodeError}
-use Rattle.depot_model.specs.Checks.{given_proof}
-use Rattle.depot_model.specs.Pruning.{pruned}
-use Rattle.depot_model.specs.Readers.{told_as_node, reader_takes}
-use Rattle.depot_model.specs.Taking.{as_proof}
+use Rattle.depot_model.specs.checks.Checks.{given_proof}
+use Rattle.depot_model.specs.readers.Pruning.{pruned}
+use Rattle.depot_model.specs.readers.Readers.{told_as_node, reader_takes}
+use Rattle.depot_model.specs.checks.Taking.{as_proof}
 use Rattle.depot_trim.proofs.ReaderTexts.{proof_read, proof_unread}
 use Rattle.depot_trim.proofs.ReaderTold.{told_proof}
 use Rattle.depot_trim.proofs.ReaderTakes.{becomes_as, proof_decided}

@@ -4,7 +4,7 @@ use Rattle.depot_base.specs.Sized.{IsValue}
 use Rattle.depot_base.specs.declared.check.Check.TheVariants as check
 use Rattle.depot_base.specs.declared.memory.Memory.{Memory}
 use Rattle.depot_model.specs.declared.taken.Taken.{Taken}
-use Rattle.depot_model.specs.Readers.{told, kept}
+use Rattle.depot_model.specs.readers.Readers.{told, kept}
 use Rattle.depot_trim.proofs.ReaderTold.{told_held, told_unwanted, told_new}
 use Rattle.depot_trim.proofs.ReaderTakes.{hash_is_held, hash_is_wanted, holding_reader}
 use Rattle.depot_trim.proofs.trimmed.Trimmed.take_short.Goals as goal

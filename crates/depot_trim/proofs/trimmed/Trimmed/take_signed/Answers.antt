@@ -1,6 +1,6 @@
 use Rattle.std.proofs.Common.{ap, subst, ◌∙◌}
 use Rattle.sha2.specs.Sha256.{sha256}
-use Rattle.depot_model.specs.Pruning.{pruned}
+use Rattle.depot_model.specs.readers.Pruning.{pruned}
 use Rattle.depot_accept.specs.StateView.{setting}
 use Rattle.depot_accept.specs.ToSignature.{IsCheckedToSignature}
 use Rattle.depot_accept.specs.declared.answer.Front.TheVariants as front

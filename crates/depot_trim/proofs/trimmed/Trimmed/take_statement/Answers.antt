@@ -1,8 +1,8 @@
 use Rattle.std.proofs.Common.{Err, refl, ap}
 use Rattle.depot_base.specs.declared.fault.DecodeError.{DecodeError}
-use Rattle.depot_model.specs.Checks.{given_statement}
-use Rattle.depot_model.specs.Readers.{reader_outcome, reader_takes}
-use Rattle.depot_model.specs.Taking.{as_statement}
+use Rattle.depot_model.specs.checks.Checks.{given_statement}
+use Rattle.depot_model.specs.readers.Readers.{reader_outcome, reader_takes}
+use Rattle.depot_model.specs.checks.Taking.{as_statement}
 use Rattle.depot_trim.proofs.ReaderTexts.{statement_read, statement_unread}
 use Rattle.depot_trim.proofs.ReaderTakes.{becomes_as}
 use Rattle.depot_trim.proofs.trimmed.Trimmed.take_statement.Goals as goal

@@ -1,6 +1,6 @@
-use Rattle.depot_model.specs.Checks.{given_value}
-use Rattle.depot_model.specs.Readers.{reader_outcome, reader_takes}
-use Rattle.depot_model.specs.Taking.{as_value}
+use Rattle.depot_model.specs.checks.Checks.{given_value}
+use Rattle.depot_model.specs.readers.Readers.{reader_outcome, reader_takes}
+use Rattle.depot_model.specs.checks.Taking.{as_value}
 use Rattle.depot_trim.proofs.ReaderTexts.{value_read, value_too_long}
 use Rattle.depot_trim.proofs.ReaderTakes.{becomes_as}
 use Rattle.depot_trim.proofs.trimmed.Trimmed.take_value.Goals as goal
