@@ -4,7 +4,8 @@ docs/ARCHITECTURE.md, the numbers in docs/TESTING.md, and the families of proofs
 
 A crate has in its row of the drawing those that it stands on, but for those that others in the row stand on already. With --write
 drawing and numbers are put into their pages, between the lines that begin and end them; with --print they are printed. A family of
-proofs is a file of proofs/: --families prints its name and the first sentence of its head, of these crates or of all, lowest first.
+proofs is a file of proofs/, or of a folder there in which several lie: --families prints its name, behind its folder's, and the first
+sentence of its head, of these crates or of all, lowest first.
 """
 
 import glob
@@ -57,22 +58,24 @@ def drawing(uses):
     return "\n".join(lines + ["```"]) + "\n"
 
 
-def titled(path):
-    """A family's name, and what it is: the comment at its head, up to its first full stop."""
+def titled(path, place):
+    """A family's name, as seen from proofs/, and what it is: the comment at its head, up to its first full stop."""
     with open(path, encoding="utf-8") as file:
         head = re.match(r"(?:--.*\n)*", file.read()).group()
     words = " ".join(line.lstrip("- ") for line in head.splitlines())
-    row = "- `%s`: %s" % (os.path.basename(path)[: -len(".antt")], re.split(r"(?<=\.) ", words.strip())[0])
+    row = "- `%s`: %s" % (os.path.relpath(path, place)[: -len(".antt")], re.split(r"(?<=\.) ", words.strip())[0])
     return "\n".join(textwrap.wrap(row, 118, subsequent_indent="  ", break_long_words=False, break_on_hyphens=False))
 
 
 def families(uses, wanted=()):
-    """The families of each crate that has some, of those that are wanted or of all, lowest crate first."""
+    """The families of each crate that has some, of those that are wanted or of all, lowest crate first. The list of a folder's files has
+    the folder's name, which begins with a small letter, and is none."""
     parts = []
     for name in sorted(wanted or uses, key=lambda it: (height(it, uses), it)):
-        paths = sorted(glob.glob(os.path.join(TOP, "crates", name, "proofs", "**", "[A-Z]*.antt"), recursive=True))
-        lists = ("Lib", "Answers", "Invariants", "Proof")
-        found = [titled(it) for it in paths if os.path.basename(it)[: -len(".antt")] not in lists]
+        place = os.path.join(TOP, "crates", name, "proofs")
+        others = ("Lib", "Answers", "Invariants", "Proof")
+        there = sorted(glob.glob(os.path.join(place, "**", "[A-Z]*.antt"), recursive=True))
+        found = [titled(it, place) for it in there if os.path.basename(it)[: -len(".antt")] not in others]
         if found:
             parts.append("### %s\n\n%s\n" % (name, "\n".join(found)))
     return "\n".join(parts)

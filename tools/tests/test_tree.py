@@ -94,7 +94,8 @@ class Words(unittest.TestCase):
         for page in pages():
             for path in (it for text in quoted(page) for it in paths_in(text)):
                 with self.subTest(page=page, path=path):
-                    places = ["", "crates/", "crates/*/", "crates/*/src/", os.path.dirname(page) + "/"]
+                    parts = ["crates/*/%s/" % it for it in ("src", "specs", "proofs")]
+                    places = ["", "crates/", "crates/*/", *parts, os.path.dirname(page) + "/"]
                     self.assertTrue(any(glob.glob(path_of(it + path + end)) for it in places for end in ("", ".*")))
 
     def test_each_file_is_there(self):
@@ -136,17 +137,46 @@ class Lists(unittest.TestCase):
     def test_each_family_has_a_title(self):
         rows = re.split(r"\n(?=- )", lists.families(lists.crates(text_of("crates.txt"))).split("### ", 1)[1])
         heads = [" ".join(it.split("\n\n")[0].split()) for it in rows[1:]]
-        self.assertEqual([it for it in heads if not re.fullmatch(r"- `\w+`: \S.{8,}\.", it)], [])
+        self.assertEqual([it for it in heads if not re.fullmatch(r"- `(\w+/)?\w+`: \S.{8,}\.", it)], [])
 
     def test_families_are_printed(self):
         """Those of the crates that are named, lowest first; of all where none is; of none that isn't there."""
         status, out, why = run_tool("lists.py", "--families", "depot_journal", "depot_order")
         self.assertEqual((status, re.findall(r"### (\w+)", out), why), (0, ["depot_order", "depot_journal"], ""))
         self.assertIn("- `LaneLaws`: ", out)
+        status, out, why = run_tool("lists.py", "--families", "depot_model")
+        self.assertIn("- `of_texts/TextLaws`: ", out)
+        self.assertNotIn("`of_texts`", out)
         uses = lists.crates(text_of("crates.txt"))
         self.assertEqual(run_tool("lists.py", "--families")[:2], (0, lists.families(uses)))
         status, out, why = run_tool("lists.py", "--families", "depot_x")
         self.assertEqual((status, out, bool(why)), (1, "", True))
+
+
+class Shelves(unittest.TestCase):
+    """Lib.antt of specs/ and of proofs/ names the files beside it; a folder of files has such a list beside it, under its own name."""
+
+    def listed(self, text):
+        return sorted(re.findall(r"(?m)^(?:pub )?mod (\w+)$", text))
+
+    def files(self, *place):
+        """The names of the files of a folder, its list among them no more."""
+        return sorted(it[: -len(".antt")] for it in os.listdir(path_of(*place)) if it.endswith(".antt") and it != "Lib.antt")
+
+    def test_each_list_names_the_files_that_are_there(self):
+        for lib in glob.glob(path_of("crates", "*", "*", "Lib.antt")):
+            place = os.path.dirname(lib)
+            names = self.listed(text_of(lib))
+            with self.subTest(place=os.path.relpath(place, TOP)):
+                self.assertEqual(names, self.files(place))
+            for folder in (it for it in names if it[0].islower()):
+                with self.subTest(place=os.path.relpath(place, TOP), folder=folder):
+                    self.assertEqual(self.listed(text_of(place, folder + ".antt")), self.files(place, folder))
+
+    def test_each_list_has_a_title_and_names_alone(self):
+        for path in (it for part in ("specs", "proofs") for it in glob.glob(path_of("crates", "*", part, "[a-z]*.antt"))):
+            with self.subTest(path=os.path.relpath(path, TOP)):
+                self.assertRegex(text_of(path), r"\A(--.*\n)+((pub )?mod [A-Z]\w*\n)+\Z")
 
 
 class Crates(unittest.TestCase):
