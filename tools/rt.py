@@ -4,7 +4,7 @@
 Usage: rt.py WORDS ..    as rt.py check, in a crate's folder
 
 To know whether a library is kept of the sources as they are, rt sums up those of each crate below it, and for each of these anew all below
-that one: a minute and a half for one sum of `depot_cli`, and rt takes several. This gives rt the same sums, each computed once for a question.
+that one: close to a minute for one sum of `depot_cli`, and rt takes several. This gives rt the same sums, each computed once for a question.
 A kit in which rt is made otherwise gets the words as they are.
 """
 import importlib.machinery
