@@ -1,26 +1,18 @@
-//! The commands, over any shelf, disk and sink (`depot`); the trace files of an audit, loaded one by one.
+//! The commands of the program: [`depot`] reads words, does what they ask for over a shelf, a disk, a source and a
+//! sink, and returns how the run ended. Nothing here decides what a log, a proof, a schedule, a script or a trace
+//! means.
 //!
-//! # Trace files
+//! The contract of `depot` in `top.rt` covers all that the program does, over any of these; `depot_tool` gives it the
+//! real ones. `specs/Words.antt` says which words are a command, `Runs.antt`, `Nodes.antt` and `Servers.antt` what
+//! each command answers and prints, and `Statuses.antt` the exit statuses.
 //!
-//! The trace files of an audit: loads them one by one, and checks each against the roster and the traces before it.
-//!
-//! `gather` returns the traces of all files, each of another node of the roster, or names the first file that can't be
-//! had or is no such trace (`specs/Handing.antt`). No file is loaded after that one.
-//!
-//! # Cli
-//!
-//! The commands of the program: [`depot`] reads words, does what they ask for over a shelf, a disk and a sink, and
-//! returns how the run ended.
-//!
-//! The contract of `depot` in `top.rt` covers all that the program does, over any shelf, disk and sink; `depot_tool`
-//! gives it the real ones. `specs/Words.antt` says which words are a command, `Runs.antt` and `Nodes.antt` what each
-//! command answers and prints, and `Statuses.antt` the exit statuses.
-//!
-//! `scan_command`, `key_command`, `judge_command`, `replay_command`, `load_command`, `node_command` and `audit_command`
-//! do one command each. `word`, `given_words`, `trace_names`, `height` and `invocation` read words; `files` loads a
-//! file, and `outcome` and `status` have how a run ends.
-//!
-//! Nothing here decides what a log, a proof, a schedule or a script means.
+//! - `scan_command`, `key_command`, `judge_command`, `replay_command`, `load_command`, `node_command`, `serve_command`
+//!   and `audit_command` do one command each.
+//! - `word`, `given_words`, `trace_names`, `height` and `invocation` read words.
+//! - `files` loads a file. `trace_files` loads the trace files of an audit, one by one: `gather` returns the traces of
+//!   all files, each of another node of the roster, or names the first file that can't be had or is no such trace
+//!   (`specs/Handing.antt`). No file is loaded after that one.
+//! - `outcome` and `status` have how a run ends.
 #![tactic(auto)]
 
 mod audit_command;

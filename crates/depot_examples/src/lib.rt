@@ -1,20 +1,12 @@
-//! Definitions, each by a yes and a no that differ in one thing; worlds that meet what laws ask for; laws of the worlds
-//! of schedules and sessions; worked scripts, schedules and limits that compute.
+//! Worked examples of definitions, each with a yes and a no, worlds that meet the conditions of laws, and laws that no
+//! code needs. Nothing depends on this crate.
 //!
-//! # Examples
-//!
-//! Worked examples of definitions, each with a yes and a no, and worlds that meet the conditions of laws.
-//!
-//! Changing the meaning of a definition makes one of them false. If a law asked for too much, no world here would meet
-//! its conditions any more. Laws that no code needs are here too. Nothing depends on this crate.
-//!
-//! # Tests worlds
-//!
-//! Further laws of the world of every schedule and of every session, and worlds that are computed.
-//!
-//! The headline is about the reads and the judged proofs of a world, and no code keeps these. So laws here say which
-//! there are, and worked examples show them over takes, restarts and stops. Worked examples of scripts and of files at
-//! their limits are here too. Nothing depends on this crate.
+//! - Changing the meaning of a definition makes an example false. If a law asked for too much, no world here would
+//!   meet its conditions any more.
+//! - Laws of the world of every schedule and of every session. The headline is about the reads and the judged proofs
+//!   of a world, and no code keeps these. So laws here say which there are, and worked examples show them over takes,
+//!   restarts and stops.
+//! - Worked examples of scripts and of files at their limits.
 #![tactic(auto)]
 
 mod alike;

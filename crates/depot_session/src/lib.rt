@@ -1,38 +1,30 @@
-//! A node on a disk at work: a script, run with the files of a shelf (`run`), or requests that are heard over a source
-//! and answered (`serve_all`, `run_server`).
+//! A node on a disk at work: it runs a script with the files of a shelf, or stays and serves what is asked over a
+//! source. Both runs start the node from its disk, in `running` and in `server_running`; all else knows it as a
+//! `LocalNode`.
 //!
-//! # Session
+//! A script (`run`):
 //!
-//! Runs scripts: a node over a disk, with files on a shelf, and what it prints.
-//!
-//! `specs/Sessions.antt` defines the outcome of a script, command by command (`step_of`) and as a whole (`answers_of`):
-//! the lines, the journal, the files, and how the run ends. `run` starts the node from its disk and does just that, or
-//! is cut short by lack of memory or by a fault of the disk, the shelf or the sink. `specs/SessionRuns.antt` says what
-//! holds then, of every crash image too.
-//!
+//! - `specs/Sessions.antt` defines its outcome, command by command (`step_of`) and as a whole (`answers_of`): the
+//!   lines, the journal, the files, and how the run ends. `run` does just that, or is cut short by lack of memory or
+//!   by a fault of the disk, the shelf or the sink. `specs/SessionRuns.antt` says what holds then, of every crash
+//!   image too.
 //! - If the receipts of the file's journal are true (`depot_queries`), they are true in every crash image: only the
 //!   command `receipt` writes their keys, and only `checkpoint` and `sign` write those of checkpoints. `session_laws`
 //!   says what each image then has, and which scripts complete (`specs/Unhindered.antt`).
 //! - If a script hands in a trace, the reads of the run are kept, as traces record them (`kept_reads`); other scripts
-//!   keep none.
-//! - The last reader that a script made is kept in memory, beside the node (`last_reader`).
+//!   keep none. The last reader that a script made is kept in memory, beside the node (`last_reader`).
+//! - `whole_script` carries out a script, and `carrying` one command. Most commands ask the node: `requesting` makes
+//!   their requests, and `asking` loads a command's file, asks, stores what the node hands out, and prints the reply
+//!   last. The others are those of readers (`reader_commands`) and of the trace (`exporting`). `telling` writes lines,
+//!   and `command_heads` the words of a command.
 //!
-//! The node is known as a `LocalNode`; only `running` starts one from its disk. `whole_script` carries out a script,
-//! and `carrying` one command. Most commands ask the node: `requesting` makes their requests, and `asking` loads a
-//! command's file, asks, stores what the node hands out, and prints the reply last. The others are those of readers
-//! (`reader_commands`) and of the trace (`exporting`). `telling` writes lines, and `command_heads` the words of a
-//! command.
+//! A node that stays (`run_server`):
 //!
-//! # Server
-//!
-//! Serves a node: requests come over a source as messages, and the replies go to a sink.
-//!
-//! `serve_all` reads a message, has its request carried out on a `LocalNode`, writes the reply, and so on to the end of
-//! the input. A reply is written only once each crash image has what it reports, and no byte after a request is read
-//! before its reply is written.
-//!
-//! `run_server` starts the node from its disk, says by one message whether it was started (`start_telling`), and then
-//! serves it. Only `running` starts a node.
+//! - It says by one message whether the node was started (`start_telling`), and then serves it.
+//! - `serve_all` reads a message, has what it asks carried out, writes the reply to a sink, and so on to the end of
+//!   the input. A reply is written only once each crash image has what it reports, and no byte after a request is read
+//!   before its reply is written.
+//! - It leaves a disk as the run of a script does: `specs/ServerRuns.antt`.
 #![tactic(auto)]
 
 mod asking;

@@ -119,7 +119,6 @@ fn run_over<D: Disk, I: Source, K: Sink, S: Scheme + Copy, G: Signer<Of = S>>(
 /// Lack of memory, faults of the disk, the source and the sink, and input that is no request cut a run short. If a
 /// start is refused, the reason is written and the source isn't read; if the key, the roster or the journal is the
 /// reason, the disk's file then reads as before. The messages are those of docs/FORMATS.md ("Requests").
-/// reason is said and the source isn't read; where it is for the key, the roster or the journal, the disk's file then reads as before. The messages are those of docs/FORMATS.md ("Requests").
 pub fn run_server<D: Disk, I: Source, K: Sink, S: Scheme + Copy, G: Signer<Of = S>>(
     alloc: Global,
     disk: &mut D,
