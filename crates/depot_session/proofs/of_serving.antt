@@ -2,5 +2,5 @@
 pub mod Folding
 pub mod SameNodes
 pub mod ServerTurns
-mod ServerEndings
-mod NodesOnDisks
+pub mod ServerEndings
+pub mod NodesOnDisks
