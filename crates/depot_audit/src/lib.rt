@@ -1,36 +1,24 @@
-//! The audit: each node by itself, then their world: what fails in it where no two texts have one hash, by a table
-//! (`Met`).
+//! The audit: whether what many nodes did keeps the headline, fork-join causality, from their journals and reads
+//! alone. Each node hands in a `Trace`: its record texts and its reads. No disk and no seed is needed, and nothing is
+//! kept.
 //!
-//! # Apart
+//! `audit` looks at two things in turn, and answers the traces' one finding:
 //!
-//! What breaks the headline in the world of lawful traces, where no two different texts have one hash.
+//! 1. Each node by itself (`look_at`): its records are checked one after another, as a start does, and each read is
+//!    compared with the records that it saw. Nodes are taken in rising order (`look_at_all`): the records of all, and
+//!    then the reads of all.
+//! 2. The world that right traces make. Where the records of all nodes are lawful and their reads right, three parts
+//!    of the headline are open (`lawful_worlds_are_in_line` of `depot_laws`): that nothing is observed before itself,
+//!    that each read is exact, and that no conviction names a node.
+//!    - `Met` is a table by hash, with each update under its id and each value under its hash; it says whether two
+//!      different texts had one hash. Where none did, the first part holds, and a read is exact exactly where each
+//!      write that it lists of a node of the traces is one that this node put: one look-up a listed write.
+//!      `first_wrong` returns the first read that isn't exact.
+//!    - Where two different texts have one hash, a slow search finds what fails (`depot_search`).
+//!    - `first_named` returns the first conviction of a node, whatever texts there are.
 //!
-//! Where the records of all nodes are lawful and their reads right, three parts of the headline are open: that nothing
-//! is observed before itself, that each read is exact, and that no conviction names a node (`lawful_worlds_are_in_line`
-//! of `depot_laws`).
-//!
-//! - `Met` is a table by hash, with each update under its id and each value under its hash; it says whether two
-//!   different texts had one hash. Where none did, the first part holds, and a read is exact exactly where each write
-//!   that it lists of a node of the traces is one that this node put: one look-up a listed write.
-//! - `first_wrong` returns the first read that isn't exact.
-//! - `first_named` returns the first conviction of a node, whatever texts there are.
-//!
-//! The texts are those of lawful records. Each is decoded and hashed once, no signature is verified again, and the only
+//! For the table each text of a record is decoded and hashed once more, and no signature is verified again. The only
 //! error is Memory.
-//!
-//! # Audit
-//!
-//! The audit: whether what many nodes did keeps the headline, fork-join causality, from their journals and reads alone.
-//!
-//! A node hands in a `Trace`: its record texts and its reads. The audit checks the records one after another, as a
-//! start does, and compares each read with the records that it saw (`one_node`). It takes the nodes in rising order
-//! (`by_node`, `in_turn`): the records of all, and then the reads of all.
-//!
-//! `audit` then looks at the world that right traces make (`traces_audit`). A table of hashes finds what is wrong
-//! (`depot_audit`), or, should two different texts have one hash, a search does (`depot_search`); then comes the first
-//! conviction of one of the nodes. The answer is the traces' one finding.
-//!
-//! No disk and no seed is needed, and nothing is kept.
 #![tactic(auto)]
 
 mod by_node;

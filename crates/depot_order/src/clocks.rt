@@ -1,4 +1,9 @@
-//! The clocks, and what they keep of each item.
+//! The clocks, and what they keep of each item: its spot and its row, which is the join of its parents' rows with its
+//! own entry.
+//!
+//! A row of up to 16 chains is kept whole, and at every 32nd place of a chain each row is. Elsewhere only the entries
+//! are kept in which a row differs from that of the item before it in its chain. `specs/KeptRows.antt` says what is
+//! kept, and `proofs/` why it stays so.
 ghost use Rattle.std.specs.Prelude.{◌≡◌, ◌<◌, ◌≤◌, ◌+◌, ◌↔◌, [], ◌∷◌, ◌++◌, length, IsTrue, IfOk, OnOk, OnErr, All, EachIndex, Contains, IfSome, ◌-◌, slice_index};
 ghost use Rattle.depot_order.specs.KeptRows.{AreChained, IsNext, IsNextRow, IsChangedFrom, IsJoinedCount, KeepsRow};
 ghost use Rattle.depot_order.specs.ChainItems.{ItemPrecedes, IsChainItemAt, chain_length, number_of_chains, IsLinked, IsOfPast, IsTrueOf, IsCount, CountsAll, IsWithin, IsRowJoined};

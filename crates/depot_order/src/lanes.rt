@@ -1,4 +1,11 @@
 //! Two slices of one length, compared and joined entry by entry.
+//!
+//! The rows of clocks are long, and most questions on them scan whole rows. `first_above` and `all_leq` scan full
+//! lanes of eight entries, each without a branch, so that its entries can be compared at once; they look for a place
+//! only in the lane that has one. `max_into` has no branch in its loop either.
+//!
+//! What each computes is stated over lists, in `specs/Lanes.antt`, for every length; that the entries are scanned by
+//! lanes is no part of it. No call takes memory.
 ghost use Rattle.std.specs.Prelude.{◌≡◌, ◌≤◌, length, take, true};
 ghost use Rattle.depot_order.specs.Lanes.{all_leq, first_above, greater_of_each};
 

@@ -21,7 +21,6 @@ use std::alloc::Global;
 /// isn't held, with the first such id. Then come the errors of [`put_all`](LocalNode::put_all), with the same effects:
 /// after `Disk` the node is stopped, after any other error its journal is unchanged. If each receipt that the node gave
 /// before was true, each one still is.
-/// each receipt that the node gave was true, each is.
 pub fn give<N: LocalNode>(alloc: Global, node: &mut N, ids: &Ids) -> Result<PutDone, GiveError>
     requires few { (1 ≤ length ids.now) × (length ids.now ≤ MOST_WRITES) }
     requires rising { AllPairsByRecursion (λ g h. is_below g h ≡ true) ids.now }
