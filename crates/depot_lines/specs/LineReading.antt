@@ -1,5 +1,5 @@
 -- What the readers of words, lines and texts answer, and what the writers of words write.
-use Rattle.std.specs.Prelude.{◌≡◌, ℕ, List, [], ◌∷◌, ◌++◌, Option, Some, None, Result, Ok, Err, length, Bool, true, false, ◌≤◌, ◌<◌, ◌⊎◌}
+use Rattle.std.specs.Prelude.{◌≡◌, ℕ, ◌-◌, List, [], ◌∷◌, ◌++◌, Option, Some, None, Result, Ok, Err, length, take, Bool, true, false, ◌≤◌, ◌<◌, ◌⊎◌, nat_lt, if◌then◌else◌}
 use Rattle.std.specs.List.{flat_map}
 use Rattle.std.specs.Borrow.{Bor}
 use Rattle.depot_base.specs.declared.limits.TheConstants.{MOST_LINES}
@@ -101,3 +101,32 @@ Parses (Err (error.Line n f)) reading = reading ≡ Err (n, f)
 -- words, each preceded by a space (32)
 abbrev pub behind_spaces : List (List ℕ) → List ℕ
 behind_spaces words = flat_map (λ word. 32 ∷ word) words
+
+-- lines as they are written: their text so far, and how many words more the last one takes, or all
+pub record LineSoFar : Type 0 where
+  pub text : List ℕ
+  pub more : Option ℕ
+
+-- whether another word is taken
+abbrev pub takes_more : Option ℕ → Bool
+takes_more None = true
+takes_more (Some n) = nat_lt 0 n
+
+-- how many are taken after it
+abbrev pub fewer : Option ℕ → Option ℕ
+fewer None = None
+fewer (Some n) = Some (n - 1)
+
+-- the words that are taken
+abbrev pub words_taken : Option ℕ → List (List ℕ) → List (List ℕ)
+words_taken None words = words
+words_taken (Some n) words = take n words
+
+-- one word more, preceded by a space, if it is taken
+unfoldable pub with_word : LineSoFar → List ℕ → LineSoFar
+with_word l word = record { text = if takes_more l.more then l.text ++ (32 ∷ word) else l.text; more = fewer l.more }
+
+-- words more, one after the other
+abbrev pub with_words : LineSoFar → List (List ℕ) → LineSoFar
+with_words l [] = l
+with_words l (word ∷ words) = with_words (with_word l word) words

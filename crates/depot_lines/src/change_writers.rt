@@ -1,4 +1,4 @@
-//! Writes words of writes.
+//! Writes changes, which make up one word.
 ghost use Rattle.std.specs.Prelude.{◌≡◌, ◌++◌, ◌∷◌, map, OnOk};
 ghost use Rattle.std.specs.List.{flat_map};
 ghost use Rattle.hex.specs.Hex.{encode_lower};
@@ -49,15 +49,6 @@ fn bare_change(alloc: Global, out: &mut Bytes, change: &Change) -> Result<(), Me
     behind_key(alloc, out, &change.value)
 }
 
-/// A change after a space.
-#[tactic(auto, using(depot_base::proofs::Writing::texts))]
-fn first_change(alloc: Global, out: &mut Bytes, change: &Change) -> Result<(), Memory>
-    ensures { OnOk result (out.new ≡ out.old ++ (32 ∷ text_of_change change.now)) }
-{
-    out.push_all(b" ")?;
-    bare_change(alloc, out, change)
-}
-
 /// Changes, each preceded by a comma.
 #[tactic(auto, using(depot_base::proofs::Writing::texts))]
 fn behind_commas(alloc: Global, out: &mut Bytes, changes: &[Change]) -> Result<(), Memory>
@@ -72,13 +63,13 @@ fn behind_commas(alloc: Global, out: &mut Bytes, changes: &[Change]) -> Result<(
 
 /// Changes with commas between them.
 #[tactic(auto, using(depot_base::proofs::Writing::texts))]
-pub fn writes(alloc: Global, out: &mut Bytes, changes: &[Change]) -> Result<(), Memory>
-    ensures { OnOk result (out.new ≡ out.old ++ (32 ∷ join 44 (map text_of_change changes.now))) }
+pub fn joined_changes(alloc: Global, out: &mut Bytes, changes: &[Change]) -> Result<(), Memory>
+    ensures { OnOk result (out.new ≡ out.old ++ join 44 (map text_of_change changes.now)) }
 {
     match changes {
-        [] => out.push_all(b" "),
+        [] => Ok(()),
         [first, rest @ ..] => {
-            first_change(alloc, out, first)?;
+            bare_change(alloc, out, first)?;
             behind_commas(alloc, out, rest)
         }
     }

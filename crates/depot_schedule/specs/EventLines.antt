@@ -361,6 +361,10 @@ verb_name v = (table_row v).name
 abbrev pub line_of : Verb → EventForm
 line_of v = (table_row v).line
 
+-- the words after the name of an event
+abbrev pub behind_event_name : Event → List (List ℕ)
+behind_event_name e = (line_of (verb_of e)).text e
+
 -- the kind of event of this name
 unfoldable pub verb_named : List ℕ → Option Verb
 verb_named word = find (λ v. bytes_eq word (verb_name v)) VERBS

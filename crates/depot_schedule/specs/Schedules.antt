@@ -13,7 +13,7 @@ use Rattle.depot_lines.specs.Spelling.{number_word}
 use Rattle.depot_base.specs.Format.{◌>>=◌}
 use Rattle.depot_lines.specs.Language.{or_fault}
 use Rattle.depot_schedule.specs.EventWords.{is_declared}
-use Rattle.depot_schedule.specs.EventLines.{verb_of, line_of, verb_name, verb_named}
+use Rattle.depot_schedule.specs.EventLines.{verb_of, line_of, verb_name, verb_named, behind_event_name}
 use Rattle.depot_lines.specs.LineTexts.{text_of_line, Line, lines_of_text, first_word, is_empty_word, are_words, checked}
 
 -- ---- schedules as they grow
@@ -56,7 +56,7 @@ abbrev pub member_words : Member → List (List ℕ)
 member_words m = member_name m.correct ∷ decimal m.node ∷ []
 
 abbrev pub event_words : Event → List (List ℕ)
-event_words e = verb_name (verb_of e) ∷ (line_of (verb_of e)).text e
+event_words e = verb_name (verb_of e) ∷ behind_event_name e
 
 -- the words of each line: two lines of the header, the members, the events
 abbrev pub words_of_schedule : Schedule → List (List (List ℕ))

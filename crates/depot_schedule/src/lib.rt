@@ -1,4 +1,5 @@
-//! Schedules: texts that say which nodes there are and what happens to them, line by line (docs/FORMATS.md, "Schedules").
+//! Schedules: texts that say which nodes there are and what happens to them, line by line (docs/FORMATS.md,
+//! "Schedules").
 //!
 //! A schedule is plain data: contracts see its members and events as lists, labels and bytes as lists of bytes, and
 //! numbers of nodes as numbers.
@@ -11,8 +12,8 @@
 //! kind of event is a variant of `Event` and of `Verb`, a line of the table with its law, and a reader (in
 //! `depot_schedule_parser`) and a writer with no proof file.
 //!
-//! `event`, `member` and `schedule` have the types, `verb` the kinds of events and what their labels name;
-//! `event_writers`, `reference_writers` and `print` write a schedule.
+//! `event`, `member` and `schedule` have the types, `verb` the kinds of events and what their labels name.
+//! `event_writers` and `reference_writers` write the words of events, `print` whole schedules, and heads of lines.
 //!
 //! Nothing here reads a text, and nothing says what an event does.
 #![tactic(auto)]
@@ -21,14 +22,14 @@ mod event;
 mod event_writers;
 mod member;
 mod print;
-pub mod reference_writers;
+mod reference_writers;
 mod schedule;
 mod schedule_laws;
 mod verb;
 
 pub use event::{Event, HistoryWord, Ref, Refs};
 pub use member::{Member, Members};
-pub use print::print_schedule;
+pub use print::{event_head, print_schedule};
 pub use schedule::{Events, Schedule};
 pub use schedule_laws::{schedules_are_read_back, schedules_have_one_spelling};
 pub use verb::{Made, Verb, Wanted};

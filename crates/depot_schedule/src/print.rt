@@ -1,13 +1,15 @@
-//! Prints schedules.
-ghost use Rattle.std.specs.Prelude.{◌≡◌, ◌++◌, OnOk, IfOk};
+//! Prints schedules, and heads of their lines.
+ghost use Rattle.std.specs.Prelude.{◌≡◌, ◌+◌, ◌++◌, OnOk, IfOk, take};
 ghost use Rattle.std.specs.List.{flat_map};
-ghost use Rattle.depot_schedule.specs.Schedules.{IsSchedule, text_of_schedule, scheme_name, scheme_words, member_name, member_words, event_words, first_words};
+ghost use Rattle.depot_schedule.specs.Schedules.{IsSchedule, text_of_schedule, scheme_name, member_name};
+ghost use Rattle.depot_schedule.specs.Schedules.{first_words, scheme_words, member_words, event_words};
+ghost use Rattle.depot_lines.specs.Language.{join};
 ghost use Rattle.depot_lines.specs.LineTexts.{text_of_line};
 
 use crate::event_writers::words_of_event;
 use crate::{Event, Member, Schedule};
 use depot_base::{Bytes, Memory};
-use depot_lines::word_writers::{node, number, word};
+use depot_lines::LineWriter;
 use std::alloc::Global;
 
 /// The name of a scheme.
@@ -25,61 +27,76 @@ fn member_name(correct: bool) -> &'static str
 }
 
 /// The first line.
-fn first_line(out: &mut Bytes) -> Result<(), Memory>
-    ensures { OnOk result (out.new ≡ out.old ++ text_of_line first_words) }
+#[tactic(auto, using(depot_base::proofs::Writing::texts), unfolding(depot_lines::specs::LineReading::with_word))]
+fn first_line(out: &mut LineWriter) -> Result<(), Memory>
+    ensures { OnOk result (out.new.text ≡ out.old.text ++ text_of_line first_words) }
 {
-    out.push_all(b"depot schedule 1\n")
+    out.begin(b"depot")?;
+    out.word(b"schedule")?;
+    out.word(b"1")?;
+    out.end()
 }
 
 /// The second line.
-#[tactic(auto, using(depot_base::proofs::Writing::texts))]
-fn scheme_line(alloc: Global, out: &mut Bytes, schedule: &Schedule) -> Result<(), Memory>
-    ensures { OnOk result (out.new ≡ out.old ++ text_of_line (scheme_words schedule.now)) }
+#[tactic(auto, using(depot_base::proofs::Writing::texts), unfolding(depot_lines::specs::LineReading::with_word))]
+fn scheme_line(out: &mut LineWriter, schedule: &Schedule) -> Result<(), Memory>
+    ensures { OnOk result (out.new.text ≡ out.old.text ++ text_of_line (scheme_words schedule.now)) }
 {
-    out.push_all(b"scheme")?;
-    word(out, scheme_name(schedule.winter).as_bytes())?;
-    number(alloc, out, schedule.height as u64)?;
-    out.push_all(b"\n")
+    out.begin(b"scheme")?;
+    out.word(scheme_name(schedule.winter).as_bytes())?;
+    out.number(schedule.height as u64)?;
+    out.end()
 }
 
 /// The line of a member.
-#[tactic(auto, using(depot_base::proofs::Writing::texts))]
-fn member_line(alloc: Global, out: &mut Bytes, member: &Member) -> Result<(), Memory>
-    ensures { OnOk result (out.new ≡ out.old ++ text_of_line (member_words member.now)) }
+#[tactic(auto, using(depot_base::proofs::Writing::texts), unfolding(depot_lines::specs::LineReading::with_word))]
+fn member_line(out: &mut LineWriter, member: &Member) -> Result<(), Memory>
+    ensures { OnOk result (out.new.text ≡ out.old.text ++ text_of_line (member_words member.now)) }
 {
-    out.push_all(member_name(member.correct).as_bytes())?;
-    node(alloc, out, member.node)?;
-    out.push_all(b"\n")
+    out.begin(member_name(member.correct).as_bytes())?;
+    out.node(member.node)?;
+    out.end()
 }
 
 /// The line of an event.
 #[tactic(auto, using(depot_base::proofs::Writing::texts, depot_lines::proofs::WrittenSteps::lines))]
-fn event_line(alloc: Global, out: &mut Bytes, event: &Event) -> Result<(), Memory>
-    ensures { OnOk result (out.new ≡ out.old ++ text_of_line (event_words event.now)) }
+fn event_line(out: &mut LineWriter, event: &Event) -> Result<(), Memory>
+    ensures { OnOk result (out.new.text ≡ out.old.text ++ text_of_line (event_words event.now)) }
 {
-    out.push_all(event.verb().name().as_bytes())?;
-    words_of_event(alloc, out, event)?;
-    out.push_all(b"\n")
+    out.begin(event.verb().name().as_bytes())?;
+    words_of_event(out, event)?;
+    out.end()
+}
+
+/// The head of an event's line: the event's name, and `more` of the words behind it, or all where there are fewer.
+#[tactic(auto, using(depot_base::proofs::Writing::texts, depot_lines::proofs::WrittenSteps::lines))]
+pub fn event_head(alloc: Global, event: &Event, more: usize) -> Result<Bytes, Memory>
+    ensures { IfOk result (λ head. head ≡ join 32 (take (1 + more) (event_words event.now))) }
+{
+    let mut out = LineWriter::new(alloc);
+    out.begin_head(event.verb().name().as_bytes(), more)?;
+    words_of_event(&mut out, event)?;
+    Ok(out.into_text())
 }
 
 /// The lines of members.
 #[tactic(auto, using(depot_base::proofs::Writing::texts))]
-fn member_lines(alloc: Global, out: &mut Bytes, members: &[Member]) -> Result<(), Memory>
-    ensures { OnOk result (out.new ≡ out.old ++ flat_map (λ m. text_of_line (member_words m)) members.now) }
+fn member_lines(out: &mut LineWriter, members: &[Member]) -> Result<(), Memory>
+    ensures { OnOk result (out.new.text ≡ out.old.text ++ flat_map (λ m. text_of_line (member_words m)) members.now) }
 {
     for member in members {
-        member_line(alloc, out, member)?;
+        member_line(out, member)?;
     }
     Ok(())
 }
 
 /// The lines of events.
 #[tactic(auto, using(depot_base::proofs::Writing::texts))]
-fn event_lines(alloc: Global, out: &mut Bytes, events: &[Event]) -> Result<(), Memory>
-    ensures { OnOk result (out.new ≡ out.old ++ flat_map (λ e. text_of_line (event_words e)) events.now) }
+fn event_lines(out: &mut LineWriter, events: &[Event]) -> Result<(), Memory>
+    ensures { OnOk result (out.new.text ≡ out.old.text ++ flat_map (λ e. text_of_line (event_words e)) events.now) }
 {
     for event in events {
-        event_line(alloc, out, event)?;
+        event_line(out, event)?;
     }
     Ok(())
 }
@@ -89,10 +106,10 @@ pub fn print_schedule(alloc: Global, schedule: &Schedule) -> Result<Bytes, Memor
     requires { IsSchedule schedule.now }
     ensures { IfOk result (λ text. text ≡ text_of_schedule schedule.now) }
 {
-    let mut out = Bytes::new(alloc);
+    let mut out = LineWriter::new(alloc);
     first_line(&mut out)?;
-    scheme_line(alloc, &mut out, schedule)?;
-    member_lines(alloc, &mut out, schedule.members.as_slice())?;
-    event_lines(alloc, &mut out, schedule.events.as_slice())?;
-    Ok(out)
+    scheme_line(&mut out, schedule)?;
+    member_lines(&mut out, schedule.members.as_slice())?;
+    event_lines(&mut out, schedule.events.as_slice())?;
+    Ok(out.into_text())
 }

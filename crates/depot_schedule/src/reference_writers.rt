@@ -1,26 +1,27 @@
-//! Writes words of references and of histories, each preceded by a space.
+//! Writes words of references and of histories.
 ghost use Rattle.std.specs.Prelude.{◌≡◌, ◌++◌, ◌∷◌, map, OnOk};
 ghost use Rattle.std.specs.List.{flat_map};
 ghost use Rattle.std.specs.Fmt.{decimal};
 ghost use Rattle.depot_lines.specs.Language.{text_or_dash, text_if_any, join};
+ghost use Rattle.depot_lines.specs.LineReading.{with_word};
 ghost use Rattle.depot_schedule.specs.EventWords.{text_of_history, text_of_ref};
 
 use crate::event::{HistoryWord, Ref};
 use depot_base::{Bytes, Memory, NodeId};
-use depot_lines::word_writers::{hex, word};
+use depot_lines::LineWriter;
 use std::alloc::Global;
 
 /// `right`, or a digest.
-pub fn history(alloc: Global, out: &mut Bytes, history: &HistoryWord) -> Result<(), Memory>
-    ensures { OnOk result (out.new ≡ out.old ++ (32 ∷ text_of_history history.now)) }
+pub fn history(out: &mut LineWriter, history: &HistoryWord) -> Result<(), Memory>
+    ensures { OnOk result (out.new ≡ with_word out.old (text_of_history history.now)) }
 {
     match history {
-        HistoryWord::Right => word(out, b"right"),
-        HistoryWord::Given(hash) => hex(alloc, out, hash.bytes()),
+        HistoryWord::Right => out.word(b"right"),
+        HistoryWord::Given(hash) => out.hex(hash.bytes()),
     }
 }
 
-/// `NODE.SEQ`, with nothing before it.
+/// `NODE.SEQ`
 #[tactic(auto, using(depot_base::proofs::Writing::texts))]
 fn own_ref(alloc: Global, out: &mut Bytes, node: NodeId, seq: u32) -> Result<(), Memory>
     ensures { OnOk result (out.new ≡ out.old ++ (decimal node ++ (46 ∷ decimal seq))) }
@@ -33,7 +34,7 @@ fn own_ref(alloc: Global, out: &mut Bytes, node: NodeId, seq: u32) -> Result<(),
     out.push_all(seq.as_bytes())
 }
 
-/// A reference, with nothing before it.
+/// The text of a reference.
 fn bare_reference(alloc: Global, out: &mut Bytes, reference: &Ref) -> Result<(), Memory>
     ensures { OnOk result (out.new ≡ out.old ++ text_of_ref reference.now) }
 {
@@ -44,25 +45,25 @@ fn bare_reference(alloc: Global, out: &mut Bytes, reference: &Ref) -> Result<(),
 }
 
 /// A reference.
-#[tactic(auto, using(depot_base::proofs::Writing::texts))]
-pub fn reference(alloc: Global, out: &mut Bytes, reference: &Ref) -> Result<(), Memory>
-    ensures { OnOk result (out.new ≡ out.old ++ (32 ∷ text_of_ref reference.now)) }
+pub fn reference(out: &mut LineWriter, reference: &Ref) -> Result<(), Memory>
+    ensures { OnOk result (out.new ≡ with_word out.old (text_of_ref reference.now)) }
 {
-    out.push_all(&[b' '])?;
-    bare_reference(alloc, out, reference)
+    let mut text = Bytes::new(out.alloc());
+    bare_reference(out.alloc(), &mut text, reference)?;
+    out.word(text.as_slice())
 }
 
 /// A reference, or `-` for none.
-pub fn prev(alloc: Global, out: &mut Bytes, prev: &Option<Ref>) -> Result<(), Memory>
-    ensures { OnOk result (out.new ≡ out.old ++ (32 ∷ text_or_dash text_of_ref prev.now)) }
+pub fn prev(out: &mut LineWriter, prev: &Option<Ref>) -> Result<(), Memory>
+    ensures { OnOk result (out.new ≡ with_word out.old (text_or_dash text_of_ref prev.now)) }
 {
     match prev {
-        None => word(out, b"-"),
-        Some(found) => reference(alloc, out, found),
+        None => out.word(b"-"),
+        Some(found) => reference(out, found),
     }
 }
 
-/// References, each preceded by a comma.
+/// The texts of references, each preceded by a comma.
 #[tactic(auto, using(depot_base::proofs::Writing::texts))]
 fn behind_commas(alloc: Global, out: &mut Bytes, refs: &[Ref]) -> Result<(), Memory>
     ensures { OnOk result (out.new ≡ out.old ++ flat_map (λ r. 44 ∷ text_of_ref r) refs.now) }
@@ -74,26 +75,35 @@ fn behind_commas(alloc: Global, out: &mut Bytes, refs: &[Ref]) -> Result<(), Mem
     Ok(())
 }
 
-/// References with commas between them.
+/// The texts of references with commas between them.
 #[tactic(auto, using(depot_base::proofs::Writing::texts))]
-pub fn references(alloc: Global, out: &mut Bytes, refs: &[Ref]) -> Result<(), Memory>
-    ensures { OnOk result (out.new ≡ out.old ++ (32 ∷ join 44 (map text_of_ref refs.now))) }
+fn bare_references(alloc: Global, out: &mut Bytes, refs: &[Ref]) -> Result<(), Memory>
+    ensures { OnOk result (out.new ≡ out.old ++ join 44 (map text_of_ref refs.now)) }
 {
     match refs {
-        [] => out.push_all(&[b' ']),
+        [] => Ok(()),
         [first, rest @ ..] => {
-            reference(alloc, out, first)?;
+            bare_reference(alloc, out, first)?;
             behind_commas(alloc, out, rest)
         }
     }
 }
 
+/// References with commas between them.
+pub fn references(out: &mut LineWriter, refs: &[Ref]) -> Result<(), Memory>
+    ensures { OnOk result (out.new ≡ with_word out.old (join 44 (map text_of_ref refs.now))) }
+{
+    let mut text = Bytes::new(out.alloc());
+    bare_references(out.alloc(), &mut text, refs)?;
+    out.word(text.as_slice())
+}
+
 /// References with commas between them, or `-` where there are none.
-pub fn deps(alloc: Global, out: &mut Bytes, refs: &[Ref]) -> Result<(), Memory>
-    ensures { OnOk result (out.new ≡ out.old ++ (32 ∷ text_if_any (λ list. join 44 (map text_of_ref list)) refs.now)) }
+pub fn deps(out: &mut LineWriter, refs: &[Ref]) -> Result<(), Memory>
+    ensures { OnOk result (out.new ≡ with_word out.old (text_if_any (λ list. join 44 (map text_of_ref list)) refs.now)) }
 {
     match refs {
-        [] => word(out, b"-"),
-        [_, ..] => references(alloc, out, refs),
+        [] => out.word(b"-"),
+        [_, ..] => references(out, refs),
     }
 }

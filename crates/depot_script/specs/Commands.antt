@@ -171,6 +171,10 @@ command_form verb.Trim = trim_form
 command_form verb.Tgive = tgive_form
 command_form verb.Tget = tget_form
 
+-- the words after the name of a command
+abbrev pub behind_command_name : Command → List (List ℕ)
+behind_command_name c = (command_form (verb_of_command c)).text c
+
 -- the kind of command of this name
 unfoldable pub command_named : List ℕ → Option CommandVerb
 command_named word = find (λ v. bytes_eq word (command_name v)) COMMAND_VERBS

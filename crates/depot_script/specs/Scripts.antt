@@ -9,12 +9,12 @@ use Rattle.depot_base.specs.Format.{◌>>=◌}
 use Rattle.depot_lines.specs.Language.{or_fault, FitAll, nothing}
 use Rattle.depot_lines.specs.LineTexts.{text_of_line, Line, lines_of_text, are_words, checked}
 use Rattle.depot_script.specs.declared.command.Command.{Command}
-use Rattle.depot_script.specs.Commands.{verb_of_command, command_name, command_form, command_named}
+use Rattle.depot_script.specs.Commands.{verb_of_command, command_name, command_form, command_named, behind_command_name}
 
 -- ---- texts
 
 abbrev pub command_words : Command → List (List ℕ)
-command_words c = command_name (verb_of_command c) ∷ (command_form (verb_of_command c)).text c
+command_words c = command_name (verb_of_command c) ∷ behind_command_name c
 
 -- the text of a script: a line a command
 unfoldable pub text_of_script : List Command → List ℕ

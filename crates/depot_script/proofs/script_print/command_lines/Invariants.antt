@@ -5,4 +5,4 @@ use Rattle.depot_script.specs.Scripts.{command_words}
 use Rattle.depot_script.proofs.script_print.command_lines.Given as goal
 
 abbrev pub invariant-loop-command : goal.invariant-loop-command
-invariant-loop-command l = l.out ≡ l.initial.out ++ flat_map (λ c. text_of_line (command_words c)) (take l.command-index l.commands)
+invariant-loop-command l = l.out.text ≡ l.initial.out.text ++ flat_map (λ c. text_of_line (command_words c)) (take l.command-index l.commands)

@@ -1,8 +1,0 @@
-use Rattle.std.proofs.lemmas.Result.{on_ok_weaker}
-use Rattle.depot_schedule.specs.EventWords.{text_of_ref}
-use Rattle.depot_lines.proofs.WrittenSteps.{join-written}
-use Rattle.depot_schedule.proofs.reference_writers.references.Goals as goal
-
-pub returns-in_ok-reference-in-len1-up : goal.returns-in_ok-reference-in-len1-up
-returns-in_ok-reference-in-len1-up c =
-    on_ok_weaker c.behind_commas.result (λ written. join-written 44 text_of_ref 32 c.args.refs.now c.first-item.result c.args.out.now c.reference.new.out c.behind_commas.new.out c.in-len1-up.len_at_least c.first-item.is c.in_ok-reference-in-len1-up.ensures written) c.behind_commas.ensures
