@@ -51,7 +51,7 @@ fn read_exactly<I: Source>(alloc: Global, input: &mut I, count: usize) -> Result
 }
 
 /// The number that four bytes encode.
-fn said(head: &[u8]) -> u32
+pub fn said(head: &[u8]) -> u32
     requires { length head.now ≡ 4 }
     ensures { result ≡ from_be_bytes w32 head.now }
 {
