@@ -1,12 +1,13 @@
 -- Small journals, computed: what an append writes, what its images hold, what is damaged, and what is none of these.
 use Rattle.std.proofs.Common.{◌≡◌, ◌≤◌, ◌++◌, ◌∷◌, [], List, ℕ, length, length-append, refl, ap, inl, inr, arith}
-use Rattle.depot_base.specs.Calls.{asks_length, reads_at, syncs, writes_at, calls_to_append_all, calls_to_start}
+use Rattle.depot_base.specs.Calls.{asks_length, reads_at, syncs, writes_at, calls_to_append, calls_to_append_all, calls_to_start}
 use Rattle.depot_base.specs.Cursor.{numeral}
 use Rattle.depot_base.specs.Disk.{IsWritten, IsTorn}
 use Rattle.depot_base.proofs.CallLaws.{framed_long}
 use Rattle.depot_base.specs.declared.check.FullOf.TheVariants as full_of
 use Rattle.depot_journal.proofs.OneList.{not_damaged, one_list, one_place}
 use Rattle.depot_base.specs.File.{blocks, framed, closed_block, FitsFile, PassesLimit, StandsFor, IsFileOf, IsDamagedAt}
+use Rattle.depot_journal.specs.Groups.{calls_to_open, group_block}
 use Rattle.depot_journal.specs.Mirrored.{IsMirror}
 
 -- a record of the byte 7: an open gate, its length as four bytes, its body
@@ -34,6 +35,15 @@ calls_of_two : calls_to_append_all 0 ((7 ∷ []) ∷ [] ∷ [])
 unfolding framed numeral
 calls_of_two = refl
 
+-- the calls that append both as one group: the inner gate is written open
+calls_of_a_group : calls_to_open 0 (group_block ((7 ∷ []) ∷ [] ∷ [])) ≡ writes_at 1 (0 ∷ 0 ∷ 0 ∷ 1 ∷ 7 ∷ 1 ∷ 0 ∷ 0 ∷ 0 ∷ 0 ∷ 0 ∷ []) ∷ syncs ∷ writes_at 0 (1 ∷ []) ∷ syncs ∷ []
+unfolding framed numeral
+calls_of_a_group = refl
+
+-- a group of one record makes the calls of its append
+calls_of_a_group_of_one : (gate : ℕ) (body : List ℕ) → calls_to_open gate (group_block (body ∷ [])) ≡ calls_to_append gate body
+calls_of_a_group_of_one gate body = refl
+
 -- a start of an empty file writes a closed gate, and one of a file with a record reads it
 start_of_none : calls_to_start [] ≡ syncs ∷ asks_length ∷ writes_at 0 (0 ∷ []) ∷ syncs ∷ []
 start_of_none = refl
@@ -54,6 +64,15 @@ torn_body_holds_none = (0, 255 ∷ 255 ∷ [], omega arith, refl)
 -- An image of the second write in which the gate holds another byte: no record.
 torn_gate_holds_none : StandsFor (9 ∷ 0 ∷ 0 ∷ 0 ∷ 1 ∷ 7 ∷ 0 ∷ []) []
 torn_gate_holds_none = (9, 0 ∷ 0 ∷ 0 ∷ 1 ∷ 7 ∷ 0 ∷ [], omega arith, refl)
+
+-- A group that stands whole behind its closed gate: no record, though an inner gate is open.
+closed_group_holds_none : StandsFor (0 ∷ 0 ∷ 0 ∷ 0 ∷ 1 ∷ 7 ∷ 1 ∷ 0 ∷ 0 ∷ 0 ∷ 0 ∷ 0 ∷ []) []
+closed_group_holds_none = (0, 0 ∷ 0 ∷ 0 ∷ 1 ∷ 7 ∷ 1 ∷ 0 ∷ 0 ∷ 0 ∷ 0 ∷ 0 ∷ [], omega arith, refl)
+
+-- With the gate opened: both of its records.
+opened_group_holds_both : StandsFor (1 ∷ 0 ∷ 0 ∷ 0 ∷ 1 ∷ 7 ∷ 1 ∷ 0 ∷ 0 ∷ 0 ∷ 0 ∷ 0 ∷ []) ((7 ∷ []) ∷ [] ∷ [])
+unfolding framed numeral
+opened_group_holds_both = (0, [], omega arith, refl)
 
 -- The image after it, and after the last sync the only one: the record.
 opened_gate_holds_it : StandsFor (1 ∷ 0 ∷ 0 ∷ 0 ∷ 1 ∷ 7 ∷ 0 ∷ []) ((7 ∷ []) ∷ [])

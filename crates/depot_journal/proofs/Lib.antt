@@ -2,6 +2,7 @@ pub mod Appends
 pub mod AtRest
 pub mod RecordBlocks
 pub mod Crash
+pub mod DiskCalls
 pub mod FileExamples
 pub mod Mirrors
 pub mod Moments

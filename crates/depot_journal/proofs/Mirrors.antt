@@ -1,5 +1,5 @@
 -- A record more in a mirror.
-use Rattle.std.proofs.Common.{◌≡◌, ◌≤◌, ℕ, ◌+◌, ◌-◌, List, [], ◌∷◌, ◌++◌, length, length-append, take, drop, slice_get, Some, zero, suc, refl, ap, ◌∙◌, sym, subst, arith, append_assoc}
+use Rattle.std.proofs.Common.{◌≡◌, ◌≤◌, ℕ, ◌+◌, ◌-◌, List, [], ◌∷◌, ◌++◌, length, length-append, take, drop, slice_get, Some, zero, suc, refl, ap, ◌∙◌, sym, subst, arith, append_assoc, append-nil}
 use Rattle.std.proofs.lemmas.List.{take_at, drop_at, take_all, map-append, length-drop, length-map}
 use Rattle.std.proofs.lemmas.Grind.{common_steps}
 use Rattle.std.proofs.lemmas.Option.{slice_get-map}
@@ -8,9 +8,10 @@ use Rattle.depot_base.specs.Cursor.{numeral}
 use Rattle.std.specs.Int.{w32}
 use Rattle.depot_journal.specs.declared.span.Span.{Span}
 use Rattle.depot_base.specs.File.{blocks, closed_block, framed}
+use Rattle.depot_journal.specs.Groups.{group_block}
 use Rattle.depot_journal.specs.Mirrored.{EndWithin, IsMirror, bodies_at, cut}
 use Rattle.depot_base.proofs.CallLaws.{framed_long, numeral_long}
-use Rattle.depot_journal.proofs.RecordBlocks.{blocks_push}
+use Rattle.depot_journal.proofs.RecordBlocks.{blocks_push, group_opened}
 
 -- bytes that are added after change no span before
 pub cut_grown : (bytes more : List ℕ) (s : Span) → s.start ≤ s.end → s.end ≤ length bytes → cut (bytes ++ more) s ≡ cut bytes s
@@ -62,6 +63,20 @@ pub behind_gate : (old new whole text : List ℕ) (gate : ℕ) → whole ≡ new
 behind_gate old new whole text gate is put at =
     let rest : drop (gate + 1) whole ≡ closed_block text = ap (drop (gate + 1)) (is ∙ put ∙ sym (append_assoc old (1 ∷ []) (closed_block text))) ∙ drop_at (old ++ 1 ∷ []) (closed_block text) (gate + 1) (omega (arith, at, length-append old (1 ∷ []))) in
     take_all (length whole - (gate + 1)) (drop (gate + 1) whole) (omega (arith, length-drop (gate + 1) whole)) ∙ rest
+
+-- what is written after the gate of a group
+pub behind_group : (old whole : List ℕ) (group : List (List ℕ)) (gate : ℕ) → whole ≡ old ++ (blocks group ++ 0 ∷ []) → gate ≡ length old → 1 ≤ length group → take (length whole - (gate + 1)) (drop (gate + 1) whole) ≡ group_block group
+behind_group old whole group gate is at some =
+    let opened : blocks group ++ 0 ∷ [] ≡ 1 ∷ group_block group = sym (group_opened group [] some) ∙ ap (λ (l : List ℕ). 1 ∷ l) (append-nil (group_block group)) in
+    let rest : drop (gate + 1) whole ≡ group_block group =
+    ap (drop (gate + 1)) (is ∙ ap (λ (l : List ℕ). old ++ l) opened ∙ sym (append_assoc old (1 ∷ []) (group_block group))) ∙ drop_at (old ++ 1 ∷ []) (group_block group) (gate + 1) (omega (arith, at, length-append old (1 ∷ []))) in
+    take_all (length whole - (gate + 1)) (drop (gate + 1) whole) (omega (arith, length-drop (gate + 1) whole)) ∙ rest
+
+-- the bytes of a group without their first one, and a byte behind them
+pub behind_first : (whole bytes : List ℕ) → whole ≡ bytes ++ 0 ∷ [] → 1 ≤ length bytes → take (length whole - 1) (drop 1 whole) ≡ drop 1 bytes ++ 0 ∷ []
+behind_first whole [] is some = absurd (omega (arith, some))
+behind_first whole (b ∷ bytes) is some =
+    take_all (length whole - 1) (drop 1 whole) (omega (arith, length-drop 1 whole)) ∙ ap (drop 1) is
 
 -- without the closed gate after it
 pub open_block : (old new text : List ℕ) (end : ℕ) → new ≡ old ++ (1 ∷ closed_block text) → end + 1 ≡ length new → take end new ≡ old ++ (1 ∷ framed text)

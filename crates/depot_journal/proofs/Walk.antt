@@ -37,13 +37,13 @@ between_first file image old new end stands e = record {
 }
 
 -- with the next of them, or without it
-pub next_stands : (image : List ℕ) (old new texts : List (List ℕ)) (text : List ℕ) (i : ℕ) → texts ≡ old ++ take i new → take (i + 1) new ≡ take i new ++ text ∷ [] → IsBeforeOrAfter texts text image → StandsFor image texts ⊎ StandsFor image (old ++ take (i + 1) new)
+pub next_stands : (image : List ℕ) (old new texts : List (List ℕ)) (text : List ℕ) (i : ℕ) → texts ≡ old ++ take i new → take (i + 1) new ≡ take i new ++ text ∷ [] → IsBeforeOrAfter texts (text ∷ []) image → StandsFor image texts ⊎ StandsFor image (old ++ take (i + 1) new)
 next_stands image old new texts text i was next (inl s) = inl s
 next_stands image old new texts text i was next (inr s) =
     inr (subst (λ (l : List (List ℕ)). StandsFor image l) (ap (λ (l : List (List ℕ)). l ++ text ∷ []) was ∙ append_assoc old (take i new) (text ∷ []) ∙ ap (λ (l : List (List ℕ)). old ++ l) (sym next)) s)
 
 -- at the next of them
-pub between : (image : List ℕ) (old new texts : List (List ℕ)) (text : List ℕ) (i : ℕ) → texts ≡ old ++ take i new → take (i + 1) new ≡ take i new ++ text ∷ [] → IsBeforeOrAfter texts text image → StandsBetween old new image
+pub between : (image : List ℕ) (old new texts : List (List ℕ)) (text : List ℕ) (i : ℕ) → texts ≡ old ++ take i new → take (i + 1) new ≡ take i new ++ text ∷ [] → IsBeforeOrAfter texts (text ∷ []) image → StandsBetween old new image
 between image old new texts text i was next s = elim (next_stands image old new texts text i was next s) [
   | inl p ↦ record { count = i; stands = subst (λ (l : List (List ℕ)). StandsFor image l) was p }
   | inr p ↦ record { count = i + 1; stands = p }

@@ -1,15 +1,16 @@
 -- What a journal answers.
-use Rattle.std.specs.Prelude.{◌≡◌, ◌≤◌, ◌+◌, ◌*◌, ℕ, List, [], Bool, false, IsTrue, Result, Ok, Err, OnOk, IsErrOf, length}
-use Rattle.depot_base.specs.Calls.{FailsAmong, Made, calls_to_append_all, made}
+use Rattle.std.specs.Prelude.{◌≡◌, ◌↔◌, ◌≤◌, ◌+◌, ◌*◌, ℕ, List, [], Bool, true, false, IsTrue, Result, Ok, Err, OnOk, IsErrOf, length}
+use Rattle.depot_base.specs.Calls.{FailsAmong, calls_to_append_all, made}
 use Rattle.depot_base.specs.Disk.{LeavesOnly, Within}
-use Rattle.depot_base.specs.Faults.{HasCause}
 use Rattle.depot_journal.specs.declared.journal_error.JournalError.{JournalError}
 use Rattle.depot_journal.specs.declared.journal_error.JournalError.TheVariants as journal_error
 use Rattle.depot_journal.specs.declared.journal_error.AppendError.{AppendError}
 use Rattle.depot_journal.specs.declared.journal_error.AppendError.TheVariants as refused
 use Rattle.depot_base.specs.File.{FitsFile, IsDamagedAt, IsFileOf, PassesLimit, blocks}
 use Rattle.depot_journal.specs.JournalView.{JournalContents}
+use Rattle.depot_journal.specs.DiskCalls.{IsDiskCall}
 use Rattle.depot_outside.specs.declared.disk.Back.{Back}
+use Rattle.depot_outside.specs.declared.disk.Disk as outside_disk
 
 -- Full comes exactly where these records, of this many bytes with their gates and lengths, would pass a limit, and
 -- names the first such limit. A stopped journal doesn't check.
@@ -44,17 +45,21 @@ pub record IsJournalUnchanged {D : Type 0} (tells : D → Bool) (seen : D → Li
   -- every crash image of the call has the records
   pub idle : LeavesRunning tells moment left_since old new (λ file. IsFileOf file old.records)
 
--- The disk is the same one, and the journal made these calls on it: those that append these texts, up to the one that fails, or none. It failed
--- exactly where its count says so.
-pub record MakesCalls {D : Type 0} (handle : D → ℕ) (tells : D → Bool) (faults : D → ℕ) (is_faultless : D → Type 0) (after : D → List Made → D → Type 0)
-    (old new : JournalContents D) (texts : List (List ℕ)) (result : Result (Unit {0}) AppendError) : Type 0 where
-  pub same : handle new.disk ≡ handle old.disk
-  pub told : tells new.disk ≡ tells old.disk
-  pub all : OnOk result (after old.disk (made (calls_to_append_all (length (blocks old.records)) texts)) new.disk)
-  pub failing : IsErrOf result refused.Disk → FailsAmong after old.disk new.disk (calls_to_append_all (length (blocks old.records)) texts)
-  pub none : UnlessDisk result (after old.disk [] new.disk)
-  pub cause : HasCause (faults old.disk) (faults new.disk) (IsErrOf result refused.Disk)
-  pub faultless : is_faultless old.disk → is_faultless new.disk × (faults new.disk ≡ faults old.disk)
+-- The call of the disk, and which calls the journal made on it: those that append these texts, up to the one that
+-- fails, or none.
+pub record MakesCalls {D : Type 0} (g : outside_disk.Ghosts D) (old new : JournalContents D) (texts : List (List ℕ)) (result : Result (Unit {0}) AppendError) : Type 0 where
+  pub disk : IsDiskCall g old.disk new.disk (IsErrOf result refused.Disk)
+  pub all : OnOk result (g.after old.disk (made (calls_to_append_all (length (blocks old.records)) texts)) new.disk)
+  pub failing : IsErrOf result refused.Disk → FailsAmong g.after old.disk new.disk (calls_to_append_all (length (blocks old.records)) texts)
+  pub none : UnlessDisk result (g.after old.disk [] new.disk)
+
+-- What an append makes of a journal that is stopped, or isn't: it answers `Stopped` exactly where that is, and leaves
+-- the disk alone; afterwards it is stopped if the disk failed, and runs if all was appended.
+pub record StopsByAnswer {D : Type 0} (old new : JournalContents D) (result : Result (Unit {0}) AppendError) : Type 0 where
+  pub answered : IsErrOf result refused.Stopped ↔ (old.is_stopped ≡ true)
+  pub untouched : old.is_stopped ≡ true → new.disk ≡ old.disk
+  pub failed : IsErrOf result refused.Disk → new.is_stopped ≡ true
+  pub runs : OnOk result (new.is_stopped ≡ false)
 
 -- Of the reserved memory no more was taken than for these texts.
 pub record HasRoomLeft {D : Type 0} (old new : JournalContents D) (texts : List (List ℕ)) : Type 0 where
@@ -65,6 +70,11 @@ pub record HasRoomLeft {D : Type 0} (old new : JournalContents D) (texts : List 
 abbrev pub disk_of : {D : Type 0} → Result (JournalContents D) (Back JournalError D) → D
 disk_of (Ok journal) = journal.disk
 disk_of (Err back) = back.disk
+
+-- the disk failed in the start
+abbrev pub IsDiskFailure : {D : Type 0} → Result (JournalContents D) (Back JournalError D) → Type 0
+IsDiskFailure (Ok journal) = ⊥
+IsDiskFailure (Err back) = back.error ≡ journal_error.Disk
 
 -- Where the answer is Damaged, the file is, at the offset that it carries.
 abbrev pub IsDamage : List ℕ → JournalError → Type 0

@@ -1,3 +1,5 @@
+pub mod DiskCalls
+pub mod Groups
 pub mod JournalAnswers
 pub mod Mirrored
 pub mod Stable

@@ -1,19 +1,20 @@
 //! The calls of a journal.
-ghost use Rattle.std.specs.Prelude.{◌≡◌, ◌≢◌, ◌↔◌, ◌++◌, ◌<◌, ◌≤◌, [], true, false, IsTrue, IsOk, OnOk, IfOk, IfErr, IsErrOf, Some, length, slice_get};
-ghost use Rattle.depot_base.specs.Calls.{FailsAmong, calls_to_start, made};
-ghost use Rattle.depot_base.specs.Faults.{HasCause};
-ghost use Rattle.depot_base.specs.Disk.{LeavesOnly, Only, Within};
+ghost use Rattle.std.specs.Prelude.{◌≡◌, ◌≢◌, ◌++◌, ◌<◌, ◌≤◌, [], false, IsTrue, IsOk, OnOk, IfOk, IfErr, IsErrOf, Some, length, slice_get};
+ghost use Rattle.depot_base.specs.Calls.{calls_to_start};
+ghost use Rattle.depot_base.specs.Disk.{LeavesOnly, Only};
 ghost use Rattle.depot_base.specs.File.{AreWithinLimits, HasBodyFront, AreBodiesCutShort, FitsFile, IsFileOf, PassesLimit, StartLeavesFile, blocks};
 ghost use Rattle.depot_journal.specs.JournalView.{HasMemoryFor};
-ghost use Rattle.depot_journal.specs.JournalAnswers.{HasRoomLeft, IsDamage, IsJournalUnchanged, KeepsLimits, LeavesRunning, MakesCalls, SaysDamaged, UnlessDisk, disk_of};
+ghost use Rattle.depot_journal.specs.JournalAnswers.{HasRoomLeft, IsDamage, IsDiskFailure, IsJournalUnchanged, KeepsLimits, LeavesRunning, MakesCalls, StopsByAnswer, UnlessDisk, disk_of};
 ghost use Rattle.depot_journal.specs.Stable.{IsStarted, LeavesAllBodies};
+ghost use Rattle.depot_journal.specs.WriteSteps.{StandsTo};
 ghost use Rattle.depot_base.specs.WithRest.{with_rest};
-ghost use Rattle.depot_outside.specs.Told.{TimePasses};
+ghost use Rattle.depot_journal.specs.DiskCalls.{IsDiskCall, MakesOnDisk, OnlyReserves};
 
 use crate::journal_error::{AppendError, JournalError};
 use crate::journal_room::{Room, bytes_of, find_room, room_for};
 use crate::journal_start::{FoundFile, start_on};
 use crate::mirror::{Mirror, append_each};
+use crate::null_disk::NullDisk;
 use depot_base::{Bytes, Full, Memory};
 use depot_outside::{Back, Disk};
 use std::alloc::Global;
@@ -29,6 +30,17 @@ pub struct Journal<D: Disk> {
     mirror: Mirror<D>,
     room: Room,
     stopped: bool,
+}
+
+/// A journal in memory, the disk from which it was detached, and the offset of the closed gate in the disk's file.
+#[derive(Drop)]
+pub struct Detached<D: Disk> {
+    /// The records: what is appended to them reaches no disk.
+    pub journal: Journal<NullDisk>,
+    /// The disk, as the journal left it.
+    pub disk: D,
+    /// The offset of the closed gate, at which a group is appended.
+    pub gate: u64,
 }
 
 impl<D: Disk> Model for Journal<D> {
@@ -86,6 +98,34 @@ impl<D: Disk> Journal<D> {
         self.mirror.disk
     }
 
+    /// Detaches the journal from its disk: it goes on in memory. What is appended to it is to be appended to the
+    /// disk's file, too, by [`append_group`](crate::append_group). It takes no memory.
+    pub fn detach(self) -> Detached<D>
+        ensures records { result.journal.records ≡ self.records }
+        ensures stopped { result.journal.is_stopped ≡ self.is_stopped }
+        ensures disk { result.disk ≡ self.disk }
+        ensures gate { result.gate ≡ length (blocks self.records) }
+        ensures stands { self.is_stopped ≡ false → IsTrue (D.tells self.disk) → StandsTo (D.seen self.disk) self.records result.gate }
+        ensures stable { self.is_stopped ≡ false → IsTrue (D.tells self.disk) → Only (D.seen self.disk) (D.may_leave self.disk) }
+    {
+        let Mirror { disk, bytes, spans } = self.mirror;
+        let gate = bytes.len() as u64;
+        let journal = Journal {
+            mirror: Mirror {
+                disk: NullDisk,
+                bytes,
+                spans,
+            },
+            room: self.room,
+            stopped: self.stopped,
+        };
+        Detached {
+            journal,
+            disk,
+            gate,
+        }
+    }
+
     /// Reserves memory for `records` more records, with `bytes` bytes of bodies in all: appending them then never
     /// returns Memory. No record and no byte of the file changes, whatever is answered.
     pub fn reserve(&mut self, records: u32, bytes: u32) -> Result<(), Memory>
@@ -96,14 +136,7 @@ impl<D: Disk> Journal<D> {
         ensures found { records ≤ self.old.room_records → bytes ≤ self.old.room_bytes → IsOk result }
         ensures same { self.new.records ≡ self.old.records }
         ensures running { self.new.is_stopped ≡ self.old.is_stopped }
-        ensures seen { D.seen self.new.disk ≡ D.seen self.old.disk }
-        ensures images { Within (D.may_leave self.old.disk) (D.may_leave self.new.disk) }
-        ensures time { TimePasses D.Disk self.old.disk self.new.disk }
-        ensures handle { D.handle self.new.disk ≡ D.handle self.old.disk }
-        ensures tells { D.tells self.new.disk ≡ D.tells self.old.disk }
-        ensures made { D.after self.old.disk [] self.new.disk }
-        ensures faults { D.faults self.new.disk ≡ D.faults self.old.disk }
-        ensures faultless { D.is_faultless self.old.disk → D.is_faultless self.new.disk }
+        ensures disk { OnlyReserves D.Disk self.old.disk self.new.disk }
     {
         find_room(&mut self.mirror, &mut self.room, records, bytes)
     }
@@ -137,14 +170,11 @@ impl<D: Disk> Journal<D> {
         ensures ok { OnOk result (self.new.records ≡ self.old.records ++ with_rest texts.now rest.now) }
         ensures unchanged { UnlessDisk result (IsJournalUnchanged D.tells D.seen D.may_leave D.moment D.left_since self.old self.new) }
         ensures disk { IsErrOf result AppendError.Disk → AreBodiesCutShort self.old.records (with_rest texts.now rest.now) self.new.records (IsTrue (D.tells self.old.disk)) (D.may_leave self.new.disk) }
-        ensures running { OnOk result (self.new.is_stopped ≡ false) }
-        ensures stops { IsErrOf result AppendError.Disk → self.new.is_stopped ≡ true }
-        ensures stopped { IsErrOf result AppendError.Stopped ↔ (self.old.is_stopped ≡ true) }
-        ensures untouched { self.old.is_stopped ≡ true → self.new.disk ≡ self.old.disk }
+        ensures stops { StopsByAnswer self.old self.new result }
         ensures limits { KeepsLimits self.old.records (length (with_rest texts.now rest.now)) (length (blocks (with_rest texts.now rest.now))) result }
         ensures memory { HasMemoryFor self.old (with_rest texts.now rest.now) → IsErrOf result AppendError.Memory → ⊥ }
         ensures room { OnOk result (HasRoomLeft self.old self.new (with_rest texts.now rest.now)) }
-        ensures calls { MakesCalls D.handle D.tells D.faults D.is_faultless D.after self.old self.new (with_rest texts.now rest.now) result }
+        ensures calls { MakesCalls D.Disk self.old self.new (with_rest texts.now rest.now) result }
         ensures file { IsTrue (D.tells self.old.disk) → self.new.is_stopped ≡ false → IsFileOf (D.seen self.new.disk) self.new.records }
         ensures stable { IsTrue (D.tells self.old.disk) → self.new.is_stopped ≡ false → Only (D.seen self.new.disk) (D.may_leave self.new.disk) }
         // Whatever was answered, every crash image has all records of the journal.
@@ -201,21 +231,13 @@ impl<D: Disk> Journal<D> {
         ensures same { IfOk result (λ j. j.records ≢ [] → D.seen j.disk ≡ D.seen disk) }
 
         ensures damaged { IfErr result (λ b. IsTrue (D.tells disk) → IsDamage (D.seen disk) b.error) }
-        ensures unchanged { IfErr result (λ b. SaysDamaged b.error → D.seen b.disk ≡ D.seen disk) }
         ensures kept { IfErr result (λ b. b.error ≢ JournalError.Disk → D.seen b.disk ≡ D.seen disk) }
-        ensures cause { IfErr result (λ b. HasCause (D.faults disk) (D.faults b.disk) (b.error ≡ JournalError.Disk)) }
-        ensures calm { IfOk result (λ j. D.faults j.disk ≡ D.faults disk) }
 
         // The crash images of the call.
         ensures any_moment { IsTrue (D.tells disk) → LeavesOnly D.moment D.left_since disk (disk_of result) (StartLeavesFile (D.may_leave disk) (D.seen disk)) }
 
-        // The calls on the disk, and where one of them failed, those up to it.
-        ensures made { IfOk result (λ j. IsTrue (D.tells disk) → D.after disk (made (calls_to_start (D.seen disk))) j.disk) }
-        ensures failing { IfErr result (λ b. b.error ≡ JournalError.Disk → IsTrue (D.tells disk) → FailsAmong D.after disk b.disk (calls_to_start (D.seen disk))) }
-
-        ensures handle { D.handle (disk_of result) ≡ D.handle disk }
-        ensures tells { D.tells (disk_of result) ≡ D.tells disk }
-        ensures faultless { D.is_faultless disk → D.is_faultless (disk_of result) × (D.faults (disk_of result) ≡ D.faults disk) }
+        ensures disk { IsDiskCall D.Disk disk (disk_of result) (IsDiskFailure result) }
+        ensures made { IsTrue (D.tells disk) → MakesOnDisk D.Disk disk (disk_of result) (calls_to_start (D.seen disk)) (IsOk result) (IsDiskFailure result) }
     {
         let mut disk = disk;
         match start_on(alloc, &mut disk) {

@@ -1,10 +1,9 @@
 //! The limits of a journal, and the memory that is reserved before an append.
-ghost use Rattle.std.specs.Prelude.{◌≡◌, ◌+◌, ◌-◌, ◌*◌, ◌^◌, ◌≤◌, List, [], ℕ, OnOk, IfErr, IsOk, length, min, vec_len};
-ghost use Rattle.depot_base.specs.Disk.{Within};
+ghost use Rattle.std.specs.Prelude.{◌≡◌, ◌+◌, ◌-◌, ◌*◌, ◌^◌, ◌≤◌, List, ℕ, OnOk, IfErr, IsOk, length, min, vec_len};
 ghost use Rattle.depot_base.specs.File.{FitsFile, PassesLimit, blocks};
 ghost use Rattle.depot_journal.specs.JournalView.{IsReservedIn};
 ghost use Rattle.depot_base.specs.WithRest.{with_rest};
-ghost use Rattle.depot_outside.specs.Told.{TimePasses};
+ghost use Rattle.depot_journal.specs.DiskCalls.{OnlyReserves};
 
 use crate::mirror::Mirror;
 use depot_base::limits::{MOST_JOURNAL, MOST_RECORDS};
@@ -75,14 +74,7 @@ pub fn find_room<D: Disk>(
     ensures found { records ≤ room.old.records → bytes ≤ room.old.bytes → IsOk result }
     ensures spans_same { mirror.new.spans.items ≡ mirror.old.spans.items }
     ensures bytes_same { mirror.new.bytes.items ≡ mirror.old.bytes.items }
-    ensures seen { D.seen mirror.new.disk ≡ D.seen mirror.old.disk }
-    ensures images { Within (D.may_leave mirror.old.disk) (D.may_leave mirror.new.disk) }
-    ensures time { TimePasses D.Disk mirror.old.disk mirror.new.disk }
-    ensures handle { D.handle mirror.new.disk ≡ D.handle mirror.old.disk }
-    ensures tells { D.tells mirror.new.disk ≡ D.tells mirror.old.disk }
-    ensures made { D.after mirror.old.disk [] mirror.new.disk }
-    ensures faults { D.faults mirror.new.disk ≡ D.faults mirror.old.disk }
-    ensures faultless { D.is_faultless mirror.old.disk → D.is_faultless mirror.new.disk }
+    ensures disk { OnlyReserves D.Disk mirror.old.disk mirror.new.disk }
 {
     if records <= room.records && bytes <= room.bytes {
         return Ok(());

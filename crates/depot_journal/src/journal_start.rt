@@ -1,8 +1,8 @@
 //! A journal that is read from its disk.
-ghost use Rattle.std.specs.Prelude.{◌≡◌, ◌≢◌, ◌≤◌, ◌<◌, ◌∷◌, [], List, ℕ, min, IsTrue, IsErr, is_err, IfErr, IfOk, IsErrOf, OnOk, length, slice_range, vec_len};
-ghost use Rattle.depot_base.specs.Calls.{FailsAmong, asks_length, calls_to_start, made, reads_at, syncs};
-ghost use Rattle.depot_base.specs.Faults.{HasCause};
+ghost use Rattle.std.specs.Prelude.{◌≡◌, ◌≢◌, ◌≤◌, ◌<◌, ◌∷◌, [], List, ℕ, min, IsTrue, IsErr, IsOk, is_err, IfErr, IfOk, IsErrOf, OnOk, length, slice_range, vec_len};
+ghost use Rattle.depot_base.specs.Calls.{asks_length, calls_to_start, reads_at, syncs};
 ghost use Rattle.depot_base.specs.Disk.{LeavesOnly, Only};
+ghost use Rattle.depot_journal.specs.DiskCalls.{IsDiskCall, MakesOnDisk};
 ghost use Rattle.depot_journal.specs.JournalAnswers.{IsDamage, SaysDamaged};
 ghost use Rattle.depot_base.specs.File.{AreWithinLimits, IsFileOf, StartLeavesFile};
 ghost use Rattle.depot_journal.specs.Mirrored.{IsMirror, bodies_at};
@@ -41,16 +41,12 @@ fn settle<D: Disk>(disk: &mut D) -> Result<u64, JournalError>
     ensures stable { OnOk result (IsTrue (D.tells disk.old) → Only (D.seen disk.old) (D.may_leave disk.new)) }
     ensures seen { OnOk result (D.seen disk.new ≡ D.seen disk.old) }
     ensures any_moment { LeavesOnly D.moment D.left_since disk.old disk.new (D.may_leave disk.old) }
-    ensures made { OnOk result (D.after disk.old (made (syncs ∷ asks_length ∷ [])) disk.new) }
-    ensures failing { IsErrOf result JournalError.Disk → FailsAmong D.after disk.old disk.new (syncs ∷ asks_length ∷ []) }
+    ensures disk { IsDiskCall D.Disk disk.old disk.new (IsErrOf result JournalError.Disk) }
+    ensures made { MakesOnDisk D.Disk disk.old disk.new (syncs ∷ asks_length ∷ []) (IsOk result) (IsErrOf result JournalError.Disk) }
     ensures room { OnOk result (1 ≤ D.room_bytes disk.new) }
     ensures calls { OnOk result (2 ≤ D.room_calls disk.new) }
-    ensures handle { D.handle disk.new ≡ D.handle disk.old }
-    ensures tells { D.tells disk.new ≡ D.tells disk.old }
     ensures damaged { IfErr result (λ e. SaysDamaged e → ⊥) }
     ensures unchanged { IfErr result (λ e. e ≢ JournalError.Disk → D.seen disk.new ≡ D.seen disk.old) }
-    ensures cause { HasCause (D.faults disk.old) (D.faults disk.new) (IsErrOf result JournalError.Disk) }
-    ensures faultless { D.is_faultless disk.old → D.is_faultless disk.new × (D.faults disk.new ≡ D.faults disk.old) }
 {
     disk.make_room(1, 3)?;
     disk.sync()?;
@@ -66,10 +62,7 @@ fn read_front<D: Disk>(disk: &mut D, bytes: &mut Vec<u8>) -> Result<(), Failed>
     ensures stable { (file : List ℕ) → Only file (D.may_leave disk.old) → Only file (D.may_leave disk.new) }
     ensures any_moment { LeavesOnly D.moment D.left_since disk.old disk.new (D.may_leave disk.old) }
     ensures made { D.after disk.old (record { call = reads_at 0 (vec_len bytes.old); failed = is_err result } ∷ []) disk.new }
-    ensures handle { D.handle disk.new ≡ D.handle disk.old }
-    ensures tells { D.tells disk.new ≡ D.tells disk.old }
-    ensures cause { HasCause (D.faults disk.old) (D.faults disk.new) (IsErr result) }
-    ensures faultless { D.is_faultless disk.old → D.is_faultless disk.new × (D.faults disk.new ≡ D.faults disk.old) }
+    ensures disk { IsDiskCall D.Disk disk.old disk.new (IsErr result) }
 {
     disk.read(0, bytes)
 }
@@ -86,12 +79,8 @@ fn read_records<D: Disk>(alloc: Global, disk: &mut D, size: u64) -> Result<Found
     ensures unchanged { IfErr result (λ e. e ≢ JournalError.Disk → D.seen disk.new ≡ D.seen disk.old) }
     ensures stable { (file : List ℕ) → Only file (D.may_leave disk.old) → Only file (D.may_leave disk.new) }
     ensures any_moment { LeavesOnly D.moment D.left_since disk.old disk.new (D.may_leave disk.old) }
-    ensures made { OnOk result (D.after disk.old (made (reads_at 0 (min size MOST_JOURNAL) ∷ [])) disk.new) }
-    ensures failing { IsErrOf result JournalError.Disk → FailsAmong D.after disk.old disk.new (reads_at 0 (min size MOST_JOURNAL) ∷ []) }
-    ensures handle { D.handle disk.new ≡ D.handle disk.old }
-    ensures tells { D.tells disk.new ≡ D.tells disk.old }
-    ensures cause { HasCause (D.faults disk.old) (D.faults disk.new) (IsErrOf result JournalError.Disk) }
-    ensures faultless { D.is_faultless disk.old → D.is_faultless disk.new × (D.faults disk.new ≡ D.faults disk.old) }
+    ensures disk { IsDiskCall D.Disk disk.old disk.new (IsErrOf result JournalError.Disk) }
+    ensures made { MakesOnDisk D.Disk disk.old disk.new (reads_at 0 (min size MOST_JOURNAL) ∷ []) (IsOk result) (IsErrOf result JournalError.Disk) }
 {
     let mut bytes = zeros(alloc, size.min(MOST_JOURNAL as u64) as usize)?;
     read_front(disk, &mut bytes)?;
@@ -118,12 +107,8 @@ pub fn start_on<D: Disk>(alloc: Global, disk: &mut D) -> Result<FoundFile, Journ
     ensures damaged { IfErr result (λ e. IsTrue (D.tells disk.old) → IsDamage (D.seen disk.old) e) }
     ensures unchanged { IfErr result (λ e. e ≢ JournalError.Disk → D.seen disk.new ≡ D.seen disk.old) }
     ensures any_moment { IsTrue (D.tells disk.old) → LeavesOnly D.moment D.left_since disk.old disk.new (StartLeavesFile (D.may_leave disk.old) (D.seen disk.old)) }
-    ensures made { OnOk result (IsTrue (D.tells disk.old) → D.after disk.old (made (calls_to_start (D.seen disk.old))) disk.new) }
-    ensures failing { IsErrOf result JournalError.Disk → IsTrue (D.tells disk.old) → FailsAmong D.after disk.old disk.new (calls_to_start (D.seen disk.old)) }
-    ensures handle { D.handle disk.new ≡ D.handle disk.old }
-    ensures tells { D.tells disk.new ≡ D.tells disk.old }
-    ensures cause { HasCause (D.faults disk.old) (D.faults disk.new) (IsErrOf result JournalError.Disk) }
-    ensures faultless { D.is_faultless disk.old → D.is_faultless disk.new × (D.faults disk.new ≡ D.faults disk.old) }
+    ensures disk { IsDiskCall D.Disk disk.old disk.new (IsErrOf result JournalError.Disk) }
+    ensures made { IsTrue (D.tells disk.old) → MakesOnDisk D.Disk disk.old disk.new (calls_to_start (D.seen disk.old)) (IsOk result) (IsErrOf result JournalError.Disk) }
 {
     let size = match settle(disk) {
         Ok(size) => size,

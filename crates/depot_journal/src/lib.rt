@@ -11,22 +11,30 @@
 //! - After a fault of the disk it is stopped, and accesses the disk no more. Every crash image then has all its
 //!   records, followed at most by the one on which the disk failed.
 //!
+//! Records that come together can be appended as one group: `append_group` writes them as one block after the closed gate,
+//! syncs, opens the gate, and syncs again. So every crash image of it has all of the group or none of it. A journal whose
+//! records are appended so is detached from its disk (`Journal::detach`), and goes on in memory, over a `NullDisk`.
+//!
 //! What the records mean is no matter here, and no record is ever changed or taken back.
 #![tactic(auto)]
 
 mod file_parse;
+mod group;
 mod journal;
 mod journal_error;
 mod journal_laws;
 mod journal_room;
 mod journal_start;
 mod mirror;
+mod null_disk;
 mod span;
 mod write;
 
-pub use journal::Journal;
+pub use group::{append_group, put_in_group};
+pub use journal::{Detached, Journal};
 pub use journal_error::{AppendError, JournalError};
 pub use journal_laws::{
     damage_has_one_place, files_have_one_list, good_files_are_undamaged, standing_records_are_read,
     what_a_stop_leaves_is_read,
 };
+pub use null_disk::NullDisk;

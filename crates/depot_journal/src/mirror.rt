@@ -1,12 +1,12 @@
 //! A disk, and a mirror of its records in memory.
-ghost use Rattle.std.specs.Prelude.{◌≡◌, ◌++◌, ◌+◌, ◌<◌, ◌≤◌, ◌*◌, ◌^◌, ◌∷◌, [], IsTrue, IsErr, OnOk, OnErr, length, vec_len, vec_capacity};
-ghost use Rattle.depot_base.specs.Calls.{FailsAmong, calls_to_append, calls_to_append_all, made};
-ghost use Rattle.depot_base.specs.Faults.{HasCause};
-ghost use Rattle.depot_base.specs.Disk.{LeavesOnly, Only};
+ghost use Rattle.std.specs.Prelude.{◌≡◌, ◌++◌, ◌+◌, ◌<◌, ◌≤◌, ◌^◌, ◌∷◌, [], IsTrue, IsErr, IsOk, OnOk, OnErr, length, vec_len, vec_capacity};
+ghost use Rattle.depot_base.specs.Calls.{calls_to_append, calls_to_append_all};
+ghost use Rattle.depot_base.specs.Disk.{LeavesOnly};
 ghost use Rattle.depot_base.specs.File.{blocks, closed_block};
-ghost use Rattle.depot_journal.specs.Mirrored.{IsMirror, mirror_records};
 ghost use Rattle.depot_base.specs.WithRest.{with_rest};
-ghost use Rattle.depot_journal.specs.WriteSteps.{FailsAt, IsBeforeOrAfter, StandsBetween, StandsTo};
+ghost use Rattle.depot_journal.specs.DiskCalls.{IsDiskCall, MakesOnDisk};
+ghost use Rattle.depot_journal.specs.Mirrored.{HasSpaceFor, IsMirror, StandsOnDisk, TakesSpace, mirror_records};
+ghost use Rattle.depot_journal.specs.WriteSteps.{FailsAt, IsBeforeOrAfter, StandsBetween};
 
 use crate::span::Span;
 use crate::write::append_on;
@@ -42,31 +42,17 @@ fn put_block(bytes: &mut Vec<u8>, head: &[u8], rest: &[u8])
 /// `Failed` it may be on the disk, and the mirror is unchanged.
 fn append_one<D: Disk>(mirror: &mut Mirror<D>, head: &[u8], rest: &[u8]) -> Result<(), Failed>
     requires mirror { IsMirror mirror.old.bytes.items mirror.old.spans.items }
-    requires spans { vec_len mirror.old.spans < vec_capacity mirror.old.spans }
-    requires bytes { vec_len mirror.old.bytes + (6 + length (head.now ++ rest.now)) ≤ vec_capacity mirror.old.bytes }
+    requires space { HasSpaceFor D.Disk mirror.old 1 (5 + length (head.now ++ rest.now)) }
     requires short { vec_len mirror.old.bytes + (6 + length (head.now ++ rest.now)) ≤ 2 ^ 30 }
-    requires room { 6 + length (head.now ++ rest.now) ≤ D.room_bytes mirror.old.disk }
-    requires calls { 4 ≤ D.room_calls mirror.old.disk }
-    requires stands { IsTrue (D.tells mirror.old.disk) → StandsTo (D.seen mirror.old.disk) (mirror_records mirror.old) (vec_len mirror.old.bytes) }
-    requires stable { IsTrue (D.tells mirror.old.disk) → Only (D.seen mirror.old.disk) (D.may_leave mirror.old.disk) }
+    requires rests { StandsOnDisk D.Disk mirror.old }
     ensures mirror { IsMirror mirror.new.bytes.items mirror.new.spans.items }
     ensures bodies { OnOk result (mirror_records mirror.new ≡ mirror_records mirror.old ++ (head.now ++ rest.now) ∷ []) }
     ensures kept { OnErr result (mirror_records mirror.new ≡ mirror_records mirror.old) }
-    ensures count { vec_len mirror.new.spans ≤ vec_len mirror.old.spans + 1 }
-    ensures long { vec_len mirror.new.bytes ≤ vec_len mirror.old.bytes + (5 + length (head.now ++ rest.now)) }
-    ensures handle { D.handle mirror.new.disk ≡ D.handle mirror.old.disk }
-    ensures tells { D.tells mirror.new.disk ≡ D.tells mirror.old.disk }
-    ensures stands { OnOk result (IsTrue (D.tells mirror.old.disk) → StandsTo (D.seen mirror.new.disk) (mirror_records mirror.new) (vec_len mirror.new.bytes)) }
-    ensures stable { OnOk result (IsTrue (D.tells mirror.old.disk) → Only (D.seen mirror.new.disk) (D.may_leave mirror.new.disk)) }
-    ensures any_moment { IsTrue (D.tells mirror.old.disk) → LeavesOnly D.moment D.left_since mirror.old.disk mirror.new.disk (IsBeforeOrAfter (mirror_records mirror.old) (head.now ++ rest.now)) }
-    ensures made { OnOk result (D.after mirror.old.disk (made (calls_to_append (vec_len mirror.old.bytes) (head.now ++ rest.now))) mirror.new.disk) }
-    ensures failing { OnErr result (FailsAmong D.after mirror.old.disk mirror.new.disk (calls_to_append (vec_len mirror.old.bytes) (head.now ++ rest.now))) }
-    ensures cause { HasCause (D.faults mirror.old.disk) (D.faults mirror.new.disk) (IsErr result) }
-    ensures faultless { D.is_faultless mirror.old.disk → D.is_faultless mirror.new.disk × (D.faults mirror.new.disk ≡ D.faults mirror.old.disk) }
-    ensures room_left { D.room_bytes mirror.old.disk ≤ D.room_bytes mirror.new.disk + (6 + length (head.now ++ rest.now)) }
-    ensures calls_left { D.room_calls mirror.old.disk ≤ D.room_calls mirror.new.disk + 4 }
-    ensures spans_left { vec_capacity mirror.old.spans ≤ vec_capacity mirror.new.spans }
-    ensures bytes_left { vec_capacity mirror.old.bytes ≤ vec_capacity mirror.new.bytes }
+    ensures rests { OnOk result (StandsOnDisk D.Disk mirror.new) }
+    ensures any_moment { IsTrue (D.tells mirror.old.disk) → LeavesOnly D.moment D.left_since mirror.old.disk mirror.new.disk (IsBeforeOrAfter (mirror_records mirror.old) ((head.now ++ rest.now) ∷ [])) }
+    ensures disk { IsDiskCall D.Disk mirror.old.disk mirror.new.disk (IsErr result) }
+    ensures made { MakesOnDisk D.Disk mirror.old.disk mirror.new.disk (calls_to_append (vec_len mirror.old.bytes) (head.now ++ rest.now)) (IsOk result) (IsErr result) }
+    ensures space { TakesSpace D.Disk mirror.old mirror.new 1 (5 + length (head.now ++ rest.now)) }
 {
     let gate = mirror.bytes.len();
     put_block(&mut mirror.bytes, head, rest);
@@ -101,31 +87,17 @@ pub fn append_each<D: Disk>(
     rest: &[u8],
 ) -> Result<(), Failed>
     requires mirror { IsMirror mirror.old.bytes.items mirror.old.spans.items }
-    requires spans { vec_len mirror.old.spans + length (with_rest texts.now rest.now) ≤ vec_capacity mirror.old.spans }
-    requires bytes { vec_len mirror.old.bytes + (length (blocks (with_rest texts.now rest.now)) + length (with_rest texts.now rest.now)) ≤ vec_capacity mirror.old.bytes }
+    requires space { HasSpaceFor D.Disk mirror.old (length (with_rest texts.now rest.now)) (length (blocks (with_rest texts.now rest.now))) }
     requires short { vec_len mirror.old.bytes + length (blocks (with_rest texts.now rest.now)) + 1 ≤ 2 ^ 30 }
-    requires room { length (blocks (with_rest texts.now rest.now)) + length (with_rest texts.now rest.now) ≤ D.room_bytes mirror.old.disk }
-    requires calls { 4 * length (with_rest texts.now rest.now) ≤ D.room_calls mirror.old.disk }
-    requires stands { IsTrue (D.tells mirror.old.disk) → StandsTo (D.seen mirror.old.disk) (mirror_records mirror.old) (vec_len mirror.old.bytes) }
-    requires stable { IsTrue (D.tells mirror.old.disk) → Only (D.seen mirror.old.disk) (D.may_leave mirror.old.disk) }
+    requires rests { StandsOnDisk D.Disk mirror.old }
     ensures mirror { IsMirror mirror.new.bytes.items mirror.new.spans.items }
     ensures bodies { OnOk result (mirror_records mirror.new ≡ mirror_records mirror.old ++ with_rest texts.now rest.now) }
     ensures fails { OnErr result (FailsAt (mirror_records mirror.old) (with_rest texts.now rest.now) (mirror_records mirror.new) (IsTrue (D.tells mirror.old.disk)) (D.may_leave mirror.new.disk)) }
-    ensures handle { D.handle mirror.new.disk ≡ D.handle mirror.old.disk }
-    ensures tells { D.tells mirror.new.disk ≡ D.tells mirror.old.disk }
-    ensures stands { OnOk result (IsTrue (D.tells mirror.old.disk) → StandsTo (D.seen mirror.new.disk) (mirror_records mirror.new) (vec_len mirror.new.bytes)) }
-    ensures stable { OnOk result (IsTrue (D.tells mirror.old.disk) → Only (D.seen mirror.new.disk) (D.may_leave mirror.new.disk)) }
+    ensures rests { OnOk result (StandsOnDisk D.Disk mirror.new) }
     ensures any_moment { IsTrue (D.tells mirror.old.disk) → LeavesOnly D.moment D.left_since mirror.old.disk mirror.new.disk (StandsBetween (mirror_records mirror.old) (with_rest texts.now rest.now)) }
-    ensures made { OnOk result (D.after mirror.old.disk (made (calls_to_append_all (vec_len mirror.old.bytes) (with_rest texts.now rest.now))) mirror.new.disk) }
-    ensures failing { OnErr result (FailsAmong D.after mirror.old.disk mirror.new.disk (calls_to_append_all (vec_len mirror.old.bytes) (with_rest texts.now rest.now))) }
-    ensures cause { HasCause (D.faults mirror.old.disk) (D.faults mirror.new.disk) (IsErr result) }
-    ensures faultless { D.is_faultless mirror.old.disk → D.is_faultless mirror.new.disk × (D.faults mirror.new.disk ≡ D.faults mirror.old.disk) }
-    ensures count { vec_len mirror.new.spans ≤ vec_len mirror.old.spans + length (with_rest texts.now rest.now) }
-    ensures long { vec_len mirror.new.bytes ≤ vec_len mirror.old.bytes + length (blocks (with_rest texts.now rest.now)) }
-    ensures spans_left { vec_capacity mirror.old.spans ≤ vec_capacity mirror.new.spans }
-    ensures bytes_left { vec_capacity mirror.old.bytes ≤ vec_capacity mirror.new.bytes }
-    ensures room_left { D.room_bytes mirror.old.disk ≤ D.room_bytes mirror.new.disk + (length (blocks (with_rest texts.now rest.now)) + length (with_rest texts.now rest.now)) }
-    ensures calls_left { D.room_calls mirror.old.disk ≤ D.room_calls mirror.new.disk + 4 * length (with_rest texts.now rest.now) }
+    ensures disk { IsDiskCall D.Disk mirror.old.disk mirror.new.disk (IsErr result) }
+    ensures made { MakesOnDisk D.Disk mirror.old.disk mirror.new.disk (calls_to_append_all (vec_len mirror.old.bytes) (with_rest texts.now rest.now)) (IsOk result) (IsErr result) }
+    ensures space { TakesSpace D.Disk mirror.old mirror.new (length (with_rest texts.now rest.now)) (length (blocks (with_rest texts.now rest.now))) }
 {
     for (place, text) in texts.iter().enumerate() {
         let behind = rest_behind(place, texts.len(), rest);

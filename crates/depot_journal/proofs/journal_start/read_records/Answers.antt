@@ -1,10 +1,11 @@
 use Rattle.std.proofs.Common.{rules, ◌≡◌, ◌-◌, ◌∷◌, [], min, List, ℕ, length, take, vec_len, sym, ap, ◌∙◌, subst, arith}
-use Rattle.depot_base.specs.Calls.{FailsAmong, reads_at}
+use Rattle.depot_base.specs.Calls.{FailsAmong, made, reads_at}
 use Rattle.depot_base.specs.File.{AreWithinLimits}
 use Rattle.depot_base.specs.declared.limits.TheConstants.{MOST_JOURNAL}
 use Rattle.depot_base.proofs.CallLaws.{fails_first}
 use Rattle.depot_journal.specs.Mirrored.{EndWithin, IsMirror, bodies_at}
 use Rattle.depot_journal.specs.WriteSteps.{StandsTo}
+use Rattle.depot_journal.proofs.DiskCalls.{no_ok}
 use Rattle.depot_journal.proofs.FileParsing.{cut_bodies, cut_long, cut_mirror, damage_of, stands_in}
 use Rattle.depot_journal.proofs.journal_start.read_records.Goals as goal
 
@@ -45,8 +46,19 @@ returns-in-Err-clause-damaged g c = λ told.
     let least : vec_len c.in_ok-bytes.bytes ≡ c.min.result = search rules in
     damage_of (g.D.Disk.seen c.args.disk.now) c.deref.result.now (vec_len c.in_ok-bytes.bytes - 0) c.args.size (whole ∙ read) (omega (arith, least, c.min.ensures)) size c.in-Err.error c.in-Err.ensures.damaged
 
-pub returns-in_err-read_front-clause-failing : goal.returns-in_err-read_front-clause-failing
-returns-in_err-read_front-clause-failing g c = λ _.
+pub returns-in_err-read_front-clause-made : goal.returns-in_err-read_front-clause-made
+returns-in_err-read_front-clause-made g c =
     let count : vec_len c.in_ok-bytes.bytes ≡ min c.args.size MOST_JOURNAL = search rules in
-    subst (λ (n : ℕ). FailsAmong g.D.Disk.after c.args.disk.now c.read_front.new.disk (reads_at 0 n ∷ [])) count
-    (fails_first g.D.Disk.after c.args.disk.now c.read_front.new.disk (reads_at 0 (vec_len c.in_ok-bytes.bytes)) [] c.in_err-read_front.ensures.made)
+    record {
+      all = λ done. absurd (no_ok c.from_residual-in_err-read_front.result _ c.from_residual-in_err-read_front.ensures.1 done);
+      failing = λ _. subst (λ (n : ℕ). FailsAmong g.D.Disk.after c.args.disk.now c.read_front.new.disk (reads_at 0 n ∷ [])) count
+          (fails_first g.D.Disk.after c.args.disk.now c.read_front.new.disk (reads_at 0 (vec_len c.in_ok-bytes.bytes)) [] c.in_err-read_front.ensures.made);
+    }
+
+pub returns-clause-made : goal.returns-clause-made
+returns-clause-made g c =
+    let count : vec_len c.in_ok-bytes.bytes ≡ min c.args.size MOST_JOURNAL = search rules in
+    record {
+      all = λ _. subst (λ (n : ℕ). g.D.Disk.after c.args.disk.now (made (reads_at 0 n ∷ [])) c.read_front.new.disk) count c.in_ok-read_front.ensures.made;
+      failing = λ failed. absurd cc;
+    }

@@ -7,6 +7,7 @@ use Rattle.depot_journal.specs.Mirrored.{bodies_at}
 use Rattle.depot_journal.specs.JournalView.{JournalContents}
 use Rattle.depot_journal.proofs.Appends.{all_within, blocks_many, counted, cut_short, found, front_within, limit_counted, reserved_less, room_counted, then_appended, unmoved, with_none}
 use Rattle.depot_journal.proofs.AtRest.{one_more_at_most, rests}
+use Rattle.depot_journal.proofs.DiskCalls.{ok_of}
 use Rattle.depot_journal.proofs.Walk.{stands_of}
 use Rattle.depot_journal.proofs.RecordBlocks.{if_err, if_not_err, ok_no_err}
 use Rattle.depot_journal.proofs.Mirrors.{bodies_many}
@@ -28,7 +29,7 @@ returns-then-is_err-clause-any_moment g c = λ told running.
     let held = bodies_at c.self.inside.mirror.bytes.items c.self.inside.mirror.spans.items in
     let d = c.self.inside.mirror.disk in
     let was = c.self.invariant.3 (search rules) (search rules) in
-    let found_only = found g.D.Disk.moment g.D.Disk.left_since d c.find_room.new.mirror.disk (g.D.Disk.may_leave d) (g.D.Disk.may_leave c.find_room.new.mirror.disk) (g.D.Disk.seen d) held (vec_len c.self.inside.mirror.bytes) was.0 c.self.invariant.1 was.1 (g.met.D.Disk.only_now d) c.find_room.ensures.time c.find_room.ensures.images in
+    let found_only = found g.D.Disk.moment g.D.Disk.left_since d c.find_room.new.mirror.disk (g.D.Disk.may_leave d) (g.D.Disk.may_leave c.find_room.new.mirror.disk) (g.D.Disk.seen d) held (vec_len c.self.inside.mirror.bytes) was.0 c.self.invariant.1 was.1 (g.met.D.Disk.only_now d) c.find_room.ensures.disk.time c.find_room.ensures.disk.images in
     subst (λ (v : JournalContents g.row.D.Denot). LeavesOnly g.D.Disk.moment g.D.Disk.left_since v.disk c.find_room.new.mirror.disk (HasBodyFront v.records (with_rest c.args.texts.now c.args.rest.now))) c.self.view_is
     (with_none g.D.Disk.moment g.D.Disk.left_since d c.find_room.new.mirror.disk held (with_rest c.args.texts.now c.args.rest.now) found_only)
 
@@ -54,7 +55,7 @@ returns-then-is_err-2-clause-disk g c = λ failed.
     let fails = if_err c.append_each.result _ (sym c.is_err-2.ensures.value ∙ c.if-is_err-2.true) c.append_each.ensures.fails in
     subst (λ (v : JournalContents g.row.D.Denot). AreBodiesCutShort v.records (with_rest c.args.texts.now c.args.rest.now) (bodies_at c.append_each.new.mirror.bytes.items c.append_each.new.mirror.spans.items) (IsTrue (g.D.Disk.tells v.disk)) (g.D.Disk.may_leave c.append_each.new.mirror.disk)) c.self.view_is
     (cut_short held at (with_rest c.args.texts.now c.args.rest.now) (bodies_at c.append_each.new.mirror.bytes.items c.append_each.new.mirror.spans.items) (IsTrue (g.D.Disk.tells c.find_room.new.mirror.disk)) (IsTrue (g.D.Disk.tells c.self.inside.mirror.disk))
-    (λ told. subst IsTrue (sym c.find_room.ensures.tells) told) (g.D.Disk.may_leave c.append_each.new.mirror.disk) _ _ room many_new exact same fails)
+    (λ told. subst IsTrue (sym c.find_room.ensures.disk.tells) told) (g.D.Disk.may_leave c.append_each.new.mirror.disk) _ _ room many_new exact same fails)
 
 pub returns-then-is_err-2-clause-any_moment : goal.returns-then-is_err-2-clause-any_moment
 returns-then-is_err-2-clause-any_moment g c = λ told running.
@@ -68,7 +69,7 @@ returns-then-is_err-2-clause-any_moment g c = λ told running.
     let same : at ≡ held = ap (λ (l : List ℕ). bodies_at l c.find_room.new.mirror.spans.items) c.find_room.ensures.bytes_same ∙ ap (bodies_at c.self.inside.mirror.bytes.items) c.find_room.ensures.spans_same in
     let d = c.self.inside.mirror.disk in
     let was = c.self.invariant.3 (search rules) (search rules) in
-    let found_only = found g.D.Disk.moment g.D.Disk.left_since d c.find_room.new.mirror.disk (g.D.Disk.may_leave d) (g.D.Disk.may_leave c.find_room.new.mirror.disk) (g.D.Disk.seen d) held (vec_len c.self.inside.mirror.bytes) was.0 c.self.invariant.1 was.1 (g.met.D.Disk.only_now d) c.find_room.ensures.time c.find_room.ensures.images in
+    let found_only = found g.D.Disk.moment g.D.Disk.left_since d c.find_room.new.mirror.disk (g.D.Disk.may_leave d) (g.D.Disk.may_leave c.find_room.new.mirror.disk) (g.D.Disk.seen d) held (vec_len c.self.inside.mirror.bytes) was.0 c.self.invariant.1 was.1 (g.met.D.Disk.only_now d) c.find_room.ensures.disk.time c.find_room.ensures.disk.images in
     let appended = then_appended g.D.Disk.moment g.D.Disk.left_since d c.find_room.new.mirror.disk c.append_each.new.mirror.disk held at (with_rest c.args.texts.now c.args.rest.now) _ _ room many_new exact same found_only (c.append_each.ensures.any_moment (search rules)) in
     subst (λ (v : JournalContents g.row.D.Denot). LeavesOnly g.D.Disk.moment g.D.Disk.left_since v.disk c.append_each.new.mirror.disk (HasBodyFront v.records (with_rest c.args.texts.now c.args.rest.now))) c.self.view_is
     appended
@@ -85,7 +86,7 @@ returns-clause-any_moment g c = λ told running.
     let same : at ≡ held = ap (λ (l : List ℕ). bodies_at l c.find_room.new.mirror.spans.items) c.find_room.ensures.bytes_same ∙ ap (bodies_at c.self.inside.mirror.bytes.items) c.find_room.ensures.spans_same in
     let d = c.self.inside.mirror.disk in
     let was = c.self.invariant.3 (search rules) (search rules) in
-    let found_only = found g.D.Disk.moment g.D.Disk.left_since d c.find_room.new.mirror.disk (g.D.Disk.may_leave d) (g.D.Disk.may_leave c.find_room.new.mirror.disk) (g.D.Disk.seen d) held (vec_len c.self.inside.mirror.bytes) was.0 c.self.invariant.1 was.1 (g.met.D.Disk.only_now d) c.find_room.ensures.time c.find_room.ensures.images in
+    let found_only = found g.D.Disk.moment g.D.Disk.left_since d c.find_room.new.mirror.disk (g.D.Disk.may_leave d) (g.D.Disk.may_leave c.find_room.new.mirror.disk) (g.D.Disk.seen d) held (vec_len c.self.inside.mirror.bytes) was.0 c.self.invariant.1 was.1 (g.met.D.Disk.only_now d) c.find_room.ensures.disk.time c.find_room.ensures.disk.images in
     let appended = then_appended g.D.Disk.moment g.D.Disk.left_since d c.find_room.new.mirror.disk c.append_each.new.mirror.disk held at (with_rest c.args.texts.now c.args.rest.now) _ _ room many_new exact same found_only (c.append_each.ensures.any_moment (search rules)) in
     subst (λ (v : JournalContents g.row.D.Denot). LeavesOnly g.D.Disk.moment g.D.Disk.left_since v.disk c.append_each.new.mirror.disk (HasBodyFront v.records (with_rest c.args.texts.now c.args.rest.now))) c.self.view_is
     appended
@@ -113,7 +114,7 @@ invariant_of-self-2 g c =
     let least = blocks_many (with_rest c.args.texts.now c.args.rest.now) in (
       did.mirror,
       all_within held (with_rest c.args.texts.now c.args.rest.now) _ _ _ room many_new exact is,
-      reserved_less _ _ _ _ _ _ _ _ (length c.args.texts.now) _ _ _ _ _ _ _ c.find_room.ensures.reserved few small fits now_many (omega (arith, did.long, exact, least, many_new)) did.spans_left did.bytes_left (omega (arith, did.room_left, exact, least, many_new)) (omega (arith, did.calls_left, many_new)),
+      reserved_less _ _ _ _ _ _ _ _ (length c.args.texts.now) _ _ _ _ _ _ _ c.find_room.ensures.reserved few small fits now_many (omega (arith, did.space.long, exact, least, many_new)) did.space.spans_left did.space.bytes_left (omega (arith, did.space.disk.bytes_left, exact, least, many_new)) (omega (arith, did.space.disk.calls_left, many_new)),
       λ running told. search rules,
       λ told. rests (g.D.Disk.seen new.disk) (bodies_at new.bytes.items new.spans.items) (vec_len new.bytes) false (g.D.Disk.may_leave new.disk) (search rules) (all_within held (with_rest c.args.texts.now c.args.rest.now) _ _ _ room many_new exact is) (search rules),
     )
@@ -131,7 +132,7 @@ invariant_of-self-then-is_err-2 g c =
     let new = c.append_each.new.mirror in
     let fails = if_err c.append_each.result _ (sym c.is_err-2.ensures.value ∙ c.if-is_err-2.true) c.append_each.ensures.fails in
     let cut = cut_short held at (with_rest c.args.texts.now c.args.rest.now) (bodies_at new.bytes.items new.spans.items) (IsTrue (g.D.Disk.tells c.find_room.new.mirror.disk)) (IsTrue (g.D.Disk.tells new.disk))
-    (λ told. subst IsTrue c.append_each.ensures.tells told) (g.D.Disk.may_leave new.disk) _ _ room many_new exact same fails in (
+    (λ told. subst IsTrue c.append_each.ensures.disk.tells told) (g.D.Disk.may_leave new.disk) _ _ room many_new exact same fails in (
       search rules,
       subst AreWithinLimits (sym cut.front) (front_within held (with_rest c.args.texts.now c.args.rest.now) cut.count _ _ room many_new exact),
       search rules,
@@ -152,7 +153,7 @@ returns-then-is_err-2-clause-stands g c = λ told.
     let new = c.append_each.new.mirror in
     let fails = if_err c.append_each.result _ (sym c.is_err-2.ensures.value ∙ c.if-is_err-2.true) c.append_each.ensures.fails in
     let cut = cut_short held at (with_rest c.args.texts.now c.args.rest.now) (bodies_at new.bytes.items new.spans.items) (IsTrue (g.D.Disk.tells c.find_room.new.mirror.disk)) (IsTrue (g.D.Disk.tells c.self.inside.mirror.disk))
-    (λ told. subst IsTrue (sym c.find_room.ensures.tells) told) (g.D.Disk.may_leave new.disk) _ _ room many_new exact same fails in
+    (λ told. subst IsTrue (sym c.find_room.ensures.disk.tells) told) (g.D.Disk.may_leave new.disk) _ _ room many_new exact same fails in
     one_more_at_most held (with_rest c.args.texts.now c.args.rest.now) (bodies_at new.bytes.items new.spans.items) _ (g.D.Disk.may_leave new.disk) cut (subst (λ (v : JournalContents g.row.D.Denot). IsTrue (g.D.Disk.tells v.disk)) (sym c.self.view_is) told)
 
 pub returns-clause-file : goal.returns-clause-file
@@ -190,17 +191,14 @@ returns-then-is_err-2-clause-calls g c =
     let mid = c.find_room.new.mirror in
     let held = bodies_at c.self.inside.mirror.bytes.items c.self.inside.mirror.spans.items in
     let gate : vec_len mid.bytes ≡ length (blocks held) = mid.bytes.ok.0 ∙ ap length (c.find_room.ensures.bytes_same ∙ c.self.invariant.0.parts) in
-    let failing = if_err c.append_each.result _ (sym c.is_err-2.ensures.value ∙ c.if-is_err-2.true) c.append_each.ensures.failing in
+    let failing = c.append_each.ensures.made.failing (sym c.is_err-2.ensures.value ∙ c.if-is_err-2.true) in
     record {
-      same = search rules;
-      told = search rules;
+      disk = search rules;
       all = tt;
       failing = λ failed. subst (λ (v : JournalContents g.row.D.Denot). FailsAmong g.D.Disk.after v.disk c.append_each.new.mirror.disk (calls_to_append_all (length (blocks v.records)) (with_rest c.args.texts.now c.args.rest.now))) c.self.view_is
           (subst (λ (n : ℕ). FailsAmong g.D.Disk.after c.self.inside.mirror.disk c.append_each.new.mirror.disk (calls_to_append_all n (with_rest c.args.texts.now c.args.rest.now))) gate
-          (fails_later g.D.Disk.after g.met.D.Disk.after_more c.self.inside.mirror.disk mid.disk c.append_each.new.mirror.disk [] (calls_to_append_all (vec_len mid.bytes) (with_rest c.args.texts.now c.args.rest.now)) c.find_room.ensures.made failing));
+          (fails_later g.D.Disk.after g.met.D.Disk.after_more c.self.inside.mirror.disk mid.disk c.append_each.new.mirror.disk [] (calls_to_append_all (vec_len mid.bytes) (with_rest c.args.texts.now c.args.rest.now)) c.find_room.ensures.disk.made failing));
       none = tt;
-      cause = search rules;
-      faultless = search rules;
     }
 
 pub returns-clause-calls : goal.returns-clause-calls
@@ -208,17 +206,14 @@ returns-clause-calls g c =
     let mid = c.find_room.new.mirror in
     let held = bodies_at c.self.inside.mirror.bytes.items c.self.inside.mirror.spans.items in
     let gate : vec_len mid.bytes ≡ length (blocks held) = mid.bytes.ok.0 ∙ ap length (c.find_room.ensures.bytes_same ∙ c.self.invariant.0.parts) in
-    let appended = if_not_err c.append_each.result _ (sym c.is_err-2.ensures.value ∙ c.if-is_err-2.false) c.append_each.ensures.made in
+    let appended = c.append_each.ensures.made.all (ok_of c.append_each.result (sym c.is_err-2.ensures.value ∙ c.if-is_err-2.false)) in
     record {
-      same = search rules;
-      told = search rules;
+      disk = search rules;
       all = subst (λ (v : JournalContents g.row.D.Denot). g.D.Disk.after v.disk (made (calls_to_append_all (length (blocks v.records)) (with_rest c.args.texts.now c.args.rest.now))) c.append_each.new.mirror.disk) c.self.view_is
           (subst (λ (n : ℕ). g.D.Disk.after c.self.inside.mirror.disk (made (calls_to_append_all n (with_rest c.args.texts.now c.args.rest.now))) c.append_each.new.mirror.disk) gate
-          (made_later g.D.Disk.after g.met.D.Disk.after_more c.self.inside.mirror.disk mid.disk c.append_each.new.mirror.disk [] (calls_to_append_all (vec_len mid.bytes) (with_rest c.args.texts.now c.args.rest.now)) c.find_room.ensures.made appended));
+          (made_later g.D.Disk.after g.met.D.Disk.after_more c.self.inside.mirror.disk mid.disk c.append_each.new.mirror.disk [] (calls_to_append_all (vec_len mid.bytes) (with_rest c.args.texts.now c.args.rest.now)) c.find_room.ensures.disk.made appended));
       failing = search rules;
       none = tt;
-      cause = search rules;
-      faultless = search rules;
     }
 
 pub returns-clause-room : goal.returns-clause-room
@@ -236,22 +231,8 @@ returns-clause-room g c =
       bytes = omega (arith, exact, before, blocks_many (with_rest c.args.texts.now c.args.rest.now), c.find_room.ensures.bytes_kept, rest_count c.args.texts.now c.args.rest.now);
     }
 
-pub append_each-requires-clause-spans : goal.append_each-requires-clause-spans
-append_each-requires-clause-spans g c =
-    let held = bodies_at c.self.inside.mirror.bytes.items c.self.inside.mirror.spans.items in
-    let many : c.count.result ≡ length held = search rules in
-    let whole : vec_len c.self.inside.mirror.bytes ≡ length (blocks held) = c.self.inside.mirror.bytes.ok.0 ∙ ap length c.self.invariant.0.parts in
-    let many_new : length c.args.texts.now ≡ length (with_rest c.args.texts.now c.args.rest.now) = sym (rest_count c.args.texts.now c.args.rest.now) in
-    let room = c.in_default.ensures.room held many (c.len.ensures ∙ whole) in
-    let exact : c.bytes_of-long.result ≡ length (blocks (with_rest c.args.texts.now c.args.rest.now)) = counted held (with_rest c.args.texts.now c.args.rest.now) _ _ room c.bytes_of-long.ensures in
-    let mid = c.find_room.new.mirror in
-    let same : bodies_at mid.bytes.items mid.spans.items ≡ held = ap (λ (l : List ℕ). bodies_at l mid.spans.items) c.find_room.ensures.bytes_same ∙ ap (bodies_at c.self.inside.mirror.bytes.items) c.find_room.ensures.spans_same in
-    let fits : vec_len mid.spans + length c.args.texts.now ≤ 131072 = omega (arith, mid.spans.ok.0, bodies_many mid.bytes.items mid.spans.items, ap length same, room.records_fit) in
-    let few : length c.args.texts.now ≤ c.find_room.new.room.records = if_not_err c.find_room.result _ (sym c.is_err.ensures.value ∙ c.if-is_err.false) c.find_room.ensures.records in
-    omega (arith, c.find_room.ensures.reserved.spans_fit, few, fits, many_new)
-
-pub append_each-requires-clause-bytes : goal.append_each-requires-clause-bytes
-append_each-requires-clause-bytes g c =
+pub append_each-requires-clause-space : goal.append_each-requires-clause-space
+append_each-requires-clause-space g c =
     let held = bodies_at c.self.inside.mirror.bytes.items c.self.inside.mirror.spans.items in
     let many : c.count.result ≡ length held = search rules in
     let whole : vec_len c.self.inside.mirror.bytes ≡ length (blocks held) = c.self.inside.mirror.bytes.ok.0 ∙ ap length c.self.invariant.0.parts in
@@ -263,36 +244,13 @@ append_each-requires-clause-bytes g c =
     let fits : vec_len mid.spans + length c.args.texts.now ≤ 131072 = omega (arith, mid.spans.ok.0, bodies_many mid.bytes.items mid.spans.items, ap length same, room.records_fit) in
     let few : length c.args.texts.now ≤ c.find_room.new.room.records = if_not_err c.find_room.result _ (sym c.is_err.ensures.value ∙ c.if-is_err.false) c.find_room.ensures.records in
     let small : c.bytes_of-long.result - 5 * length c.args.texts.now ≤ c.find_room.new.room.bytes = if_not_err c.find_room.result _ (sym c.is_err.ensures.value ∙ c.if-is_err.false) c.find_room.ensures.bytes in
-    omega (arith, c.find_room.ensures.reserved.blocks_fit, few, fits, small, exact, many_new)
-
-pub append_each-requires-clause-room : goal.append_each-requires-clause-room
-append_each-requires-clause-room g c =
-    let held = bodies_at c.self.inside.mirror.bytes.items c.self.inside.mirror.spans.items in
-    let many : c.count.result ≡ length held = search rules in
-    let whole : vec_len c.self.inside.mirror.bytes ≡ length (blocks held) = c.self.inside.mirror.bytes.ok.0 ∙ ap length c.self.invariant.0.parts in
-    let many_new : length c.args.texts.now ≡ length (with_rest c.args.texts.now c.args.rest.now) = sym (rest_count c.args.texts.now c.args.rest.now) in
-    let room = c.in_default.ensures.room held many (c.len.ensures ∙ whole) in
-    let exact : c.bytes_of-long.result ≡ length (blocks (with_rest c.args.texts.now c.args.rest.now)) = counted held (with_rest c.args.texts.now c.args.rest.now) _ _ room c.bytes_of-long.ensures in
-    let mid = c.find_room.new.mirror in
-    let same : bodies_at mid.bytes.items mid.spans.items ≡ held = ap (λ (l : List ℕ). bodies_at l mid.spans.items) c.find_room.ensures.bytes_same ∙ ap (bodies_at c.self.inside.mirror.bytes.items) c.find_room.ensures.spans_same in
-    let fits : vec_len mid.spans + length c.args.texts.now ≤ 131072 = omega (arith, mid.spans.ok.0, bodies_many mid.bytes.items mid.spans.items, ap length same, room.records_fit) in
-    let few : length c.args.texts.now ≤ c.find_room.new.room.records = if_not_err c.find_room.result _ (sym c.is_err.ensures.value ∙ c.if-is_err.false) c.find_room.ensures.records in
-    let small : c.bytes_of-long.result - 5 * length c.args.texts.now ≤ c.find_room.new.room.bytes = if_not_err c.find_room.result _ (sym c.is_err.ensures.value ∙ c.if-is_err.false) c.find_room.ensures.bytes in
-    omega (arith, c.find_room.ensures.reserved.written_fit, few, fits, small, exact, many_new)
-
-pub append_each-requires-clause-calls : goal.append_each-requires-clause-calls
-append_each-requires-clause-calls g c =
-    let held = bodies_at c.self.inside.mirror.bytes.items c.self.inside.mirror.spans.items in
-    let many : c.count.result ≡ length held = search rules in
-    let whole : vec_len c.self.inside.mirror.bytes ≡ length (blocks held) = c.self.inside.mirror.bytes.ok.0 ∙ ap length c.self.invariant.0.parts in
-    let many_new : length c.args.texts.now ≡ length (with_rest c.args.texts.now c.args.rest.now) = sym (rest_count c.args.texts.now c.args.rest.now) in
-    let room = c.in_default.ensures.room held many (c.len.ensures ∙ whole) in
-    let exact : c.bytes_of-long.result ≡ length (blocks (with_rest c.args.texts.now c.args.rest.now)) = counted held (with_rest c.args.texts.now c.args.rest.now) _ _ room c.bytes_of-long.ensures in
-    let mid = c.find_room.new.mirror in
-    let same : bodies_at mid.bytes.items mid.spans.items ≡ held = ap (λ (l : List ℕ). bodies_at l mid.spans.items) c.find_room.ensures.bytes_same ∙ ap (bodies_at c.self.inside.mirror.bytes.items) c.find_room.ensures.spans_same in
-    let fits : vec_len mid.spans + length c.args.texts.now ≤ 131072 = omega (arith, mid.spans.ok.0, bodies_many mid.bytes.items mid.spans.items, ap length same, room.records_fit) in
-    let few : length c.args.texts.now ≤ c.find_room.new.room.records = if_not_err c.find_room.result _ (sym c.is_err.ensures.value ∙ c.if-is_err.false) c.find_room.ensures.records in
-    omega (arith, c.find_room.ensures.reserved.calls_fit, few, fits, many_new)
+    let space = c.find_room.ensures.reserved in
+    record {
+      spans_fit = omega (arith, space.spans_fit, few, fits, many_new);
+      blocks_fit = omega (arith, space.blocks_fit, few, fits, small, exact, many_new);
+      written_fit = omega (arith, space.written_fit, few, fits, small, exact, many_new);
+      calls_fit = omega (arith, space.calls_fit, few, fits, many_new);
+    }
 
 pub returns-in-Err-clause-limits : goal.returns-in-Err-clause-limits
 returns-in-Err-clause-limits g c =

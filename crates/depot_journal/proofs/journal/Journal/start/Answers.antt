@@ -8,7 +8,7 @@ use Rattle.depot_journal.proofs.journal.Journal.start.Goals.{In-Ok}
 
 -- the disk's bytes were visible before the call
 told_before : (g : Over) (c : In-Ok g) → IsTrue (g.D.Disk.tells c.start_on.new.disk) → IsTrue (g.D.Disk.tells c.args.disk)
-told_before g c told = subst (λ (b : Bool). IsTrue b) c.start_on.ensures.tells told
+told_before g c told = subst (λ (b : Bool). IsTrue b) c.start_on.ensures.disk.tells told
 
 pub invariant_of-result : goal.invariant_of-result
 invariant_of-result g c =
