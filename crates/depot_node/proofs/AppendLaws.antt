@@ -3,7 +3,7 @@ use Rattle.std.proofs.Common.{◌≡◌, ◌↔◌, ℕ, ◌+◌, ◌*◌, ◌<�
 use Rattle.std.proofs.lemmas.List.{append_cancel_left, take-append-drop}
 use Rattle.std.specs.Prelude.{IsErrOf, OnOk}
 use Rattle.depot_base.specs.Calls.{Call, Made, made, FailsAmong, calls_to_append_all}
-use Rattle.depot_base.specs.Disk.{Elapses, LeavesOnly, Within}
+use Rattle.depot_base.specs.Disk.{LeavesOnly}
 use Rattle.depot_base.specs.File as files
 use Rattle.depot_base.specs.File.{IsFileOf, blocks}
 use Rattle.depot_base.specs.declared.key.RosterEntry.{RosterEntry}
@@ -23,6 +23,7 @@ use Rattle.depot_journal.specs.declared.journal_error.AppendError.TheVariants as
 use Rattle.depot_journal.proofs.Moments as runs
 use Rattle.depot_laws.proofs.own_updates.OwnTexts.{lawful_is_light, lawful_is_short}
 use Rattle.depot_laws.proofs.lists.Splits.{lawful_front}
+use Rattle.depot_journal.specs.DiskCalls.{OnlyReserves}
 use Rattle.depot_outside.specs.declared.disk.Disk.{Ghosts}
 use Rattle.depot_readings.specs.NewRecords.{bytes_of_records}
 use Rattle.depot_node.specs.Holdings.{Holding, journal_on}
@@ -90,16 +91,6 @@ none_of_new J new file all = record {
   has = subst (λ (x : List (List ℕ)). IsFileOf file x) (ap (λ (x : List (List ℕ)). map text_of_record J ++ x) (all.none refl) ∙ append-nil (map text_of_record J) ∙ ap (map text_of_record) (sym (append-nil J))) all.has;
 }
 
--- memory alone was found on the disk
-pub record IsFound {D : Type 0} (g : Ghosts D) (old mid : D) : Type 0 where
-  pub same : g.handle mid ≡ g.handle old
-  pub told : g.tells mid ≡ g.tells old
-  pub faults : g.faults mid ≡ g.faults old
-  pub calm : g.is_faultless old → g.is_faultless mid
-  pub made : g.after old [] mid
-  pub images : Within (g.may_leave old) (g.may_leave mid)
-  pub time : Elapses (g.moment old) (g.moment mid) (g.left_since old) (g.left_since mid) (g.may_leave mid)
-
 -- what is so where all went well
 ok_gives : {E : Type 0} (result : Result (Unit {0}) E) (P : Type 0) → OnOk result P → result ≡ Ok tt → P
 ok_gives result P p ok = subst (λ (r : Result (Unit {0}) _). OnOk r P) ok p
@@ -110,7 +101,7 @@ store_over me listed K unread v = record { me = me; listed = listed; records = K
 
 module _ {D : Type 0} (g : Ghosts D) (only_now : (d : D) (image : List ℕ) → g.left_since d (g.moment d) image → g.may_leave d image) (after_more : (a b c : D) (calls more : List Made) → g.after a calls b → g.after b more c → g.after a (calls ++ more) c) where
   -- since the first moment, where memory alone was found
-  found : (old mid : D) (J new : List Record) → LeavesAll J false (g.may_leave old) → IsFound g old mid → LeavesOnly g.moment g.left_since old mid (HasFront J new)
+  found : (old mid : D) (J new : List Record) → LeavesAll J false (g.may_leave old) → OnlyReserves g old mid → LeavesOnly g.moment g.left_since old mid (HasFront J new)
   found old mid J new all f =
       let first = runs.started g.moment g.left_since old (HasFront J new) (λ image left. none_of_new J new image (all image (only_now old image left))) in
       runs.goes_on g.moment g.left_since old old mid (HasFront J new) (g.may_leave mid) first f.time (λ image left. none_of_new J new image (all image (f.images image left)))
@@ -119,17 +110,17 @@ module _ {D : Type 0} (g : Ghosts D) (only_now : (d : D) (image : List ℕ) → 
   on_holdings old new P l = record { later = l.later; each = l.each; before = l.before }
 
   -- what lasts where nothing was appended
-  lasts_found : (old then : Holding D) (new : List Record) → old.stopped ≡ false → then.stopped ≡ false → then.records ≡ old.records → IsFound g old.disk then.disk → (IsTrue (g.tells old.disk) → LeavesAll old.records false (g.may_leave old.disk)) → Lasts (journal_on g) old then new
+  lasts_found : (old then : Holding D) (new : List Record) → old.stopped ≡ false → then.stopped ≡ false → then.records ≡ old.records → OnlyReserves g old.disk then.disk → (IsTrue (g.tells old.disk) → LeavesAll old.records false (g.may_leave old.disk)) → Lasts (journal_on g) old then new
   lasts_found old then new ran runs_on same f all = record {
-    told = f.told;
+    told = f.tells;
     any_moment = λ t r. on_holdings old then (HasFront old.records new) (found old.disk then.disk old.records new (all t) f);
     stable = λ t. subst (λ (J : List Record). LeavesAll J then.stopped (g.may_leave then.disk)) (sym same)
-        (subst (λ (b : Bool). LeavesAll old.records b (g.may_leave then.disk)) (sym runs_on) (λ file left. all (subst IsTrue f.told t) file (f.images file left)));
+        (subst (λ (b : Bool). LeavesAll old.records b (g.may_leave then.disk)) (sym runs_on) (λ file left. all (subst IsTrue f.tells t) file (f.images file left)));
     untouched = λ stopped. absurd (untrue (sym stopped ∙ ran));
   }
 
   -- a call that finds memory on the disk, and appends nothing
-  pub unwritten_call : (old then : Holding D) (texts : List (List ℕ)) (new : List Record) {failed nothing : Type 0} → old.stopped ≡ false → AreTextsFor old.records texts → then.records ≡ old.records → then.stopped ≡ old.stopped → IsFound g old.disk then.disk
+  pub unwritten_call : (old then : Holding D) (texts : List (List ℕ)) (new : List Record) {failed nothing : Type 0} → old.stopped ≡ false → AreTextsFor old.records texts → then.records ≡ old.records → then.stopped ≡ old.stopped → OnlyReserves g old.disk then.disk
       → (IsTrue (g.tells old.disk) → stable.LeavesAllBodies texts old.stopped (g.may_leave old.disk)) → (failed → ⊥) → IsJournalCall (journal_on g) old then new ⊥ failed nothing
   unwritten_call old then texts new {failed} {nothing} ran t same stopped f stays well =
       let all : IsTrue (g.tells old.disk) → LeavesAll old.records false (g.may_leave old.disk) =
@@ -141,9 +132,9 @@ module _ {D : Type 0} (g : Ghosts D) (only_now : (d : D) (image : List ℕ) → 
           left = (λ now. absurd (untrue (sym now ∙ runs_on)), λ either. elim either [ inl before ↦ absurd (untrue (sym before ∙ ran)) | inr is ↦ absurd (well is) ]);
         };
         disk = record {
-          same = f.same;
+          same = f.handle;
           cause = record { never_falls = omega (arith, f.faults); rose = λ is. absurd (well is); only = λ less. absurd (omega (arith, less, f.faults)) };
-          calm = λ w. (f.calm w, f.faults);
+          calm = λ w. (f.faultless w, f.faults);
         };
         lasts = lasts_found old then new ran runs_on same f all;
         calls = record {
@@ -156,8 +147,8 @@ module _ {D : Type 0} (g : Ghosts D) (only_now : (d : D) (image : List ℕ) → 
 
   -- a call that finds memory on the disk, and then appends records, all or up to the one on which the disk fails
   pub written_call : (old : Holding D) (me : ℕ) (listed : List RosterEntry) (K new : List Record) (unread more : List (List ℕ)) (mid last : JournalContents D) (result : Result (Unit {0}) AppendError) {failed nothing : Type 0}
-      → old.stopped ≡ false → mid.is_stopped ≡ false → AreTextsFor old.records mid.records → AreTextsFor new more → AreTextsFor K last.records → IsFound g old.disk mid.disk → (IsTrue (g.tells old.disk) → LeavesAll old.records false (g.may_leave old.disk))
-      → MakesCalls g.handle g.tells g.faults g.is_faultless g.after mid last more result → LeavesRunning g.tells g.moment g.left_since mid last (files.HasBodyFront mid.records more) → (IsTrue (g.tells mid.disk) → stable.LeavesAllBodies last.records last.is_stopped (g.may_leave last.disk))
+      → old.stopped ≡ false → mid.is_stopped ≡ false → AreTextsFor old.records mid.records → AreTextsFor new more → AreTextsFor K last.records → OnlyReserves g old.disk mid.disk → (IsTrue (g.tells old.disk) → LeavesAll old.records false (g.may_leave old.disk))
+      → MakesCalls g mid last more result → LeavesRunning g.tells g.moment g.left_since mid last (files.HasBodyFront mid.records more) → (IsTrue (g.tells mid.disk) → stable.LeavesAllBodies last.records last.is_stopped (g.may_leave last.disk))
       → (failed ↔ IsErrOf result refused.Disk) → ((last.is_stopped ≡ true) ↔ failed) → (nothing → ⊥) → ((failed → ⊥) → (K ≡ old.records ++ new) × (result ≡ Ok tt))
       → IsJournalCall (journal_on g) old (store_over me listed K unread last) new ⊥ failed nothing
   written_call old me listed K new unread more mid last result {failed} {nothing} ran mid_ran t u w f all calls left stands fails stops never grew =
@@ -171,18 +162,18 @@ module _ {D : Type 0} (g : Ghosts D) (only_now : (d : D) (image : List ℕ) → 
           left = (λ now. inr (stops.0 now), λ either. elim either [ inl before ↦ absurd (untrue (sym before ∙ ran)) | inr is ↦ stops.1 is ]);
         };
         disk = record {
-          same = calls.same ∙ f.same;
+          same = calls.disk.handle ∙ f.handle;
           cause = record {
-            never_falls = omega (arith, calls.cause.never_falls, f.faults);
-            rose = λ is. omega (arith, calls.cause.rose (fails.0 is), f.faults);
-            only = λ less. fails.1 (calls.cause.only (omega (arith, less, f.faults)));
+            never_falls = omega (arith, calls.disk.cause.never_falls, f.faults);
+            rose = λ is. omega (arith, calls.disk.cause.rose (fails.0 is), f.faults);
+            only = λ less. fails.1 (calls.disk.cause.only (omega (arith, less, f.faults)));
           };
-          calm = λ w. let c = calls.faultless (f.calm w) in (c.0, c.1 ∙ f.faults);
+          calm = λ w. let c = calls.disk.faultless (f.faultless w) in (c.0, c.1 ∙ f.faults);
         };
         lasts = record {
-          told = calls.told ∙ f.told;
-          any_moment = λ told r. on_holdings old then (HasFront old.records new) (runs.joined g.moment g.left_since old.disk mid.disk last.disk (HasFront old.records new) (found old.disk mid.disk old.records new (all told) f) (fronts (subst IsTrue (sym f.told) told)));
-          stable = λ told. all_of_records K last.records last.is_stopped (g.may_leave last.disk) w (stands (subst IsTrue calls.told told));
+          told = calls.disk.tells ∙ f.tells;
+          any_moment = λ told r. on_holdings old then (HasFront old.records new) (runs.joined g.moment g.left_since old.disk mid.disk last.disk (HasFront old.records new) (found old.disk mid.disk old.records new (all told) f) (fronts (subst IsTrue (sym f.tells) told)));
+          stable = λ told. all_of_records K last.records last.is_stopped (g.may_leave last.disk) w (stands (subst IsTrue calls.disk.tells told));
           untouched = λ was. absurd (untrue (sym was ∙ ran));
         };
         calls = record {

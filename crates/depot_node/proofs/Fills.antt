@@ -6,7 +6,6 @@ use Rattle.depot_base.specs.Disk.{LeavesOnly}
 use Rattle.depot_base.specs.declared.key.PublicKey.{PublicKey}
 use Rattle.depot_base.specs.declared.key.RosterEntry.{RosterEntry}
 use Rattle.depot_base.specs.declared.record.Record.{Record}
-use Rattle.depot_journal.specs.JournalAnswers.{SaysDamaged}
 use Rattle.depot_journal.specs.declared.journal_error.JournalError.{JournalError}
 use Rattle.depot_journal.specs.declared.journal_error.JournalError.TheVariants as journal_error
 use Rattle.depot_model.specs.checks.Checks.{Setting}
@@ -162,7 +161,5 @@ key_is_no_disk listed me key e fault is = subst (λ (x : StartError). IsKeyFault
 
 -- ---- of the journal's own errors
 
-pub says_damaged : (e : JournalError) → LeavesFile (of_journal e) → SaysDamaged e
-says_damaged journal_error.Memory leaves = leaves
-says_damaged journal_error.Disk leaves = leaves
-says_damaged (journal_error.Damaged at) leaves = tt
+pub not_disk : (e : JournalError) → LeavesFile (of_journal e) → e ≢ journal_error.Disk
+not_disk e leaves is = subst (λ (x : JournalError). LeavesFile (of_journal x)) is leaves

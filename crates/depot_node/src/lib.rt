@@ -36,6 +36,6 @@ mod take;
 mod vouch;
 
 pub use depot_model::{PutDone, PutError, RecordFault, TakeError, Taken};
-pub use node::{Node, OnDisk};
+pub use node::{DetachedNode, Node, OnDisk};
 pub use node_laws::lawful_files_start;
 pub use start_error::StartError;

@@ -1,5 +1,9 @@
 //! The node.
-ghost use Rattle.std.specs.Prelude.{◌≡◌, ◌<◌, ◌≤◌, ◌^◌, length, false, refl, Some, All, slice_get};
+ghost use Rattle.std.specs.Prelude.{◌≡◌, ◌<◌, ◌≤◌, ◌^◌, length, map, false, refl, IsTrue, Some, All, slice_get};
+ghost use Rattle.depot_base.specs.Disk.{Only};
+ghost use Rattle.depot_base.specs.File.{blocks};
+ghost use Rattle.depot_journal.specs.WriteSteps.{StandsTo};
+ghost use Rattle.depot_model.specs.texts.Records.{text_of_record};
 ghost use Rattle.depot_model.specs.journals.Journal.{accepted};
 ghost use Rattle.depot_model.specs.lists.Items.{updates_at};
 ghost use Rattle.depot_model.specs.updates.Order.{AreLatestIn};
@@ -11,10 +15,11 @@ ghost use Rattle.depot_node.specs.Keyed.{HasKey-prop, IsKept-prop};
 ghost use Rattle.depot_node.specs.StoreCalls.{IsKept};
 
 use crate::put::{put, put_all};
-use crate::store::Store;
+use crate::store::{DetachedStore, Store};
 use crate::take::{take_proof, take_statement, take_value};
 use depot_base::{Changes, Hash32, Key, NamedValue, NodeId, Update, Value};
 use depot_graph::Graph;
+use depot_journal::NullDisk;
 use depot_model::{NodeState, Past, PutDone, PutError, Replica, Scheme, Signer, TakeError, Taken};
 use depot_outside::Disk;
 use depot_queries::{LocalNode, held_as};
@@ -33,6 +38,17 @@ pub struct Node<D: Disk, S: Scheme, G: Signer<Of = S>> {
     ghost keyed: { key_of store.listed store.me ≡ Some (G.key_of signer) } by { HasKey-prop store.listed store.me (G.key_of signer) },
 }
 
+/// A node in memory, the disk from which it was detached, and the offset of the closed gate in the disk's file.
+#[derive(Drop)]
+pub struct DetachedNode<D: Disk, S: Scheme, G: Signer<Of = S>> {
+    /// The node: what its journal grows by reaches no disk.
+    pub node: Node<NullDisk, S, G>,
+    /// The disk, as the node left it.
+    pub disk: D,
+    /// The offset of the closed gate, at which a group of records is appended.
+    pub gate: u64,
+}
+
 /// Something with a journal on a disk that contracts see.
 pub trait OnDisk<D> {
     /// The disk.
@@ -49,6 +65,37 @@ impl<D: Disk, S: Scheme, G: Signer<Of = S>> Node<D, S, G> {
         ensures { result ≡ ⟦<Node<D, S, G> as OnDisk<D>>⟧.disk self }
     {
         self.store.into_disk()
+    }
+
+    /// Detaches the node from its disk: it goes on in memory. What its journal grows by is to be appended to the disk's
+    /// file, too, by `depot_journal::append_group`. It takes no memory.
+    pub fn detach(self) -> DetachedNode<D, S, G>
+        ensures stands { ⟦<Node<NullDisk, S, G> as NodeState>⟧.stands result.node ≡ ⟦<Node<D, S, G> as NodeState>⟧.stands self }
+        ensures records { ⟦<Node<NullDisk, S, G> as NodeState>⟧.records result.node ≡ ⟦<Node<D, S, G> as NodeState>⟧.records self }
+        ensures key { ⟦<Node<NullDisk, S, G> as NodeState>⟧.key result.node ≡ ⟦<Node<D, S, G> as NodeState>⟧.key self }
+        ensures signs { ⟦<Node<NullDisk, S, G> as NodeState>⟧.signature_of result.node ≡ ⟦<Node<D, S, G> as NodeState>⟧.signature_of self }
+        ensures stopped { ⟦<Node<NullDisk, S, G> as NodeState>⟧.stopped result.node ≡ ⟦<Node<D, S, G> as NodeState>⟧.stopped self }
+        ensures disk { result.disk ≡ ⟦<Node<D, S, G> as OnDisk<D>>⟧.disk self }
+        ensures gate { result.gate ≡ length (blocks (map text_of_record (⟦<Node<D, S, G> as NodeState>⟧.records self))) }
+        // While it isn't stopped, its records are in the file up to that gate, and nothing is unsynced.
+        ensures file { ⟦<Node<D, S, G> as NodeState>⟧.stopped self ≡ false → IsTrue (D.tells result.disk) → StandsTo (D.seen result.disk) (map text_of_record (⟦<Node<D, S, G> as NodeState>⟧.records self)) result.gate }
+        ensures stable { ⟦<Node<D, S, G> as NodeState>⟧.stopped self ≡ false → IsTrue (D.tells result.disk) → Only (D.seen result.disk) (D.may_leave result.disk) }
+    {
+        let Node {
+            alloc,
+            store,
+            signer,
+        } = self;
+        let DetachedStore { store, disk, gate } = store.detach();
+        DetachedNode {
+            node: Node {
+                alloc,
+                store,
+                signer,
+            },
+            disk,
+            gate,
+        }
     }
 
     /// How many updates it accepted. It takes no memory.

@@ -4,6 +4,9 @@ ghost use Rattle.depot_model.specs.journals.Journal.{accepted};
 ghost use Rattle.depot_model.specs.journals.Lawful.{IsLawful};
 ghost use Rattle.depot_model.specs.texts.Records.{text_of_record};
 ghost use Rattle.depot_model.specs.journals.Stops.{LeavesAll};
+ghost use Rattle.depot_base.specs.Disk.{Only};
+ghost use Rattle.depot_base.specs.File.{blocks};
+ghost use Rattle.depot_journal.specs.WriteSteps.{StandsTo};
 ghost use Rattle.depot_accept.specs.StateView.{IsStateOf};
 ghost use Rattle.depot_decide.specs.Deciding.{AreJoined};
 ghost use Rattle.depot_node.specs.Holdings.{known, node_setting, with_records};
@@ -11,7 +14,7 @@ ghost use Rattle.depot_node.specs.Holdings.{known, node_setting, with_records};
 use depot_accept::{Parents, State};
 use depot_base::{Memory, NodeId};
 use depot_decide::keep_parents;
-use depot_journal::Journal;
+use depot_journal::{Detached, Journal, NullDisk};
 use depot_model::Scheme;
 use depot_outside::Disk;
 use depot_readings::{Growth, Readings};
@@ -29,6 +32,14 @@ pub struct Store<D: Disk, S: Scheme> {
     pub(crate) journal: Journal<D>,
     // How many of the journal's records were read.
     pub(crate) read: u32,
+}
+
+/// A store in memory, the disk from which it was detached, and the offset of the closed gate in the disk's file.
+#[derive(Drop)]
+pub(crate) struct DetachedStore<D: Disk, S: Scheme> {
+    pub(crate) store: Store<NullDisk, S>,
+    pub(crate) disk: D,
+    pub(crate) gate: u64,
 }
 
 impl<D: Disk, S: Scheme> Model for Store<D, S> {
@@ -114,6 +125,39 @@ impl<D: Disk, S: Scheme> Store<D, S> {
         } = self;
         drop(readings);
         journal.into_disk()
+    }
+
+    /// Detaches the store from its disk: it goes on in memory. It takes no memory.
+    pub(crate) fn detach(self) -> DetachedStore<D, S>
+        ensures me { result.store.me ≡ self.me }
+        ensures listed { result.store.listed ≡ self.listed }
+        ensures records { result.store.records ≡ self.records }
+        ensures unread { result.store.unread ≡ self.unread }
+        ensures stopped { result.store.stopped ≡ self.stopped }
+        ensures disk { result.disk ≡ self.disk }
+        ensures gate { self.unread ≡ [] → result.gate ≡ length (blocks (map text_of_record self.records)) }
+        ensures stands { self.unread ≡ [] → self.stopped ≡ false → IsTrue (D.tells self.disk) → StandsTo (D.seen self.disk) (map text_of_record self.records) result.gate }
+        ensures stable { self.stopped ≡ false → IsTrue (D.tells self.disk) → Only (D.seen self.disk) (D.may_leave self.disk) }
+    {
+        let Store {
+            readings,
+            journal,
+            read,
+        } = self;
+        let Detached {
+            journal,
+            disk,
+            gate,
+        } = journal.detach();
+        DetachedStore {
+            store: Store {
+                readings,
+                journal,
+                read,
+            },
+            disk,
+            gate,
+        }
     }
 
     /// Whether the disk has failed. The records are in each crash image. It takes no memory.

@@ -5,6 +5,7 @@ use Rattle.depot_base.specs.WithRest.{with_rest}
 use Rattle.depot_base.specs.declared.key.RosterEntry.{RosterEntry}
 use Rattle.depot_base.specs.declared.record.Record.{Record}
 use Rattle.depot_model.specs.journals.JournalCalls.{IsJournalCall}
+use Rattle.depot_journal.specs.DiskCalls.{OnlyReserves}
 use Rattle.depot_model.specs.checks.Limits.{IsCutShort}
 use Rattle.depot_model.specs.journals.Journal.{accepted}
 use Rattle.depot_model.specs.journals.Lawful.{IsLawful}
@@ -21,7 +22,7 @@ use Rattle.depot_node.specs.Holdings.{Holding, journal_on, node_setting}
 use Rattle.depot_node.specs.JournalRecords.{AreTextsFor, records_in_texts}
 use Rattle.depot_node.specs.StoreCalls.{IsWriteCall}
 use Rattle.depot_node.specs.declared.commit.WriteError.TheVariants as unwritten
-use Rattle.depot_node.proofs.AppendLaws.{IsFound, appended, covers, cut_appended, cut_short, disk_failed, store_over, unwritten_call, written_call}
+use Rattle.depot_node.proofs.AppendLaws.{appended, covers, cut_appended, cut_short, disk_failed, store_over, unwritten_call, written_call}
 use Rattle.depot_node.proofs.JournalTexts.{all_of_records, whole_texts}
 use Rattle.depot_node.proofs.SeenRecords.{given_texts, readings_are, whole_inside}
 use Rattle.depot_node.proofs.store.Store.append.Given.{Over}
@@ -63,15 +64,12 @@ ran g c = (whole_inside _ _ c.self.view_is c.requires.whole).runs
 old_texts : (g : Over) (c : After-reserve g) → AreTextsFor (J g c) c.self.inside.journal.records
 old_texts g c = whole_texts c.self.inside.read c.self.inside.journal.records c.self.invariant.0 (whole_inside _ _ c.self.view_is c.requires.whole).read
 
-found : (g : Over) (c : After-reserve g) → IsFound g.D.Disk c.self.inside.journal.disk c.reserve.new.self.disk
-found g c = record { same = c.reserve.ensures.handle; told = c.reserve.ensures.tells; faults = c.reserve.ensures.faults; calm = c.reserve.ensures.faultless; made = c.reserve.ensures.made; images = c.reserve.ensures.images; time = c.reserve.ensures.time }
-
 -- what comes of it where no record is appended
 unwritten_then : (g : Over) (c : After-reserve g) (then : Holding g.row.D.Denot) → then.disk ≡ c.reserve.new.self.disk → then.records ≡ J g c → then.stopped ≡ c.self.inside.journal.is_stopped → IsWriteCall g.D.Disk c.args.self.now then c.args.new (Err unwritten.Memory)
 unwritten_then g c then disk records stopped =
     subst (λ (v : Holding g.row.D.Denot). IsWriteCall g.D.Disk v then c.args.new (Err unwritten.Memory)) c.self.view_is
     (unwritten_call g.D.Disk g.met.D.Disk.only_now g.met.D.Disk.after_more _ then c.self.inside.journal.records c.args.new (ran g c) (old_texts g c) records stopped
-    (subst (λ (d : g.row.D.Denot). IsFound g.D.Disk c.self.inside.journal.disk d) (sym disk) (found g c)) c.is_stopped-runs.ensures.stable (λ e. cc))
+    (subst (λ (d : g.row.D.Denot). OnlyReserves g.D.Disk c.self.inside.journal.disk d) (sym disk) c.reserve.ensures.disk) c.is_stopped-runs.ensures.stable (λ e. cc))
 
 pub returns-in_default-clause-call : goal.returns-in_default-clause-call
 returns-in_default-clause-call g c =
@@ -115,8 +113,7 @@ written g c {failed} {nothing} K me listed unread w fails stops never grew =
     (all_of_records _ _ _ _ (whole_texts c.self.inside.read c.self.inside.journal.records c.self.invariant.0 whole.read) (c.is_stopped-runs.ensures.stable told)) in
     subst (λ (v : Holding g.row.D.Denot). IsJournalCall (journal_on g.D.Disk) v then c.args.new ⊥ failed nothing) c.self.view_is
     (written_call g.D.Disk g.met.D.Disk.only_now g.met.D.Disk.after_more _ me listed K c.args.new unread (texts g c) c.reserve.new.self c.append_all-written.new.self c.append_all-written.result whole.runs (c.reserve.ensures.running ∙ whole.runs) (mid_texts g c) (new_texts g c) w
-    (record { same = c.reserve.ensures.handle; told = c.reserve.ensures.tells; faults = c.reserve.ensures.faults; calm = c.reserve.ensures.faultless; made = c.reserve.ensures.made; images = c.reserve.ensures.images; time = c.reserve.ensures.time })
-    all c.append_all-written.ensures.calls c.append_all-written.ensures.any_moment c.append_all-written.ensures.stands fails stops never grew)
+    c.reserve.ensures.disk all c.append_all-written.ensures.calls c.append_all-written.ensures.any_moment c.append_all-written.ensures.stands fails stops never grew)
 
 -- ---- all were appended
 
@@ -144,7 +141,7 @@ pub returns-in-Ok-written-clause-call : goal.returns-in-Ok-written-clause-call
 returns-in-Ok-written-clause-call g c =
     let at = (goal.at.returns-in-Ok-written-clause-call g c).After-count-self-inside in
     let r = appended c.count-self-inside.result _ c.args.new c.reserve.new.self.records (texts g at) c.append_all-written.new.self.records (mid_texts g at) (new_texts g at) c.in-Ok-written.ensures.ok c.count-self-inside.ensures in
-    written g at _ _ _ _ (whole_texts c.count-self-inside.result c.append_all-written.new.self.records r.are r.left) (λ e. absurd cc, λ e. (let ok = sym c.in-Ok-written.is ∙ e in absurd cc)) (λ now. (let runs = sym c.in-Ok-written.ensures.running ∙ now in absurd cc), λ e. absurd cc) (λ e. cc) (λ well. (r.records, c.in-Ok-written.is))
+    written g at _ _ _ _ (whole_texts c.count-self-inside.result c.append_all-written.new.self.records r.are r.left) (λ e. absurd cc, λ e. (let ok = sym c.in-Ok-written.is ∙ e in absurd cc)) (λ now. (let runs = sym c.in-Ok-written.ensures.stops.runs ∙ now in absurd cc), λ e. absurd cc) (λ e. cc) (λ well. (r.records, c.in-Ok-written.is))
 
 -- ---- the disk failed
 
@@ -152,7 +149,7 @@ returns-in-Ok-written-clause-call g c =
 failed : (g : Over) (c : After-count-self-inside g) (e : AppendError) → c.append_all-written.result ≡ Err e → length c.args.new ≤ c.reserve.new.self.room_records → bytes_of_records c.args.new ≤ c.reserve.new.self.room_bytes + 5 * length c.args.new → IsErrOf c.append_all-written.result refused.Disk
 failed g c e is records bytes =
     disk_failed (node_setting g.S.Scheme.verifies c.args.self.now) c.reserve.new.self _ c.args.new (texts g c) c.append_all-written.result e is (mid_texts g c) (new_texts g c) (lawful_in g c) (covers c.reserve.new.self c.args.new (texts g c) (new_texts g c) records bytes)
-    (c.reserve.ensures.running ∙ (whole_inside _ _ c.self.view_is c.requires.whole).runs) c.append_all-written.ensures.limits c.append_all-written.ensures.memory c.append_all-written.ensures.stopped
+    (c.reserve.ensures.running ∙ (whole_inside _ _ c.self.view_is c.requires.whole).runs) c.append_all-written.ensures.limits c.append_all-written.ensures.memory c.append_all-written.ensures.stops.answered
 
 pub unreachable-requires : goal.unreachable-requires
 unreachable-requires g c =
@@ -165,7 +162,7 @@ invariant_of-self-in-Err-Disk g c =
     let at = (goal.at.invariant_of-self-in-Err-Disk g c).After-count-self-inside in
     let f = failed g at c.in-Err-Disk.field-0 c.in-Err-Disk.is (omega (arith, c.in-Ok.ensures.records, c.count-count.ensures.count)) (omega (arith, c.in-Ok.ensures.bytes, c.count-count.ensures.count, c.bytes.ensures.bytes)) in
     let cut = cut_appended c.count-self-inside.result _ c.args.new c.reserve.new.self.records (texts g at) c.append_all-written.new.self.records _ _ (mid_texts g at) (new_texts g at) (c.append_all-written.ensures.disk f) c.count-self-inside.ensures in
-    (cut.reads.are, cut.reads.within, λ runs. (let never = sym (c.append_all-written.ensures.stops f) ∙ runs in absurd cc))
+    (cut.reads.are, cut.reads.within, λ runs. (let never = sym (c.append_all-written.ensures.stops.failed f) ∙ runs in absurd cc))
 
 pub returns-in-Err-Disk-clause-appends : goal.returns-in-Err-Disk-clause-appends
 returns-in-Err-Disk-clause-appends g c =
@@ -179,4 +176,4 @@ returns-in-Err-Disk-clause-call g c =
     let at = (goal.at.returns-in-Err-Disk-clause-call g c).After-count-self-inside in
     let f = failed g at c.in-Err-Disk.field-0 c.in-Err-Disk.is (omega (arith, c.in-Ok.ensures.records, c.count-count.ensures.count)) (omega (arith, c.in-Ok.ensures.bytes, c.count-count.ensures.count, c.bytes.ensures.bytes)) in
     let cut = cut_appended c.count-self-inside.result _ c.args.new c.reserve.new.self.records (texts g at) c.append_all-written.new.self.records _ _ (mid_texts g at) (new_texts g at) (c.append_all-written.ensures.disk f) c.count-self-inside.ensures in
-    written g at _ _ _ _ (whole_texts c.count-self-inside.result c.append_all-written.new.self.records cut.reads.are cut.reads.left) (λ e. f, λ e. refl) (λ now. refl, λ e. c.append_all-written.ensures.stops f) (λ e. cc) (λ well. absurd (well refl))
+    written g at _ _ _ _ (whole_texts c.count-self-inside.result c.append_all-written.new.self.records cut.reads.are cut.reads.left) (λ e. f, λ e. refl) (λ now. refl, λ e. c.append_all-written.ensures.stops.failed f) (λ e. cc) (λ well. absurd (well refl))
