@@ -21,13 +21,10 @@ use Rattle.depot_model.specs.exchange.Feeding.{Feeding, Closing, ill_formed, out
 use Rattle.depot_model.specs.declared.bundle.Ending.{Ending}
 use Rattle.depot_model.specs.declared.bundle.Ending.TheVariants as ending
 use Rattle.depot_model.specs.checks.Limits.{Limit, spent, tips, collides, full}
-use Rattle.depot_model.specs.journals.Journal.{accepted}
 use Rattle.depot_model.specs.texts.Lines.{name_of_kind}
-use Rattle.depot_model.specs.readers.Opening.{Opened, ill_at, of_roster, with_unknown, opened}
-use Rattle.depot_model.specs.readers.ReaderFeeds.{ReaderFeed}
-use Rattle.depot_model.specs.readers.Readers.{kept, TrimAnswer, unopened, unsigned, reading}
 use Rattle.depot_model.specs.worlds.Receipts.{NoReceipt, unknown, lacks_value}
 use Rattle.depot_model.specs.worlds.World.{Shown}
+use Rattle.depot_answers.specs.declared.reader_answers.ReaderCounts.{ReaderCounts}
 use Rattle.depot_lines.specs.declared.line_fault.LineFault.{LineFault}
 use Rattle.depot_lines.specs.declared.line_fault.LineFault.TheVariants as line_fault
 
@@ -204,13 +201,6 @@ text_of_empty = codes "Empty"
 abbrev pub text_of_many : ℕ → List ℕ
 text_of_many n = text_of_number (codes "Many") n
 
--- why a text isn't opened as a checkpoint's, whatever the roster and the id; nothing for one that is
-abbrev pub text_of_unopened : Opened → List ℕ
-text_of_unopened (ill_at at) = text_of_number (codes "IllFormed") at
-text_of_unopened (of_roster given) = codes "OtherRoster"
-text_of_unopened (with_unknown id) = codes "Unknown"
-text_of_unopened (opened ids) = []
-
 -- the first node of the roster that didn't sign a checkpoint
 abbrev pub text_of_unsigned : ℕ → List ℕ
 text_of_unsigned node = text_of_number (codes "Unsigned") node
@@ -219,21 +209,15 @@ text_of_unsigned node = text_of_number (codes "Unsigned") node
 abbrev pub text_of_kept : ℕ → ℕ → List ℕ
 text_of_kept left all = text_of_number (codes "kept") left ++ spaced (text_of_number (codes "of") all)
 
--- the reader that was made, or why none was
-abbrev pub text_of_trim : TrimAnswer → List ℕ
-text_of_trim (unopened why) = text_of_unopened why
-text_of_trim (unsigned node) = text_of_unsigned node
-text_of_trim (reading R) = text_of_kept (length (kept R)) (length (accepted R.journal))
-
 -- what is full, after a space, where something is
 abbrev pub text_where_full : Option Full → List ℕ
 text_where_full None = []
 text_where_full (Some f) = spaced (text_of_full f)
 
 -- how many frames of a stream were new, known, refused and below; and what was full, if one found no room
-unfoldable pub text_of_reader_feed : ReaderFeed → List ℕ
-text_of_reader_feed s =
-    text_of_number (codes "accepted") s.accepted ++ spaced (text_of_number (codes "known") s.known) ++ spaced (text_of_number (codes "refused") s.refused) ++ spaced (text_of_number (codes "below") s.below) ++ text_where_full s.full
+unfoldable pub text_of_reader_feed : ReaderCounts → Option Full → List ℕ
+text_of_reader_feed c met =
+    text_of_number (codes "accepted") c.accepted ++ spaced (text_of_number (codes "known") c.known) ++ spaced (text_of_number (codes "refused") c.refused) ++ spaced (text_of_number (codes "below") c.below) ++ text_where_full met
 
 -- ---- texts of lines
 

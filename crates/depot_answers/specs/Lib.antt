@@ -1,4 +1,3 @@
 pub mod AnswerTexts
 pub mod Closings
 pub mod Sightings
-pub mod CountedFeeds

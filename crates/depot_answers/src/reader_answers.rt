@@ -1,7 +1,6 @@
 //! Checkpoints that are made or not, and readers that are made by them.
 ghost use Rattle.std.specs.Prelude.{◌≡◌, ◌++◌, OnOk};
-ghost use Rattle.depot_answers.specs.AnswerTexts.{text_of_empty, text_of_kept, text_of_many, text_of_unsigned, text_where_full};
-ghost use Rattle.depot_answers.specs.CountedFeeds.{TellsFeed};
+ghost use Rattle.depot_answers.specs.AnswerTexts.{text_of_empty, text_of_kept, text_of_many, text_of_reader_feed, text_of_unsigned, text_where_full};
 
 use crate::limit_answers::full;
 use crate::words::{numbered, numbered_node, spaced_number, text};
@@ -77,7 +76,7 @@ pub fn reader_feed(
     counts: ReaderCounts,
     met: Option<Full>,
 ) -> Result<(), Memory>
-    ensures { OnOk result (TellsFeed counts met out.old out.new) }
+    ensures { OnOk result (out.new ≡ out.old ++ text_of_reader_feed counts met) }
 {
     numbered(alloc, out, "accepted", counts.accepted as u64)?;
     spaced_number(alloc, out, "known", counts.known as u64)?;

@@ -1,22 +1,13 @@
-//! What a node knows, for a program beside it: its status, convictions, keys, latest writes, updates; questions and
-//! answers as bytes.
+//! What a node knows, answered to the program beside it: its status, convictions, keys, latest writes and updates; and
+//! questions and answers as bytes.
 //!
-//! # Questions
-//!
-//! What a node knows, answered to the program beside it.
-//!
-//! A `Question` is a value, and so is the `QuestionAnswer`. The answer is defined once (`specs/Answers.antt`), by the
-//! node's setting and its journal alone. Asking changes nothing: `ask` borrows the node immutably.
-//!
-//! Long answers come in pages (`limits.rt`): each says whether there is more, and the next question names where to
-//! continue.
-//!
-//! # Question texts
-//!
-//! The texts of questions and of answers (docs/FORMATS.md, "Requests").
-//!
-//! Each is a byte for its kind, and the kind's fields, like requests and replies. The kinds are 16 to 22, in
-//! hexadecimal 10 to 16, which no request has. A text is that of one question, or has its first fault at one offset.
+//! - A `Question` is a value, and so is the `QuestionAnswer`. The answer is defined once (`specs/Answers.antt`), by
+//!   the node's setting and its journal alone. Asking changes nothing: `ask` borrows the node immutably.
+//! - Long answers come in pages (`limits.rt`): each says whether there is more, and the next question names where to
+//!   continue.
+//! - The texts of questions and answers (`decode_question`, `encode_answer`; docs/FORMATS.md, "Requests"): each is a
+//!   byte for its kind, and the kind's fields, like requests and replies. The kinds are 16 to 22, in hexadecimal 10 to
+//!   16, which no request has. A text is that of one question, or has its first fault at one offset.
 #![tactic(auto)]
 
 mod answer_parts;

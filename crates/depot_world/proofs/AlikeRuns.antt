@@ -21,8 +21,7 @@ use Rattle.depot_model.specs.updates.Judgement.{first_failed_point, verdict_of}
 use Rattle.depot_model.specs.texts.Lines.{text_of_point, text_of_verdict}
 use Rattle.depot_model.specs.lists.Lists.{IsIn, when}
 use Rattle.depot_model.specs.checks.Own.{values_of}
-use Rattle.depot_model.specs.readers.ReaderFeeds.{reader_feed_of}
-use Rattle.depot_model.specs.readers.Readers.{Reader, trim_of}
+use Rattle.depot_model.specs.readers.Readers.{trim_of}
 use Rattle.depot_model.specs.texts.Texts.{id_of_update}
 use Rattle.depot_model.specs.declared.judgement.JudgeError.{JudgeError}
 use Rattle.depot_model.proofs.lists.Members.{map_same}
@@ -35,6 +34,8 @@ use Rattle.depot_schedule.specs.declared.event.Ref.TheVariants as ref
 use Rattle.depot_answers.specs.AnswerTexts.{spaced}
 use Rattle.depot_world.specs.Audits.{IsSound, audited}
 use Rattle.depot_model.specs.checks.Vouching.{rising}
+use Rattle.depot_requests.specs.declared.reader_request.ReaderUse.{ReaderUse}
+use Rattle.depot_requests.specs.declared.reader_request.ReaderUse.TheVariants as uses
 use Rattle.depot_requests.specs.Effects.{Effect}
 use Rattle.depot_requests.specs.Requests.{effect_of}
 use Rattle.depot_requests.specs.declared.request.Request.{Request}
@@ -44,10 +45,10 @@ use Rattle.depot_world.specs.EventRequests.{label_by, piece_of, request_in}
 use Rattle.depot_world.specs.ScheduleStops.{restart_by}
 use Rattle.depot_world.specs.FaultySigning.{Text, no_reference, counted_bytes, all_of, all_referred, prev_of_ref, updated, update_text, vouched_text, proof_with, proof_text, hollow_text, proof_in, flip_at}
 use Rattle.depot_world.specs.Forgetting.{labels_of_ref, labels_of_prev, labels_of_refs, labels_in, labels_without, with_labels, NoneNames, NameTheSame, NameTheSameIn, IsAlikeFor, GoesAlike}
-use Rattle.depot_world.specs.Run.{Host, Labelled, Run, made_in, host_in, reader_in, bytes_of_label, signed_of, first_update, referred, plain_referred, id_referred, seen_with, world_by, with_host}
+use Rattle.depot_world.specs.Run.{Host, Labelled, Run, made_in, host_in, bytes_of_label, signed_of, first_update, referred, plain_referred, id_referred, seen_with, world_by, with_host}
 use Rattle.depot_world.specs.ScheduleStops.{EventResult, event_result}
 use Rattle.depot_world.specs.Setups.{Setup, stands_on, signs_on}
-use Rattle.depot_world.specs.Transcript.{Done, pending_at, done_at_node, done_by_node, done_by_text, done_by_update, done, judged_with, lines_of, asked_for, trimmed_with, trim_at, reader_told, tgive_by, audit_by}
+use Rattle.depot_world.specs.Transcript.{Done, pending_at, done_at_node, done_by_node, done_by_text, done_by_update, done, judged_with, lines_of, asked_for, trimmed_with, trim_at, used_at, audit_by}
 
 -- ---- what a label names
 
@@ -252,13 +253,8 @@ trim_alike es setup run few node text name same = by_host (host_in run.hosts nod
   by_host None = same_run es run few [] [] same
   by_host (Some s) = let d = trimmed_with run name (trim_of (stands_on setup node) s.correct.journal text) in same_run es d.run few d.answer [] same
 
-tgive_alike : (es : List Event) (run : Run) (few : List Labelled) (name stream : List ℕ) → NameTheSameIn es run.labels few → CameAlike es (tgive_by run name stream) (tgive_by (with_labels run few) name stream)
-unfolding tgive_by
-tgive_alike es run few name stream same = by_reader (reader_in run.readers name) where
-  by_reader : (o : Option Reader) → CameAlike es (elim o as (λ x. Done) [ None ↦ record { answer = []; behind = []; run = run } | Some R ↦ reader_told run name (reader_feed_of R stream) ])
-      (elim o as (λ x. Done) [ None ↦ record { answer = []; behind = []; run = with_labels run few } | Some R ↦ reader_told (with_labels run few) name (reader_feed_of R stream) ])
-  by_reader None = same_run es run few [] [] same
-  by_reader (Some R) = let d = reader_told run name (reader_feed_of R stream) in same_run es d.run few d.answer [] same
+used_alike : (es : List Event) (run : Run) (few : List Labelled) (name : List ℕ) (u : ReaderUse) → NameTheSameIn es run.labels few → CameAlike es (used_at run name u) (used_at (with_labels run few) name u)
+used_alike es run few name u same = let d = used_at run name u in same_run es d.run few d.answer [] same
 
 audit_alike : (es : List Event) (setup : Setup) (run : Run) (few : List Labelled) → NameTheSameIn es run.labels few → CameAlike es (audit_by setup run) (audit_by setup (with_labels run few))
 unfolding audited
@@ -295,8 +291,8 @@ done_alike setup es run few (event.Join label first second) now same =
 done_alike setup es run few (event.Stop node call image) now same = pending_alike es run few node call image same
 done_alike setup es run few event.Audit now same = audit_alike es setup run few same
 done_alike setup es run few (event.Trim node label name) now same = by_bytes es run few label (λ r bytes. trim_at setup r node bytes name) (now label (inl refl)) (λ bytes. trim_alike es setup run few node bytes name same)
-done_alike setup es run few (event.Tgive name label) now same = by_bytes es run few label (λ r bytes. tgive_by r name bytes) (now label (inl refl)) (λ bytes. tgive_alike es run few name bytes same)
-done_alike setup es run few (event.Tget name key) now same = same_run es run few _ [] same
+done_alike setup es run few (event.Tgive name label) now same = by_bytes es run few label (λ r bytes. used_at r name (uses.Give bytes)) (now label (inl refl)) (λ bytes. used_alike es run few name (uses.Give bytes) same)
+done_alike setup es run few (event.Tget name key) now same = used_alike es run few name (uses.Get key) same
 done_alike setup es run few e now same = asking_alike setup es run few e now same
 
 -- ---- the law

@@ -9,8 +9,7 @@ use Rattle.depot_model.specs.updates.Judgement.{first_failed_point, verdict_of}
 use Rattle.depot_model.specs.texts.Lines.{text_of_point, text_of_verdict}
 use Rattle.depot_model.specs.lists.Lists.{IsIn}
 use Rattle.depot_model.specs.checks.Own.{values_of}
-use Rattle.depot_model.specs.readers.ReaderFeeds.{reader_feed_of}
-use Rattle.depot_model.specs.readers.Readers.{Reader, trim_of}
+use Rattle.depot_model.specs.readers.Readers.{trim_of}
 use Rattle.depot_model.specs.worlds.World.{Correct, Read}
 use Rattle.depot_model.specs.declared.judgement.JudgeError.{JudgeError}
 use Rattle.depot_answers.specs.AnswerTexts.{spaced}
@@ -24,10 +23,10 @@ use Rattle.depot_requests.specs.Effects.{read_at_end, Effect}
 use Rattle.depot_world.specs.ScheduleStops.{restart_by}
 use Rattle.depot_world.specs.EventRequests.{label_by, request_in}
 use Rattle.depot_world.specs.FaultySigning.{updated, proof_in}
-use Rattle.depot_world.specs.Run.{PendingStop, Host, Run, bytes_of_label, reader_in, host_in, put_host, with_host}
+use Rattle.depot_world.specs.Run.{PendingStop, Host, Run, bytes_of_label, host_in, put_host, with_host}
 use Rattle.depot_world.specs.ScheduleStops.{EventResult, journal_left, stopped_with, result_by, result_pending, event_result}
 use Rattle.depot_world.specs.Setups.{Setup, stands_on, signs_on}
-use Rattle.depot_world.specs.Transcript.{Done, pending_at, done_at_node, done_by_node, done_by_update, done, judged_with, asked_for, run_after, trimmed_with, trim_at, reader_told, tgive_by}
+use Rattle.depot_world.specs.Transcript.{Done, pending_at, done_at_node, done_by_node, done_by_update, done, judged_with, asked_for, run_after, trimmed_with, trim_at}
 use Rattle.depot_world.proofs.of_worlds.GoodRuns.{numbers_of, found_is, from_put_host, same_numbers}
 
 -- ---- lists
@@ -164,13 +163,6 @@ trim_adds setup run node text name = by_host (host_in run.hosts node) where
   by_host None = none_added run.hosts
   by_host (Some s) = none_added run.hosts
 
-tgive_adds : (run : Run) (name stream : List ℕ) → AddsReads run.hosts (tgive_by run name stream).run.hosts
-unfolding tgive_by
-tgive_adds run name stream = by_reader (reader_in run.readers name) where
-  by_reader : (o : Option Reader) → AddsReads run.hosts (elim o as (λ x. Done) [ None ↦ record { answer = []; behind = []; run = run } | Some R ↦ reader_told run name (reader_feed_of R stream) ]).run.hosts
-  by_reader None = none_added run.hosts
-  by_reader (Some R) = none_added run.hosts
-
 update_adds : (sign : Signs) (run : Run) (label : List ℕ) (values : List (List ℕ)) (o : Option Update) → AddsReads run.hosts (done_by_update sign run label values o).run.hosts
 update_adds sign run label values None = none_added run.hosts
 update_adds sign run label values (Some u) = none_added run.hosts
@@ -200,7 +192,7 @@ event_adds setup run (event.Join label first second) = none_added run.hosts
 event_adds setup run (event.Stop node call image) = pending_adds run node call image
 event_adds setup run event.Audit = none_added run.hosts
 event_adds setup run (event.Trim node label name) = trim_adds setup run node (bytes_of_label run label) name
-event_adds setup run (event.Tgive name label) = tgive_adds run name (bytes_of_label run label)
+event_adds setup run (event.Tgive name label) = none_added run.hosts
 event_adds setup run (event.Tget name key) = none_added run.hosts
 event_adds setup run e = asked_adds setup run (event_node e) (label_by e) (request_in run e)
 

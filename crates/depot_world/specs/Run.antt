@@ -141,6 +141,11 @@ unfoldable pub put_reader : List ℕ → Reader → List NamedReader → List Na
 put_reader name R [] = []
 put_reader name R (r ∷ rs) = if bytes_eq r.name name then record { name = r.name; reader = Some R } ∷ rs else r ∷ put_reader name R rs
 
+-- the same if there is one
+abbrev pub readers_with : List ℕ → Option Reader → List NamedReader → List NamedReader
+readers_with name None rs = rs
+readers_with name (Some R) rs = put_reader name R rs
+
 -- a node's host in place of the one before
 unfoldable pub put_host : Host → List Host → List Host
 put_host s [] = []

@@ -1,7 +1,6 @@
 -- What a schedule makes happen, event by event: the world and the transcript.
 use Rattle.std.specs.Prelude.{ℕ, List, [], ◌∷◌, ◌++◌, take, drop, false, Option, Some, None, Result, Ok, Err, codes}
 use Rattle.std.specs.List.{flat_map}
-use Rattle.std.specs.Option.{option_map_or}
 use Rattle.depot_base.specs.Writes.{one_change}
 use Rattle.depot_base.specs.declared.proof.Proof.{Proof}
 use Rattle.depot_base.specs.declared.update.Update.{Update}
@@ -11,8 +10,7 @@ use Rattle.depot_model.specs.exchange.Bundle.{Signs}
 use Rattle.depot_model.specs.updates.Judgement.{verdict_of}
 use Rattle.depot_model.specs.texts.Lines.{text_of_point, text_of_verdict}
 use Rattle.depot_model.specs.checks.Own.{values_of}
-use Rattle.depot_model.specs.readers.ReaderFeeds.{ReaderFeed, reader_feed_of}
-use Rattle.depot_model.specs.readers.Readers.{Reader, TrimAnswer, unopened, unsigned, reading, trim_of, shown_by_reader}
+use Rattle.depot_model.specs.readers.Readers.{TrimAnswer, trim_of}
 use Rattle.depot_model.specs.worlds.World.{World}
 use Rattle.depot_lines.specs.Language.{join}
 use Rattle.depot_schedule.specs.EventLines.{event_node}
@@ -22,14 +20,17 @@ use Rattle.depot_schedule.specs.declared.event.Event.TheVariants as event
 use Rattle.depot_schedule.specs.declared.event.HistoryWord.{HistoryWord}
 use Rattle.depot_schedule.specs.declared.event.Ref.{Ref}
 use Rattle.depot_schedule.specs.declared.schedule.Schedule.{Schedule}
-use Rattle.depot_answers.specs.AnswerTexts.{spaced, text_of_finding, text_of_trim, text_of_reader_feed, text_of_write}
+use Rattle.depot_answers.specs.AnswerTexts.{spaced, text_of_finding}
 use Rattle.depot_world.specs.Audits.{audited}
 use Rattle.depot_requests.specs.Effects.{Effect, ended}
 use Rattle.depot_requests.specs.Requests.{effect_of}
+use Rattle.depot_requests.specs.ReaderRequests.{answer_of_reader_reply, made_served, use_served}
+use Rattle.depot_requests.specs.declared.reader_request.ReaderUse.{ReaderUse}
+use Rattle.depot_requests.specs.declared.reader_request.ReaderUse.TheVariants as uses
 use Rattle.depot_requests.specs.declared.request.Request.{Request}
 use Rattle.depot_world.specs.EventRequests.{label_by, request_in}
 use Rattle.depot_world.specs.ScheduleStops.{restart_by}
-use Rattle.depot_world.specs.Run.{Run, Host, run_of, world_by, host_in, bytes_of_label, reader_in, seen_with, with_label, with_reader, put_reader, with_host}
+use Rattle.depot_world.specs.Run.{Run, Host, run_of, world_by, host_in, bytes_of_label, reader_in, seen_with, with_label, with_reader, readers_with, with_host}
 use Rattle.depot_world.specs.FaultySigning.{Text, no_reference, counted_bytes, updated, update_text, vouched_text, proof_text, hollow_text, proof_in, point_by, flip_at}
 use Rattle.depot_world.specs.ScheduleStops.{EventResult, event_result}
 use Rattle.depot_world.specs.Setups.{Setup, setup_of, stands_on, signs_on}
@@ -82,15 +83,9 @@ audit_by setup run = record { answer = spaced (text_of_finding (finding_in (audi
 
 -- ---- readers
 
--- the reader that a trim made, if it wasn't refused
-abbrev pub reader_made : TrimAnswer → Option Reader
-reader_made (unopened why) = None
-reader_made (unsigned node) = None
-reader_made (reading R) = Some R
-
 -- what a node answers is printed; its reader, if there is one, gets this name
 abbrev pub trimmed_with : Run → List ℕ → TrimAnswer → Done
-trimmed_with run name answer = record { answer = spaced (text_of_trim answer); behind = []; run = with_reader run (record { name = name; reader = reader_made answer }) }
+trimmed_with run name answer = let d = made_served answer in record { answer = answer_of_reader_reply d.reply; behind = []; run = with_reader run (record { name = name; reader = d.reader }) }
 
 -- a reader is made of a node and a checkpoint's text; the node and its disk are unchanged
 unfoldable pub trim_at : Setup → Run → ℕ → List ℕ → List ℕ → Done
@@ -99,24 +94,9 @@ trim_at setup run node text name = elim (host_in run.hosts node) [
   | Some s ↦ trimmed_with run name (trim_of (stands_on setup node) s.correct.journal text)
 ]
 
--- what a reader made of a stream is printed, and it goes on
-abbrev pub reader_told : Run → List ℕ → ReaderFeed → Done
-reader_told run name s = record { answer = spaced (text_of_reader_feed s); behind = []; run = record run { readers = put_reader name s.reader run.readers } }
-
--- the reader of a name takes a stream; if none was made, nothing is printed
-unfoldable pub tgive_by : Run → List ℕ → List ℕ → Done
-tgive_by run name stream = elim (reader_in run.readers name) [
-  | None ↦ record { answer = []; behind = []; run = run }
-  | Some R ↦ reader_told run name (reader_feed_of R stream)
-]
-
--- what a reader shows of a key, as a read of a node is printed
-abbrev pub answer_of_reader : Reader → List ℕ → List ℕ
-answer_of_reader R key = flat_map (λ w. spaced (text_of_write w)) (shown_by_reader R key)
-
--- the reader of a name reads a key; if none was made, nothing is printed
-abbrev pub tget_by : Run → List ℕ → List ℕ → Done
-tget_by run name key = record { answer = option_map_or (λ R. answer_of_reader R key) (reader_in run.readers name) []; behind = []; run = run }
+-- the reader of a name is used, and goes on; if none was made, nothing is printed
+abbrev pub used_at : Run → List ℕ → ReaderUse → Done
+used_at run name u = let d = use_served (reader_in run.readers name) u in record { answer = answer_of_reader_reply d.reply; behind = []; run = record run { readers = readers_with name d.reader run.readers } }
 
 -- ---- events that no correct node takes part in
 
@@ -162,8 +142,8 @@ done setup run (event.Join label first second) = done_by_text run label (counted
 done setup run (event.Stop node call image) = pending_at run node call image
 done setup run event.Audit = audit_by setup run
 done setup run (event.Trim node label name) = trim_at setup run node (bytes_of_label run label) name
-done setup run (event.Tgive name label) = tgive_by run name (bytes_of_label run label)
-done setup run (event.Tget name key) = tget_by run name key
+done setup run (event.Tgive name label) = used_at run name (uses.Give (bytes_of_label run label))
+done setup run (event.Tget name key) = used_at run name (uses.Get key)
 done setup run e = asked_for setup run (event_node e) (label_by e) (request_in run e)
 
 -- ---- its lines

@@ -1,32 +1,21 @@
-//! What a schedule means: its world and its transcript; long schedules that a number makes, and the line that sums up a
-//! transcript.
+//! What a schedule means: its world and its transcript; and loads, long schedules that numbers make, with the summary
+//! of their transcripts. Nothing here plays a schedule over nodes: the commands `replay` and `load` do that
+//! (`depot_replay`, `depot_cli`).
 //!
-//! # World
-//!
-//! The world and the transcript of a schedule.
-//!
-//! `specs` defines what a schedule makes happen, event by event, over one journal and one list of reads for each
-//! correct node, one list of bytes for each label, and one reader for each name: `world_of` is the resulting world, and
-//! `transcript_of` is what is printed. `Effects` has what a correct node does, `ScheduleStops` the crash images of its
-//! disk, `FaultySigning` what faulty nodes sign, `Transcript` what readers do, `Audits` the traces of nodes and the
-//! world that an audit examines, and `Forgetting` which labels events name, and when runs agree though labels are gone.
-//!
-//! `world_laws` has the laws: this is a world, whatever faulty nodes sign and send and wherever disks stop. So the laws
-//! of worlds hold of it.
-//!
-//! # Load
-//!
-//! Loads: long schedules that numbers make, and the summary of their transcripts.
-//!
-//! `specs/Loads.antt` defines the schedule of a number, round by round. Each load has a text (`IsSchedule`), so it can
-//! be printed and replayed. `specs/Summaries.antt` defines the summary of a transcript over its bytes, line by line,
-//! and of any other text too.
-//!
-//! A `LoadDraft` is a load as it grows: `rounds` has its rounds and `closing` its end, `event_parts` what its events
-//! name, and `making` all of it. `transcript_lines` reads what a line of a transcript says of a load, `load_totals` and
-//! `agreement` sum it up, and `summing` writes the summary.
-//!
-//! Nothing here says what an event does, or replays one: the command `load` does that (`depot_cli`).
+//! - `specs/` defines what a schedule makes happen, event by event, over one journal and one list of reads for each
+//!   correct node, one list of bytes for each label, and one reader for each name: `world_of` is the resulting world,
+//!   and `transcript_of` is what is printed. `EventRequests` has what events ask nodes for, `ScheduleStops` the crash
+//!   images of a node's disk, `FaultySigning` what faulty nodes sign, `Transcript` all else that events do and print,
+//!   `Audits` the traces of nodes and the world that an audit examines, and `Forgetting` which labels events name, and
+//!   when runs agree though labels are gone.
+//! - `world_laws` has the laws: this is a world, whatever faulty nodes sign and send and wherever disks stop. So the
+//!   laws of worlds hold of it.
+//! - `make_load`: the load of a number. `specs/Loads.antt` defines it, round by round. Each load has a text
+//!   (`IsSchedule`), so it can be printed and replayed. A `LoadDraft` is a load as it grows: `rounds` has its rounds
+//!   and `closing` its end, `event_parts` what its events name, and `making` all of it.
+//! - `summary`: what is summed up of a transcript, and of any other text too. `specs/Summaries.antt` defines it over
+//!   bytes, line by line. `transcript_lines` reads what a line says of a load, `load_totals` and `agreement` sum it
+//!   up, and `summing` writes the summary.
 #![tactic(auto)]
 
 mod agreement;

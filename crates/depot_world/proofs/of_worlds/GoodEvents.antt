@@ -11,8 +11,7 @@ use Rattle.depot_model.specs.exchange.Bundle.{Signs}
 use Rattle.depot_model.specs.updates.Judgement.{first_failed_point, verdict_of}
 use Rattle.depot_model.specs.texts.Lines.{text_of_point, text_of_verdict}
 use Rattle.depot_model.specs.checks.Own.{values_of}
-use Rattle.depot_model.specs.readers.ReaderFeeds.{reader_feed_of}
-use Rattle.depot_model.specs.readers.Readers.{Reader, trim_of}
+use Rattle.depot_model.specs.readers.Readers.{trim_of}
 use Rattle.depot_model.specs.texts.Texts.{IsProof, proof}
 use Rattle.depot_model.specs.declared.judgement.JudgeError.{JudgeError}
 use Rattle.depot_model.proofs.lists.Members.{in_pushed}
@@ -23,14 +22,17 @@ use Rattle.depot_schedule.specs.declared.event.Event.TheVariants as event
 use Rattle.depot_schedule.specs.declared.event.HistoryWord.{HistoryWord}
 use Rattle.depot_schedule.specs.declared.event.Ref.{Ref}
 use Rattle.depot_answers.specs.AnswerTexts.{spaced}
+use Rattle.depot_requests.specs.ReaderRequests.{made_served}
+use Rattle.depot_requests.specs.declared.reader_request.ReaderUse.{ReaderUse}
+use Rattle.depot_requests.specs.declared.reader_request.ReaderUse.TheVariants as uses
 use Rattle.depot_requests.specs.Requests.{effect_of}
 use Rattle.depot_requests.specs.declared.request.Request.{Request}
 use Rattle.depot_world.specs.EventRequests.{label_by, request_in}
 use Rattle.depot_world.specs.ScheduleStops.{restart_by}
-use Rattle.depot_world.specs.Run.{Host, Run, host_in, bytes_of_label, reader_in, put_reader, seen_with, with_host}
+use Rattle.depot_world.specs.Run.{Host, Run, host_in, bytes_of_label, seen_with, with_host}
 use Rattle.depot_world.specs.FaultySigning.{counted_bytes, no_reference, update_text, updated, vouched_text, proof_text, hollow_text, proof_in, flip_at}
 use Rattle.depot_world.specs.Setups.{Setup, stands_on, signs_on}
-use Rattle.depot_world.specs.Transcript.{Done, pending_at, done_by_update, done_by_changes, judged_with, asked_for, reader_made, trimmed_with, trim_at, reader_told, tgive_by, done}
+use Rattle.depot_world.specs.Transcript.{Done, pending_at, done_by_update, done_by_changes, judged_with, asked_for, trimmed_with, trim_at, used_at, done}
 use Rattle.depot_world.proofs.of_bytes.OnlyBytes.{OnlyBytes, by_places, only_both, only_take, only_drop}
 use Rattle.depot_world.proofs.of_bytes.ByteLabels.{IsByteUpdate, bytes_hold, updated_holds, none_holds, counted_holds, update_text_holds, vouched_text_holds, proof_text_holds, hollow_text_holds, flip_holds}
 use Rattle.depot_world.proofs.of_bytes.ByteOwn.{only_change_values}
@@ -106,14 +108,10 @@ unfolding trim_at
 trim_keeps setup run node text name g = by_host (host_in run.hosts node) where
   by_host : (o : Option Host) → IsGoodRun setup (elim o as (λ x. Done) [ None ↦ record { answer = []; behind = []; run = run } | Some s ↦ trimmed_with run name (trim_of (stands_on setup node) s.correct.journal text) ]).run
   by_host None = g
-  by_host (Some s) = readers_keep setup run (run.readers ++ record { name = name; reader = reader_made (trim_of (stands_on setup node) s.correct.journal text) } ∷ []) g
+  by_host (Some s) = readers_keep setup run (run.readers ++ record { name = name; reader = (made_served (trim_of (stands_on setup node) s.correct.journal text)).reader } ∷ []) g
 
-tgive_keeps : (setup : Setup) (run : Run) (name stream : List ℕ) → IsGoodRun setup run → IsGoodRun setup (tgive_by run name stream).run
-unfolding tgive_by
-tgive_keeps setup run name stream g = by_reader (reader_in run.readers name) where
-  by_reader : (o : Option Reader) → IsGoodRun setup (elim o as (λ x. Done) [ None ↦ record { answer = []; behind = []; run = run } | Some R ↦ reader_told run name (reader_feed_of R stream) ]).run
-  by_reader None = g
-  by_reader (Some R) = readers_keep setup run (put_reader name (reader_feed_of R stream).reader run.readers) g
+used_keeps : (setup : Setup) (run : Run) (name : List ℕ) (u : ReaderUse) → IsGoodRun setup run → IsGoodRun setup (used_at run name u).run
+used_keeps setup run name u g = readers_keep setup run (used_at run name u).run.readers g
 
 -- each event, in a setup whose members sign bytes
 pub event_keeps : (setup : Setup) (run : Run) (e : Event) → ((node : ℕ) → SignsBytes (signs_on setup node)) → BringsBytes e → IsGoodRun setup run → IsGoodRun setup (done setup run e).run
@@ -138,6 +136,6 @@ event_keeps setup run (event.Join label first second) signs only g =
 event_keeps setup run (event.Stop node call image) signs only g = pending_keeps setup run node call image g
 event_keeps setup run event.Audit signs only g = g
 event_keeps setup run (event.Trim node label name) signs only g = trim_keeps setup run node (bytes_of_label run label) name g
-event_keeps setup run (event.Tgive name label) signs only g = tgive_keeps setup run name (bytes_of_label run label) g
-event_keeps setup run (event.Tget name key) signs only g = g
+event_keeps setup run (event.Tgive name label) signs only g = used_keeps setup run name (uses.Give (bytes_of_label run label)) g
+event_keeps setup run (event.Tget name key) signs only g = used_keeps setup run name (uses.Get key) g
 event_keeps setup run e signs only g = asking_keeps setup run e signs only g
