@@ -208,11 +208,11 @@ keeps_leaves here J l on = in_puts (map named_leaf (updates_at (accepted J) (far
 -- ---- bounds are kept
 
 -- the last of what is chosen passed its test
-data IsTested {X : Type 0} (may : List X → X → Bool) (before r : List X) : Type 0 where
+pub data IsTested {X : Type 0} (may : List X → X → Bool) (before r : List X) : Type 0 where
   tests_none : r ≡ [] → IsTested may before r
   tests_last : (ys : List X) (y : X) → r ≡ ys ++ y ∷ [] → may (before ++ ys) y ≡ true → IsTested may before r
 
-longest_tested : {X : Type 0} (may : List X → X → Bool) (before xs : List X) → IsTested may before (longest_front may before xs)
+pub longest_tested : {X : Type 0} (may : List X → X → Bool) (before xs : List X) → IsTested may before (longest_front may before xs)
 unfolding longest_front
 longest_tested may before [] = tests_none refl
 longest_tested {X = X} may before (x ∷ xs) = by_test (may before x) refl (longest_tested may (before ++ x ∷ []) xs) where

@@ -135,7 +135,8 @@ longest_is_front {X = X} may before (x ∷ xs) = by_test (may before x) (longest
 other : ℕ → Update → Bool
 other me u = not (eqb u.writer me)
 
-told_of : (sign : Signs) (r : Record) → flat_map (λ (s : Signed). update_in s.statement) (signed_by sign r) ≡ accepted_by r
+-- a record that is sent reports what it accepts
+pub told_of : (sign : Signs) (r : Record) → flat_map (λ (s : Signed). update_in s.statement) (signed_by sign r) ≡ accepted_by r
 unfolding signed_with
 told_of sign (Birth node h) = refl
 told_of sign (OwnPut u value) = refl

@@ -5,6 +5,7 @@ pub mod Fronts
 pub mod Preparing
 pub mod Bundling
 pub mod OwnStatements
+pub mod AskingAgain
 pub mod BoundFacts
 pub mod Bounding
 pub mod Choices

@@ -1,30 +1,27 @@
-//! Hellos, and bundles whose vouchers are journaled before a byte goes out; bundles within bounds and hellos that go
-//! further back; what a node is asked to send, as bytes, by `Peer`.
+//! Hellos and bundles: all that nodes send one another. A bundle goes out only once the vouchers that it needs are in
+//! the journal.
 //!
-//! # Gossip
+//! - A hello says what a node has; making one changes nothing (`hello`). A far hello also names ids further back in
+//!   the chain of each leaf (`far_hello`).
+//! - A bundle is the stream that a node sends in answer to a hello (`bundle`). It is made in four steps:
+//!   1. `choose` and `candidate` choose what is sent, one candidate after another, as long as there is room. The
+//!      result is a `Sending`, which holds the definition's parcels.
+//!   2. `preparing` keeps it with the ids that the node has to vouch for before it sends. To vouch for updates, so
+//!      that they are taken from a convicted writer too, is as in the article by Mahajan et al., "Depot: Cloud Storage
+//!      with Minimal Trust".
+//!   3. The vouchers are journaled.
+//!   4. `front` makes the leading frames, proofs and own vouchers, from the journal, and `bundle_stream` the whole
+//!      stream. `hashes` has the sets of ids that they use.
+//! - A bundle within `Bounds`, of bytes, of vouchers, or of the node's own updates alone, is a prefix of what the
+//!   bundle without bounds sends, or of its own updates (`bounded`; `choosing` and `choice` choose it).
+//! - What a node is asked to send over its input, as a value and as bytes (`SendRequest`, `decode_sending`, `send`).
 //!
-//! Hellos and bundles: all that nodes send one another.
-//!
-//! A node's hello says what it has; making one changes nothing (`own_hello`). A bundle is the stream that a node sends
-//! in answer (`own_bundle`). It is made in four steps:
-//!
-//! - `choose` and `candidate` choose what is sent, one candidate after another, as long as there is room. The result is
-//!   a `Sending`, which holds the definition's parcels.
-//! - `preparing` keeps it with the ids that the node has to vouch for before it sends. To vouch for updates, so that
-//!   they are taken from a convicted writer too, is as in the article by Mahajan et al., "Depot: Cloud Storage with
-//!   Minimal Trust".
-//! - The vouchers are journaled.
-//! - `front` then makes the leading frames, proofs and own vouchers, from the journal, and `bundle_stream` the whole
-//!   stream. `hashes` has the sets of ids that they use.
-//!
-//! The texts of hellos and frames are those of `depot_streams`, and a `Feed` of `depot_streams` takes a stream in pieces;
-//! what a sender and receiver needs of these crates is reexported here. All of it uses the trait `Peer` alone.
-//!
-//! # Bounds
-//!
-//! Bundles with bounds, and hellos that name more ids.
+//! Hellos and bundles know their node by the trait `Peer` alone, those with bounds and far ones by `LocalNode`. The
+//! texts of hellos and frames are those of `depot_streams`, and a `Feed` of `depot_streams` takes a stream in pieces;
+//! what a sender and receiver needs of that crate is reexported here.
 #![tactic(auto)]
 
+mod asking_laws;
 mod bound_laws;
 mod bounded_bundle;
 mod bounds;
@@ -43,6 +40,7 @@ mod own_hello;
 mod preparing;
 mod send_request;
 
+pub use asking_laws::asking_again_law;
 pub use bound_laws::{
     bounded_bundles_are_fronts, bounds_are_kept, far_hellos_have_a_text, named_updates_are_spared,
     no_bounds_law,

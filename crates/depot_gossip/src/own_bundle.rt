@@ -18,7 +18,6 @@ use std::alloc::Global;
 /// vouchers; after `Disk` it is stopped and has the vouchers before the failing one. Every crash image has the records
 /// from before and a prefix of the vouchers. It makes only the disk calls that append the vouchers; one that fails is
 /// the last.
-/// and no other; where one of them fails, it is the last.
 pub fn bundle<R: Peer>(alloc: Global, node: &mut R, hello: &[u8]) -> Result<Bundled, BundleError>
     ensures bundles { Bundles (R.stands node.old) (R.signature_of node.old) (R.records node.old) (R.stopped node.old) hello.now result (R.records node.new) }
     ensures call { IsBundleCall R.NodeState node.old node.new hello.now result }
