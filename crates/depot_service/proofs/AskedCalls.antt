@@ -1,5 +1,6 @@
 -- What answering makes of a node, by what the call makes of it.
 use Rattle.std.proofs.Common.{◌≡◌, ◌<◌, ℕ, Bool, true, false, List, [], ◌++◌, Result, Ok, Err, refl, sym, ap, subst, ◌∙◌, arith, inl, inr, append-nil}
+use Rattle.std.specs.Prelude.{IsErrAnd}
 use Rattle.depot_base.specs.declared.record.Record.{Record}
 use Rattle.depot_gossip.specs.SendCalls.{IsSendCall, sent_by}
 use Rattle.depot_gossip.specs.declared.send_request.SendRequest.{SendRequest}
@@ -7,6 +8,8 @@ use Rattle.depot_streams.proofs.LastingStreams.{lasts_so, nothing_in}
 use Rattle.depot_streams.specs.Lasting.{LastsIn}
 use Rattle.depot_model.proofs.of_journals.StopLaws.{idle_lasts}
 use Rattle.depot_model.specs.journals.JournalCalls.{IsStable, StopsBy}
+use Rattle.depot_model.specs.checks.Checks.{Setting}
+use Rattle.depot_model.specs.exchange.Bundle.{Signs}
 use Rattle.depot_model.specs.journals.Lawful.{IsLawful}
 use Rattle.depot_model.specs.journals.Replicas.{IsNodeCall, journal_of}
 use Rattle.depot_model.specs.journals.Stops.{LeavesAll}
@@ -18,7 +21,8 @@ use Rattle.depot_requests.specs.declared.reply.Reply.{Reply}
 use Rattle.depot_requests.specs.declared.request.Request.{Request}
 use Rattle.depot_requests.specs.ReplyTexts.{text_of_reply}
 use Rattle.depot_service.specs.RequestCalls.{IsRequestCall}
-use Rattle.depot_service.specs.Answering.{IsAskedCall, IsServing, came_to}
+use Rattle.depot_service.specs.Answering.{AnswersAsked, IsAskedCall, IsServing, IsUnanswered, came_by, came_to}
+use Rattle.depot_service.specs.declared.asked.Asked.{Asked}
 
 -- a flag that is not true
 not_true : (b : Bool) → (b ≡ true → ⊥) → b ≡ false
@@ -33,6 +37,19 @@ runs_on was now stopped failed ran stops well = not_true now (λ is. elim (stops
 pub stable_of : {N : Type 0} (g : Ghosts N) (n : N) → IsServing g n → IsStable (journal_of g) n
 stable_of g n s = λ told. subst (λ (b : Bool). LeavesAll (g.records n) b (g.may_leave n)) (sym s.runs) (s.stable told)
 
+-- ---- no answer
+
+-- there is no answer, for a reason for which the journal is left so
+pub unanswered : (here : Setting) (sign : Signs) (J : List Record) (a : Asked) (then : List Record) (result : Result (List ℕ) Halt) (why : Halt → Type 0)
+    → IsErrAnd result why → ((e : Halt) → why e → IsUnanswered here sign J a e then) → AnswersAsked here sign J a result then
+unanswered here sign J a then (Ok text) why is left = absurd is
+unanswered here sign J a then (Err e) why is left = left e is
+
+-- what is asked was done, and no memory was found for the message
+pub unsaid : (here : Setting) (sign : Signs) (J : List Record) (a : Asked) (then : List Record) (result : Result (List ℕ) Halt)
+    → IsErrAnd result (λ e. e ≡ halt.Memory) → then ≡ (came_by here sign J a).journal → AnswersAsked here sign J a result then
+unsaid here sign J a then result is done = unanswered here sign J a then result (λ e. e ≡ halt.Memory) is (λ e memory. inr (memory, done))
+
 -- ---- a call that may append
 
 -- the call, by what is answered instead of a reply
@@ -46,6 +63,7 @@ asked_call g old new then appends {was_failed = was_failed} failed running bring
   lawful = lasts_so g was_failed failed old new so lasts;
   runs = λ well. runs_on (g.stopped old) (g.stopped new) _ _ running.runs node.journal.stops (λ f. well (so f));
   cause = record { never_falls = node.journal.disk.cause.never_falls; rose = λ f. node.journal.disk.cause.rose (back f); only = λ rose. so (node.journal.disk.cause.only rose) };
+  calm = node.journal.disk.calm;
 }
 
 -- ---- no reply was given
@@ -118,4 +136,5 @@ untouched_asked g only_now n failed well lawful running = record {
   lawful = nothing_in g only_now failed n lawful (stable_of g n running);
   runs = λ _. running.runs;
   cause = record { never_falls = omega arith; rose = λ f. absurd (well f); only = λ rose. absurd (no_more (g.faults n) rose) };
+  calm = λ is. (is, refl);
 }

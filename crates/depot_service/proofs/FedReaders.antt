@@ -47,7 +47,7 @@ use Rattle.depot_trim.specs.declared.trim_error.TrimTake.{TrimTake}
 use Rattle.depot_trim.specs.declared.trim_error.TrimTake.TheVariants as failed
 use Rattle.depot_trim.specs.declared.trimmed.Trimmed.{Trimmed}
 use Rattle.depot_service.specs.Printing.{shown_text, shown_value}
-use Rattle.depot_service.specs.ReaderPrinting.{AreCountedWithin, HasTakenFront, IsReaderFed, IsReaderTold, after_frame, front_fed, goes_on}
+use Rattle.depot_service.specs.ReaderFeeding.{AreCountedWithin, HasTakenFront, IsReaderFed, IsReaderTold, after_frame, front_fed, goes_on}
 use Rattle.depot_service.specs.declared.readers.ReaderFeedResult.{ReaderFeedResult}
 
 -- ---- frames

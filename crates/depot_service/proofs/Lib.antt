@@ -4,6 +4,7 @@ pub mod NodeTraces
 pub mod ShownWrites
 pub mod TracedReads
 pub mod FedReaders
+pub mod ServedReaders
 pub mod IdleRequests
 pub mod PutRequests
 pub mod BundleRequests

@@ -1,8 +1,8 @@
 -- The outcome of what a node is asked, and what answering makes of the node.
-use Rattle.std.specs.Prelude.{◌≡◌, List, [], ◌++◌, ℕ, false, IsTrue, Result, Ok, Err}
+use Rattle.std.specs.Prelude.{◌≡◌, ◌⊎◌, List, [], ◌++◌, ℕ, false, IsTrue, Result, Ok, Err}
 use Rattle.depot_base.specs.Faults.{HasCause}
 use Rattle.depot_base.specs.declared.record.Record.{Record}
-use Rattle.depot_gossip.specs.SendCalls.{sent_by}
+use Rattle.depot_gossip.specs.SendCalls.{Sends, sent_by}
 use Rattle.depot_streams.specs.Lasting.{LastsIn}
 use Rattle.depot_model.specs.exchange.Bundle.{Signs}
 use Rattle.depot_model.specs.checks.Checks.{Setting}
@@ -16,6 +16,8 @@ use Rattle.depot_requests.specs.ExportTexts.{text_of_export}
 use Rattle.depot_requests.specs.ReplyTexts.{text_of_reply}
 use Rattle.depot_requests.specs.Requests.{Served, served}
 use Rattle.depot_requests.specs.declared.reply.Halt.{Halt}
+use Rattle.depot_requests.specs.declared.reply.Halt.TheVariants as halt
+use Rattle.depot_service.specs.RequestCalls.{Serves}
 use Rattle.depot_service.specs.TracePrinting.{export_of}
 use Rattle.depot_service.specs.declared.asked.Asked.{Asked}
 use Rattle.depot_service.specs.declared.asked.Asked.TheVariants as asked
@@ -44,15 +46,30 @@ pub record IsServing {N : Type 0} (g : Ghosts N) (node : N) : Type 0 where
   pub runs : g.stopped node ≡ false
   pub stable : IsTrue (g.tells node) → LeavesAll (g.records node) false (g.may_leave node)
 
--- The message that answers and the journal afterwards are the defined outcome. For an error, the call's clause says
--- what holds.
+-- a question and an export change nothing
+abbrev pub ChangesNothing : Asked → Type 0
+ChangesNothing (asked.Question q) = Unit {0}
+ChangesNothing asked.Export = Unit {0}
+ChangesNothing other = ⊥
+
+-- what the journal is where the node was kept from what is asked
+abbrev pub IsLeftBy : Setting → Signs → List Record → Asked → Halt → List Record → Type 0
+IsLeftBy here sign J (asked.Request r) e then = Serves here sign J r (Err e) then
+IsLeftBy here sign J (asked.Sending s) e then = Sends here sign J s (Err e) then
+IsLeftBy here sign J other e then = then ≡ J
+
+-- The node was kept from it; or it was done, and no memory was found for the message that answers.
+abbrev pub IsUnanswered : Setting → Signs → List Record → Asked → Halt → List Record → Type 0
+IsUnanswered here sign J a e then = IsLeftBy here sign J a e then ⊎ ((e ≡ halt.Memory) × (then ≡ (came_by here sign J a).journal))
+
+-- The message that answers and the journal afterwards are the defined outcome; or there is no answer.
 abbrev pub AnswersAsked : Setting → Signs → List Record → Asked → Result (List ℕ) Halt → List Record → Type 0
 AnswersAsked here sign J a (Ok text) then = came_by here sign J a ≡ record { journal = then; text = text }
-AnswersAsked here sign J a (Err e) then = Unit {0}
+AnswersAsked here sign J a (Err e) then = IsUnanswered here sign J a e then
 
 -- The call was to append these records: with them the journal is `then`. Every crash image of it has the records from
 -- before and a prefix of those; every later one all records of the node. The node runs on unless its disk failed, which
--- is answered if its count rose.
+-- is answered if its count rose; a disk that never fails by itself stays one.
 pub record IsAskedCall {N : Type 0} (g : Ghosts N) (old new : N) (then : List Record) (failed : Type 0) : Type 0 where
   pub same : IsSameNode g old new
   pub appends : List Record
@@ -61,3 +78,4 @@ pub record IsAskedCall {N : Type 0} (g : Ghosts N) (old new : N) (then : List Re
   pub lawful : LastsIn g failed old new
   pub runs : (failed → ⊥) → g.stopped new ≡ false
   pub cause : HasCause (g.faults old) (g.faults new) failed
+  pub calm : g.is_faultless old → g.is_faultless new × (g.faults new ≡ g.faults old)

@@ -1,6 +1,6 @@
 pub mod Printing
-pub mod CheckpointPrinting
-pub mod ReaderPrinting
+pub mod ReaderFeeding
+pub mod ReaderCalls
 pub mod TracePrinting
 pub mod Replying
 pub mod RequestCalls

@@ -1,7 +1,7 @@
 //! Has a node carry out or answer what is asked, and makes the message that answers.
 ghost use Rattle.std.specs.Prelude.{◌≡◌, IsErrOf};
 ghost use Rattle.depot_requests.specs.Requests.{IsRequest};
-ghost use Rattle.depot_service.specs.Answering.{AnswersAsked, IsAskedCall, IsServing, came_by};
+ghost use Rattle.depot_service.specs.Answering.{AnswersAsked, ChangesNothing, IsAskedCall, IsServing, came_by};
 ghost use Rattle.depot_service.specs.Bodies.{MayBeAsked};
 
 use crate::asked::Asked;
@@ -61,12 +61,13 @@ fn hand_in<N: LocalNode>(alloc: Global, node: &N) -> Result<Bytes, Halt>
 }
 
 /// Has a running node carry out or answer what is asked, and returns the message that answers. `Memory` may be returned
-/// after a request was carried out.
+/// after it was done. A question and an export leave the node unchanged.
 pub fn answer<N: LocalNode>(alloc: Global, node: &mut N, asked: Asked) -> Result<Bytes, Halt>
     requires running { IsServing N.NodeState node.old }
     requires asked { MayBeAsked asked }
     ensures answers { AnswersAsked (N.stands node.old) (N.signature_of node.old) (N.records node.old) asked result (N.records node.new) }
     ensures call { IsAskedCall N.NodeState node.old node.new (came_by (N.stands node.old) (N.signature_of node.old) (N.records node.old) asked).journal (IsErrOf result Halt.Disk) }
+    ensures unchanged { ChangesNothing asked → node.new ≡ node.old }
     ensures handle { N.handle node.new ≡ N.handle node.old }
     ensures runs { IsErrOf result Halt.Stopped → ⊥ }
 {

@@ -1,22 +1,19 @@
-//! What readers take of streams, and what is printed of that and of what they read.
+//! What readers take of streams, and what they show of keys.
 ghost use Rattle.std.specs.Prelude.{◌≡◌, ◌≢◌, ◌≤◌, ◌+◌, ◌-◌, length, take, drop, None, Err, IfOk, IfErr, option_copied};
 ghost use Rattle.depot_base.specs.Tags.{frame_byte};
 ghost use Rattle.depot_base.specs.declared.limits.TheConstants.{MOST_FRAMES};
 ghost use Rattle.depot_model.specs.exchange.Feeding.{form_of};
-ghost use Rattle.depot_model.specs.readers.ReaderFeeds.{ReaderFeed};
 ghost use Rattle.depot_model.specs.readers.Readers.{Reader, seen_by_reader};
-ghost use Rattle.depot_answers.specs.AnswerTexts.{spaced, text_of_reader_feed};
 ghost use Rattle.depot_answers.specs.Sightings.{sighting_of_seen};
 ghost use Rattle.depot_queries.specs.ShownValues.{value_seen};
 ghost use Rattle.depot_trim.specs.ReaderView.{IsReaderOf};
 ghost use Rattle.depot_trim.specs.ReaderAnswers.{ReaderTakes};
 ghost use Rattle.depot_trim.specs.declared.trim_error.TrimTake.TheVariants as failed;
-ghost use Rattle.depot_requests.specs.Effects.{ended};
-ghost use Rattle.depot_world.specs.Transcript.{answer_of_reader};
-ghost use Rattle.depot_service.specs.ReaderPrinting.{AreCountedWithin, IsReaderFed, IsReaderTold, after_frame, goes_on};
+ghost use Rattle.depot_requests.specs.ReaderRequests.{words_shown};
+ghost use Rattle.depot_service.specs.ReaderFeeding.{AreCountedWithin, IsReaderFed, after_frame, goes_on};
 
 use crate::reads::{add_write, held};
-use depot_answers::{ReaderCounts, Seen, reader_feed};
+use depot_answers::{ReaderCounts, Seen};
 use depot_base::limits::MOST_FRAMES;
 use depot_base::{Bytes, FrameTag, Full, Key, Memory, Update, Wrote};
 use depot_gossip::{FrameAt, frame_at};
@@ -28,7 +25,7 @@ use std::alloc::Global;
 
 /// What a reader made of a stream: how many frames had each outcome, and the limit that one met.
 #[derive(Clone, Copy, Debug)]
-pub struct ReaderFeedResult {
+pub(crate) struct ReaderFeedResult {
     /// The frames, by what came of them.
     pub counts: ReaderCounts,
     /// What was full, where a frame found no room.
@@ -114,7 +111,7 @@ fn take_frame<S: Scheme>(
 /// Gives a reader the frames of a stream one by one, up to the first that is incomplete or finds no room, at most
 /// 524,288, and none after an End frame. On `Memory` the reader has taken the frames before the one for which there was
 /// none.
-pub fn feed_reader<S: Scheme>(
+pub(crate) fn feed_reader<S: Scheme>(
     reader: &mut Trimmed<S>,
     stream: &[u8],
 ) -> Result<ReaderFeedResult, Memory>
@@ -139,16 +136,6 @@ pub fn feed_reader<S: Scheme>(
     Ok(told)
 }
 
-/// The line of what a reader made of a stream.
-pub fn reader_feed_line(alloc: Global, told: &ReaderFeedResult) -> Result<Bytes, Memory>
-    ensures { IfOk result (λ line. (s : ReaderFeed) → IsReaderTold s told.now → line ≡ ended (spaced (text_of_reader_feed s))) }
-{
-    let mut line = Bytes::from_slice(alloc, b" ")?;
-    reader_feed(alloc, &mut line, told.counts, told.full)?;
-    line.push_all(b"\n")?;
-    Ok(line)
-}
-
 // ---- reading
 
 /// What a reader shows of an update's write of a key, given the held value, if any.
@@ -162,21 +149,20 @@ fn seen_by_reader<'a>(update: &Update, key: &Key, value: Option<&'a [u8]>) -> Se
     }
 }
 
-/// The line of what a reader shows of a key: the latest writes, each preceded by a space.
-pub fn reader_shown_line<S: Scheme>(
+/// The words of what a reader shows of a key: the latest writes, each preceded by a space.
+pub(crate) fn reader_words<S: Scheme>(
     alloc: Global,
     reader: &Trimmed<S>,
     key: &Key,
 ) -> Result<Bytes, Memory>
     requires { (R : Reader) × IsReaderOf S.verifies R reader.now }
-    ensures { IfOk result (λ line. (R : Reader) → IsReaderOf S.verifies R reader.now → line ≡ ended (answer_of_reader R key.now)) }
+    ensures { IfOk result (λ words. (R : Reader) → IsReaderOf S.verifies R reader.now → words ≡ words_shown R key.now) }
 {
-    let mut line = Bytes::new(alloc);
+    let mut words = Bytes::new(alloc);
     for item in reader.latest(key) {
         let update = reader.update(*item);
         let shown = seen_by_reader(update, key, reader.value_of(*item, key));
-        add_write(alloc, &mut line, update, shown)?;
+        add_write(alloc, &mut words, update, shown)?;
     }
-    line.push_all(b"\n")?;
-    Ok(line)
+    Ok(words)
 }

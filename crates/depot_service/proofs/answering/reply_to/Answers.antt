@@ -1,7 +1,9 @@
-use Rattle.std.proofs.Common.{◌≡◌, ℕ, List, Ok}
+use Rattle.std.proofs.Common.{◌≡◌, ℕ, List, Ok, ap, sym, inl}
 use Rattle.std.proofs.lemmas.Result.{err_from_is_err_and}
+use Rattle.depot_requests.specs.Requests.{Served}
 use Rattle.depot_requests.specs.declared.reply.Halt.TheVariants as halt
-use Rattle.depot_service.proofs.AskedCalls.{no_text, replies, request_halted, request_never_stopped, request_replied}
+use Rattle.depot_service.proofs.AskedCalls.{no_text, replies, unsaid, request_halted, request_never_stopped, request_replied}
+use Rattle.depot_service.specs.declared.asked.Asked.TheVariants as asked
 use Rattle.depot_service.proofs.answering.reply_to.Goals as goal
 
 was_written : (text : List ℕ) → Ok text ≡ no_text halt.Disk → ⊥
@@ -16,6 +18,16 @@ pub returns-in_err-reply-clause-runs : goal.returns-in_err-reply-clause-runs
 returns-in_err-reply-clause-runs g c =
     let p = err_from_is_err_and c.from_residual.result c.from_residual.ensures.1 in
     rw (p.1, p.2) (request_never_stopped g.N.NodeState c.args.node.now c.serve.new.node c.args.request c.in_err-reply.field-0.0 c.requires.running c.in_err-reply.ensures.call)
+
+pub returns-in_err-reply-clause-answers : goal.returns-in_err-reply-clause-answers
+returns-in_err-reply-clause-answers g c =
+    let p = err_from_is_err_and c.from_residual.result c.from_residual.ensures.1 in
+    rw (p.1, p.2) (inl c.in_err-reply.ensures.serves)
+
+pub returns-in_err-encode_reply-clause-answers : goal.returns-in_err-encode_reply-clause-answers
+returns-in_err-encode_reply-clause-answers g c =
+    unsaid (g.N.NodeState.stands c.args.node.now) (g.N.NodeState.signature_of c.args.node.now) (g.N.NodeState.records c.args.node.now) (asked.Request c.args.request) _
+    c.from_residual-in_err-encode_reply.result c.from_residual-in_err-encode_reply.ensures.1 (sym (ap (λ (s : Served). s.journal) c.in_ok-reply.ensures.serves))
 
 pub returns-clause-answers : goal.returns-clause-answers
 returns-clause-answers g c = replies (g.N.NodeState.records c.serve.new.node) _ c.in_ok-reply.reply _ c.in_ok-reply.ensures.serves c.in_ok-encode_reply.ensures

@@ -1,8 +1,9 @@
-use Rattle.std.proofs.Common.{◌≡◌, ℕ, List, Ok}
+use Rattle.std.proofs.Common.{◌≡◌, ℕ, List, Ok, inl, refl}
 use Rattle.std.specs.Prelude.{IsErrAnd, IsErrOf, Err, Result}
 use Rattle.depot_requests.specs.declared.reply.Halt.{Halt}
 use Rattle.depot_requests.specs.declared.reply.Halt.TheVariants as halt
-use Rattle.depot_service.proofs.AskedCalls.{untouched_asked}
+use Rattle.depot_service.proofs.AskedCalls.{unanswered, untouched_asked}
+use Rattle.depot_service.specs.declared.asked.Asked.TheVariants as asked
 use Rattle.depot_service.proofs.answering.tell.Goals as goal
 
 -- an answer for want of memory isn't one for the disk
@@ -27,3 +28,13 @@ pub returns-clause-call : goal.returns-clause-call
 returns-clause-call g c =
     let n = c.args.node.now in
     untouched_asked g.N.NodeState (g.met.N.Replica.only_now) n _ (was_told _) (g.met.N.Replica.lawful n) c.requires.running
+
+pub returns-in_err-answer-clause-answers : goal.returns-in_err-answer-clause-answers
+returns-in_err-answer-clause-answers g c =
+    let n = c.args.node.now in
+    unanswered (g.N.NodeState.stands n) (g.N.NodeState.signature_of n) (g.N.NodeState.records n) (asked.Question c.args.question.now) _ c.from_residual.result (λ e. e ≡ halt.Memory) c.from_residual.ensures.1 (λ e memory. inl refl)
+
+pub returns-in_err-encode_answer-clause-answers : goal.returns-in_err-encode_answer-clause-answers
+returns-in_err-encode_answer-clause-answers g c =
+    let n = c.args.node.now in
+    unanswered (g.N.NodeState.stands n) (g.N.NodeState.signature_of n) (g.N.NodeState.records n) (asked.Question c.args.question.now) _ c.from_residual-in_err-encode_answer.result (λ e. e ≡ halt.Memory) c.from_residual-in_err-encode_answer.ensures.1 (λ e memory. inl refl)
