@@ -3,7 +3,6 @@ use Rattle.std.proofs.Common.{◌≡◌, ◌<◌, ◌⊎◌, ℕ, suc, ◌+◌, 
 use Rattle.depot_base.specs.Calls.{Call, made, FailsAmong, calls_to_append, calls_to_append_all, writes_at, syncs}
 use Rattle.depot_base.specs.File.{StandsFor, blocks, closed_block}
 use Rattle.depot_journal.specs.WriteSteps.{StandsTo}
-use Rattle.depot_journal.proofs.RecordBlocks.{appended}
 use Rattle.depot_journal.proofs.Walk.{stands_of}
 use Rattle.depot_outside.specs.Images.{Moment, synced_as, written_at}
 use Rattle.depot_outside.specs.StopImages.{left_by, overwritten}
@@ -14,7 +13,7 @@ use Rattle.depot_world.specs.Run.{PendingStop}
 use Rattle.depot_world.specs.ScheduleStops.{standing_after}
 use Rattle.depot_replay.specs.Disks.{IsAtRest, StoppedAppending, image_number}
 use Rattle.depot_replay.proofs.DiskLaws.{FailsIn, Gone, StoppedIn, failed_on, fails_in, led_on}
-use Rattle.depot_replay.proofs.DiskFiles.{block_left, gate_left, opened_in, stands_to}
+use Rattle.depot_replay.proofs.DiskFiles.{block_left, gate_left, one_appended, opened_in, stands_to}
 use Rattle.depot_replay.proofs.DiskStops.{StopsAt, stopped_at, stops_later, stops_now}
 
 -- ---- writes and syncs
@@ -59,7 +58,7 @@ has_appended : (s s1 s2 s3 u : State) (end : ℕ) (body : List ℕ) → s.fails 
 has_appended s s1 s2 s3 u end body none block block_synced gate gate_synced = record {
   at_rest = synced_rest s3 u (gate.fails_are ∙ block_synced.fails_are ∙ block.fails_are ∙ none) gate_synced;
   grown = λ bodies stands.
-      appended s.file s2.file u.file body bodies end stands (synced_same s1 s2 block_synced ∙ wrote s s1 (end + 1) (closed_block body) block) (synced_same s3 u gate_synced ∙ wrote s2 s3 end (1 ∷ []) gate);
+      one_appended s.file s2.file u.file body bodies end stands (synced_same s1 s2 block_synced ∙ wrote s s1 (end + 1) (closed_block body) block) (synced_same s3 u gate_synced ∙ wrote s2 s3 end (1 ∷ []) gate);
   later = λ t place image x.
       stops_later (writes_at (end + 1) (closed_block body)) s s1 t (suc (suc (suc place))) image block (stops_later syncs s1 s2 t (suc (suc place)) image block_synced (stops_later (writes_at end (1 ∷ [])) s2 s3 t (suc place) image gate (stops_later syncs s3 u t place image gate_synced x)));
 }

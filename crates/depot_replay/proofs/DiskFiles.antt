@@ -3,6 +3,7 @@ use Rattle.std.proofs.Common.{◌≡◌, ◌≤◌, ◌<◌, ℕ, ◌+◌, List,
 use Rattle.std.proofs.lemmas.List.{take_at, take-append-drop}
 use Rattle.depot_base.specs.File.{StandsFor, blocks, closed_block}
 use Rattle.depot_journal.specs.WriteSteps.{StandsTo}
+use Rattle.depot_journal.proofs.Mirrors.{closed_long}
 use Rattle.depot_journal.proofs.RecordBlocks.{appended}
 use Rattle.depot_journal.proofs.Walk.{stands_of}
 use Rattle.depot_outside.specs.Images.{synced_as, written_at}
@@ -59,6 +60,11 @@ gate_blank file bodies end s =
 block_written : (s0 s1 body : List ℕ) (bodies : List (List ℕ)) (end : ℕ) → StandsTo s0 bodies end → s1 ≡ overwritten s0 (end + 1) (closed_block body) → StandsTo s1 bodies end
 block_written s0 s1 body bodies end s w = subst (λ (x : List ℕ). StandsTo x bodies end) (sym w) (block_left image.Written s0 (closed_block body) bodies end s)
 
+-- the block and then the gate of one record
+pub one_appended : (s0 s1 s2 body : List ℕ) (bodies : List (List ℕ)) (end : ℕ) → StandsTo s0 bodies end → s1 ≡ overwritten s0 (end + 1) (closed_block body) → s2 ≡ overwritten s1 end (1 ∷ []) → StandsTo s2 (bodies ++ body ∷ []) (end + (5 + length body))
+one_appended s0 s1 s2 body bodies end s block gate =
+    subst (λ (long : ℕ). StandsTo s2 (bodies ++ body ∷ []) (end + long)) (closed_long body) (appended s0 s1 s2 bodies (body ∷ []) end (omega arith) s block gate)
+
 -- how many of a record whose gate is being opened are in an image
 abbrev pub opened_in : Image → ℕ
 opened_in image.Synced = 0
@@ -70,6 +76,6 @@ pub gate_left : (left : Image) (s0 s1 body : List ℕ) (bodies texts : List (Lis
 gate_left image.Synced s0 s1 body bodies texts end s w =
     rw (append-nil bodies) (stands_of s1 bodies end (block_written s0 s1 body bodies end s w))
 gate_left image.Written s0 s1 body bodies texts end s w =
-    stands_of (overwritten s1 end (1 ∷ [])) (bodies ++ body ∷ []) (end + (5 + length body)) (appended s0 s1 (overwritten s1 end (1 ∷ [])) body bodies end s w refl)
+    stands_of (overwritten s1 end (1 ∷ [])) (bodies ++ body ∷ []) (end + (5 + length body)) (one_appended s0 s1 (overwritten s1 end (1 ∷ [])) body bodies end s w refl)
 gate_left image.Blanked s0 s1 body bodies texts end s w =
     rw (append-nil bodies) (gate_blank s1 bodies end (block_written s0 s1 body bodies end s w))

@@ -21,11 +21,10 @@ use depot_outside::{Back, MemDisk};
 use depot_queries::LocalNode;
 use depot_requests::{Halt, Printed, Reply, Request, print};
 use depot_scenario::{Numbered, is_by};
-use depot_service::{counted_line, node_trace, read_traced, serve};
+use depot_service::{counted_line, make_reader, node_trace, read_traced, serve};
 use depot_sign::Roster;
 use depot_simulation::{Actor, EventOutcome, StartsFresh, Trimming};
 use depot_traces::{ReadTrace, Trace};
-use depot_trim::trim;
 use std::alloc::Global;
 
 /// How many disk calls start a node from a journal that isn't empty.
@@ -273,15 +272,14 @@ impl<S: Scheme + Copy, G: Signer<Of = S> + Copy> Actor for MemHost<S, G> {
     }
 
     fn trim(&self, text: &[u8]) -> Result<Trimming<MemHostReader<S>>, Memory> {
-        let roster = self.start_config.roster.copy()?;
-        let made = trim(
-            self.start_config.alloc,
-            &self.node,
+        let StartConfig {
+            alloc,
             roster,
-            self.start_config.scheme,
-            text,
-        );
-        trimming(self.start_config.alloc, made)
+            scheme,
+            ..
+        } = &self.start_config;
+        let made = make_reader(*alloc, &self.node, roster, *scheme, text)?;
+        Ok(trimming(*alloc, made))
     }
 
     fn restart(self) -> Result<EventOutcome<Self>, Memory> {

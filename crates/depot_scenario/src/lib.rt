@@ -35,7 +35,7 @@ mod value_frames;
 
 pub use drafts::{drafted, is_by, writes_of};
 pub use entries::{entries_of_others, entry_of, rising_ids};
-pub use event_heads::event_head;
+pub use event_heads::head_and_arrow;
 pub use event_labels::labels_of;
 pub use judging_events::judged;
 pub use known_updates::KnownUpdates;

@@ -1,23 +1,23 @@
 -- What the events of readers make of a simulation.
-use Rattle.std.proofs.Common.{◌≡◌, ℕ, eqb, List, [], ◌∷◌, ◌++◌, get_or, Option, Some, None, Result, Ok, Err, refl, sym, ap, subst, ◌∙◌}
-use Rattle.std.specs.Prelude.{position, IfOk, OnOk}
-use Rattle.std.specs.Option.{option_map_or}
+use Rattle.std.proofs.Common.{◌≡◌, ℕ, eqb, List, [], ◌∷◌, ◌++◌, get_or, Option, Some, None, refl, sym, ap, subst, ◌∙◌}
+use Rattle.std.specs.Prelude.{position}
 use Rattle.std.proofs.lemmas.List.{append-nil}
 use Rattle.std.proofs.lemmas.Option.{get_or_from_slice_get}
-use Rattle.depot_answers.specs.AnswerTexts.{spaced, text_of_reader_feed, text_of_trim}
 use Rattle.depot_base.specs.declared.record.Record.{Record}
 use Rattle.depot_model.specs.checks.Checks.{Setting}
-use Rattle.depot_model.specs.readers.ReaderFeeds.{reader_feed_of}
 use Rattle.depot_model.specs.readers.Readers.{Reader, trim_of}
-use Rattle.depot_world.specs.Run.{NamedReader, Run, Host, reader_in, host_in}
+use Rattle.depot_world.specs.Run.{NamedReader, Run, Host, reader_in, readers_with, host_in}
 use Rattle.depot_world.specs.Setups.{Setup, stands_on}
 use Rattle.depot_requests.specs.Effects.{ended}
-use Rattle.depot_world.specs.Transcript.{Done, answer_of_reader, reader_made, reader_told, tget_by, tgive_by, trim_at, trimmed_with}
+use Rattle.depot_requests.specs.ReaderRequests.{answer_of_reader_reply, line_of_reader_reply, made_served, use_served}
+use Rattle.depot_requests.specs.declared.reader_reply.ReaderReply.{ReaderReply}
+use Rattle.depot_requests.specs.declared.reader_request.ReaderUse.{ReaderUse}
+use Rattle.depot_world.specs.Transcript.{Done, trim_at, trimmed_with, used_at}
 use Rattle.depot_world.proofs.of_worlds.GoodRuns.{found_is}
 use Rattle.depot_simulation.specs.Acting.{ActorView}
 use Rattle.depot_simulation.specs.Doing.{HasDone}
 use Rattle.depot_simulation.specs.Playing.{IsSimulationAt, participant_by}
-use Rattle.depot_simulation.specs.Readers.{AreReaders, HasTrimmed, IsMade, gone_on, readers_with, reader_shown, reader_lines}
+use Rattle.depot_simulation.specs.Readers.{AreReaders, HasTrimmed, IsMade}
 use Rattle.depot_simulation.specs.declared.participant.Participant.{Participant}
 use Rattle.depot_simulation.specs.declared.simulation.Simulation.{Simulation}
 use Rattle.depot_simulation.specs.declared.readers.Readers.{Readers}
@@ -40,11 +40,6 @@ readers_at A view reads setup run rs old readers at are = record {
   readers_are = are;
   remembered = readers_remember run rs at.remembered;
 }
-
--- what follows where a call gave Ok, from what it gave and what it left
-pub if_and_on : {T E Q : Type 0} {P S : T → Type 0} (r : Result T E) → IfOk r P → OnOk r Q → ((x : T) → P x → Q → S x) → IfOk r S
-if_and_on (Ok x) p q more = more x p q
-if_and_on (Err e) p q more = tt
 
 -- a line with nothing after it
 alone : (answer : List ℕ) → ended answer ≡ ended answer ++ []
@@ -86,46 +81,25 @@ same_trim A view reads setup run node place text name simulation p at found is =
     ∙ ap (λ (J : List Record). trimmed_with run name (trim_of (stands_on setup node) J text)) (sym journal) ∙ ap (λ (h : Setting). trimmed_with run name (trim_of h (view p.actor).journal text)) (sym here)
 
 -- a node was there: its answer is reported, and its reader kept
-pub reader_trimmed : (A : Type 0) {R : Type 0} (view : A → ActorView) (reads : Reader → R → Type 0) (setup : Setup) (run : Run) (node place : ℕ) (text name : List ℕ) (old : Simulation A R) (readers : Readers R) (p : Participant A) (t : Trimming R) → IsSimulationAt view reads setup run old
+pub reader_trimmed : (A : Type 0) {R : Type 0} (view : A → ActorView) (reads : Reader → R → Type 0) (setup : Setup) (run : Run) (node place : ℕ) (text name : List ℕ) (old : Simulation A R) (readers : Readers R) (p : Participant A) (t : Trimming R) (lines : List ℕ) → IsSimulationAt view reads setup run old
     → position (λ q. eqb (view q.actor).here.me node) old.participants.items ≡ Some place → p ≡ get_or old.participants.items place p → HasTrimmed reads (trim_of (view p.actor).here (view p.actor).journal text) t
     → ((rs : List NamedReader) (made : Option Reader) → AreReaders reads old.readers.map.entries rs → IsMade reads t.reader made → AreReaders reads readers.map.entries (rs ++ record { name = name; reader = made } ∷ []))
-    → HasDone A view reads setup (trim_at setup run node text name) t.lines (record old { readers = readers })
-reader_trimmed A view reads setup run node place text name old readers p t at found is trimmed put =
+    → lines ≡ line_of_reader_reply t.reply → HasDone A view reads setup (trim_at setup run node text name) lines (record old { readers = readers })
+reader_trimmed A view reads setup run node place text name old readers p t lines at found is trimmed put told =
     let answer = trim_of (view p.actor).here (view p.actor).journal text in
-    let made = reader_made answer in
-    subst (λ (d : Done). HasDone A view reads setup d t.lines (record old { readers = readers })) (sym (same_trim A view reads setup run node place text name old p at found is)) (record {
-      lines_are = trimmed.lines_are ∙ alone (spaced (text_of_trim answer));
+    let made = (made_served answer).reader in
+    subst (λ (d : Done). HasDone A view reads setup d lines (record old { readers = readers })) (sym (same_trim A view reads setup run node place text name old p at found is)) (record {
+      lines_are = told ∙ ap line_of_reader_reply trimmed.reply_is ∙ alone (answer_of_reader_reply (made_served answer).reply);
       at = readers_at A view reads setup run (run.readers ++ record { name = name; reader = made } ∷ []) old readers at (put run.readers made at.readers_are trimmed.reader_is);
     })
 
--- ---- a reader that takes a stream
+-- ---- a reader that is used
 
-at_reader : Run → List ℕ → List ℕ → Option Reader → Done
-at_reader run name stream o = elim o as (λ x. Done) [
-  | None ↦ record { answer = []; behind = []; run = run }
-  | Some r ↦ reader_told run name (reader_feed_of r stream)
-]
-
-taken_at : (A : Type 0) {R : Type 0} (view : A → ActorView) (reads : Reader → R → Type 0) (setup : Setup) (run : Run) (name stream lines : List ℕ) (old : Simulation A R) (readers : Readers R) (o : Option Reader) → IsSimulationAt view reads setup run old → lines ≡ reader_lines o stream
-    → AreReaders reads readers.map.entries (readers_with name (gone_on o stream) run.readers) → HasDone A view reads setup (at_reader run name stream o) lines (record old { readers = readers })
-unfolding at_reader
-taken_at A view reads setup run name stream lines old readers None at told are = record { lines_are = told; at = readers_at A view reads setup run run.readers old readers at are }
-taken_at A view reads setup run name stream lines old readers (Some r) at told are = record {
-  lines_are = told ∙ alone (spaced (text_of_reader_feed (reader_feed_of r stream)));
-  at = readers_at A view reads setup run (readers_with name (gone_on (Some r) stream) run.readers) old readers at are;
+-- its reply is reported, and the reader after it kept
+pub reader_used : (A : Type 0) {R : Type 0} (view : A → ActorView) (reads : Reader → R → Type 0) (setup : Setup) (run : Run) (name : List ℕ) (u : ReaderUse) (lines : List ℕ) (reply : ReaderReply) (old : Simulation A R) (readers : Readers R) → IsSimulationAt view reads setup run old
+    → lines ≡ line_of_reader_reply reply → reply ≡ (use_served (reader_in run.readers name) u).reply → AreReaders reads readers.map.entries (readers_with name (use_served (reader_in run.readers name) u).reader run.readers)
+    → HasDone A view reads setup (used_at run name u) lines (record old { readers = readers })
+reader_used A view reads setup run name u lines reply old readers at told is are = record {
+  lines_are = told ∙ ap line_of_reader_reply is ∙ alone (answer_of_reader_reply (use_served (reader_in run.readers name) u).reply);
+  at = readers_at A view reads setup run (readers_with name (use_served (reader_in run.readers name) u).reader run.readers) old readers at are;
 }
-
-pub stream_taken : (A : Type 0) {R : Type 0} (view : A → ActorView) (reads : Reader → R → Type 0) (setup : Setup) (run : Run) (name stream lines : List ℕ) (old : Simulation A R) (readers : Readers R) → IsSimulationAt view reads setup run old → lines ≡ reader_lines (reader_in run.readers name) stream
-    → AreReaders reads readers.map.entries (readers_with name (gone_on (reader_in run.readers name) stream) run.readers) → HasDone A view reads setup (tgive_by run name stream) lines (record old { readers = readers })
-unfolding tgive_by at_reader
-stream_taken A view reads setup run name stream lines old readers at told are = taken_at A view reads setup run name stream lines old readers (reader_in run.readers name) at told are
-
--- ---- a reader that reads a key
-
-shown_alone : (o : Option Reader) (key : List ℕ) → reader_shown o key ≡ ended (option_map_or (λ r. answer_of_reader r key) o [])
-shown_alone None key = refl
-shown_alone (Some r) key = refl
-
-pub key_shown : (A : Type 0) {R : Type 0} (view : A → ActorView) (reads : Reader → R → Type 0) (setup : Setup) (run : Run) (name key lines : List ℕ) (simulation : Simulation A R) → IsSimulationAt view reads setup run simulation → lines ≡ reader_shown (reader_in run.readers name) key
-    → HasDone A view reads setup (tget_by run name key) lines simulation
-key_shown A view reads setup run name key lines simulation at shown = record { lines_are = shown ∙ shown_alone (reader_in run.readers name) key ∙ alone (option_map_or (λ r. answer_of_reader r key) (reader_in run.readers name) []); at = at }

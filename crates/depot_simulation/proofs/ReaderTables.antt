@@ -8,12 +8,14 @@ use Rattle.std.specs.declared.alloc.Global.{Global}
 use Rattle.std.proofs.lemmas.Bool.{both_ways}
 use Rattle.std.proofs.lemmas.Slice.Eq.{bytes_eq-Decides}
 use Rattle.depot_base.proofs.GeneralLaws.{vec_cmp}
-use Rattle.depot_model.specs.readers.ReaderFeeds.{reader_feed_of}
 use Rattle.depot_model.specs.readers.Readers.{Reader}
 use Rattle.depot_scenario.specs.Labels.{named_in}
 use Rattle.depot_scenario.proofs.LabelTables.{named_once_put}
-use Rattle.depot_world.specs.Run.{NamedReader, put_reader, reader_in}
-use Rattle.depot_simulation.specs.Readers.{AreReaders, IsMade, IsNamed, first_named, gone_on, readers_with, reader_shown, reader_lines}
+use Rattle.depot_requests.specs.ReaderRequests.{use_served, used_by}
+use Rattle.depot_requests.specs.declared.reader_reply.ReaderReply.TheVariants as told
+use Rattle.depot_requests.specs.declared.reader_request.ReaderUse.{ReaderUse}
+use Rattle.depot_world.specs.Run.{NamedReader, put_reader, reader_in, readers_with}
+use Rattle.depot_simulation.specs.Readers.{AreReaders, IsMade, IsNamed, first_named}
 
 -- ---- what was made under a name of a run
 
@@ -137,41 +139,37 @@ readers_more {R = R} reads old new rs name k made are absent is_made u label =
 
 -- ---- a reader that goes on
 
-abbrev IsGone : {R : Type 0} → (Reader → R → Type 0) → Option R → List ℕ → Option Reader → Type 0
-IsGone reads k stream made = IsMade reads k (gone_on made stream)
+abbrev IsGone : {R : Type 0} → (Reader → R → Type 0) → Option R → ReaderUse → Option Reader → Type 0
+IsGone reads k asked made = IsMade reads k (use_served made asked).reader
 
 -- what is kept of the name is what is made of it now
-pub readers_go_on : {R : Type 0} (reads : Reader → R → Type 0) (old new : BTreeMap (Vec ℕ Global) (Option R)) (rs : List NamedReader) (name stream : List ℕ) (was k : Option R) → AreReaders reads old.entries rs → Some was ≡ named_in name old.entries
-    → UpdatesBy vec_cmp (λ x. slice_cmp nat_cmp name x.items) old new (Some k) → ((made : Option Reader) → IsMade reads was made → IsGone reads k stream made) → AreReaders reads new.entries (readers_with name (gone_on (reader_in rs name) stream) rs)
-readers_go_on {R = R} reads old new rs name stream was k are is u goes label =
-    subst (λ (o : Option (Option R)). IsNamed reads o (first_named (readers_with name (gone_on (reader_in rs name) stream) rs) label)) (sym (named_once_put old new name k u label))
+pub readers_go_on : {R : Type 0} (reads : Reader → R → Type 0) (old new : BTreeMap (Vec ℕ Global) (Option R)) (rs : List NamedReader) (name : List ℕ) (asked : ReaderUse) (was k : Option R) → AreReaders reads old.entries rs → Some was ≡ named_in name old.entries
+    → UpdatesBy vec_cmp (λ x. slice_cmp nat_cmp name x.items) old new (Some k) → ((made : Option Reader) → IsMade reads was made → IsGone reads k asked made) → AreReaders reads new.entries (readers_with name (use_served (reader_in rs name) asked).reader rs)
+readers_go_on {R = R} reads old new rs name asked was k are is u goes label =
+    subst (λ (o : Option (Option R)). IsNamed reads o (first_named (readers_with name (use_served (reader_in rs name) asked).reader rs) label)) (sym (named_once_put old new name k u label))
     (by_first (first_named rs name) refl) where
-      by_first : (m : Option NamedReader) → first_named rs name ≡ m → IsNamed reads (cond (bytes_eq name label) (Some k) (named_in label old.entries)) (first_named (readers_with name (gone_on (reader_in rs name) stream) rs) label)
+      by_first : (m : Option NamedReader) → first_named rs name ≡ m → IsNamed reads (cond (bytes_eq name label) (Some k) (named_in label old.entries)) (first_named (readers_with name (use_served (reader_in rs name) asked).reader rs) label)
       by_first None none = absurd (both_ways (is_some (named_in name old.entries)) (nothing_kept reads (named_in name old.entries) (first_named rs name) (are name) none) (is_there (named_in name old.entries) was is))
       by_first (Some x) found =
           let made : reader_in rs name ≡ x.reader = reader_is rs name ∙ ap reader_of found in
-          subst (λ (o : Option Reader). IsNamed reads (cond (bytes_eq name label) (Some k) (named_in label old.entries)) (first_named (readers_with name (gone_on o stream) rs) label)) (sym made)
+          subst (λ (o : Option Reader). IsNamed reads (cond (bytes_eq name label) (Some k) (named_in label old.entries)) (first_named (readers_with name (use_served o asked).reader rs) label)) (sym made)
           (by_reader x.reader refl (goes x.reader (subst (λ (o : Option Reader). IsMade reads was o) made (made_there reads old.entries rs name was are is)))) where
-            by_reader : (o : Option Reader) → x.reader ≡ o → IsGone reads k stream o → IsNamed reads (cond (bytes_eq name label) (Some k) (named_in label old.entries)) (first_named (readers_with name (gone_on o stream) rs) label)
+            by_reader : (o : Option Reader) → x.reader ≡ o → IsGone reads k asked o → IsNamed reads (cond (bytes_eq name label) (Some k) (named_in label old.entries)) (first_named (readers_with name (use_served o asked).reader rs) label)
             by_reader None nothing gone = by_name (bytes_eq name label) refl where
               by_name : (b : Bool) → bytes_eq name label ≡ b → IsNamed reads (cond b (Some k) (named_in label old.entries)) (first_named rs label)
               by_name true same =
                   subst (λ (m : Option NamedReader). IsNamed reads (Some k) m) (sym (ap (first_named rs) (sym ((bytes_eq-Decides name label).0 same)) ∙ found)) (subst (λ (o : Option Reader). IsMade reads k o) (sym nothing) gone)
               by_name false other = are label
             by_reader (Some r) something gone =
-                subst (λ (m : Option NamedReader). IsNamed reads (cond (bytes_eq name label) (Some k) (named_in label old.entries)) m) (sym (first_put rs name (reader_feed_of r stream).reader x found label)) (by_name (bytes_eq name label)) where
-                  by_name : (b : Bool) → IsNamed reads (cond b (Some k) (named_in label old.entries)) (cond b (Some (again x (reader_feed_of r stream).reader)) (first_named rs label))
+                subst (λ (m : Option NamedReader). IsNamed reads (cond (bytes_eq name label) (Some k) (named_in label old.entries)) m) (sym (first_put rs name (used_by r asked).reader x found label)) (by_name (bytes_eq name label)) where
+                  by_name : (b : Bool) → IsNamed reads (cond b (Some k) (named_in label old.entries)) (cond b (Some (again x (used_by r asked).reader)) (first_named rs label))
                   by_name true = gone
                   by_name false = are label
 
 -- where there is none, all stay
-pub readers_of_none : {R : Type 0} (reads : Reader → R → Type 0) (entries : List (Vec ℕ Global × Option R)) (rs : List NamedReader) (name stream : List ℕ) → AreReaders reads entries rs → None ≡ named_in name entries → AreReaders reads entries (readers_with name (gone_on (reader_in rs name) stream) rs)
-readers_of_none reads entries rs name stream are is = subst (λ (o : Option Reader). AreReaders reads entries (readers_with name (gone_on o stream) rs)) (sym (none_there reads entries rs name are is)) are
+pub readers_of_none : {R : Type 0} (reads : Reader → R → Type 0) (entries : List (Vec ℕ Global × Option R)) (rs : List NamedReader) (name : List ℕ) (asked : ReaderUse) → AreReaders reads entries rs → None ≡ named_in name entries → AreReaders reads entries (readers_with name (use_served (reader_in rs name) asked).reader rs)
+readers_of_none reads entries rs name asked are is = subst (λ (o : Option Reader). AreReaders reads entries (readers_with name (use_served o asked).reader rs)) (sym (none_there reads entries rs name are is)) are
 
--- ---- lines
-
-pub nothing_told : {R : Type 0} (reads : Reader → R → Type 0) (entries : List (Vec ℕ Global × Option R)) (rs : List NamedReader) (name stream : List ℕ) → AreReaders reads entries rs → None ≡ named_in name entries → 10 ∷ [] ≡ reader_lines (reader_in rs name) stream
-nothing_told reads entries rs name stream are is = ap (λ (o : Option Reader). reader_lines o stream) (sym (none_there reads entries rs name are is))
-
-pub nothing_shown : {R : Type 0} (reads : Reader → R → Type 0) (entries : List (Vec ℕ Global × Option R)) (rs : List NamedReader) (name key : List ℕ) → AreReaders reads entries rs → None ≡ named_in name entries → 10 ∷ [] ≡ reader_shown (reader_in rs name) key
-nothing_shown reads entries rs name key are is = ap (λ (o : Option Reader). reader_shown o key) (sym (none_there reads entries rs name are is))
+-- and that is replied
+pub none_replied : {R : Type 0} (reads : Reader → R → Type 0) (entries : List (Vec ℕ Global × Option R)) (rs : List NamedReader) (name : List ℕ) (asked : ReaderUse) → AreReaders reads entries rs → None ≡ named_in name entries → told.NoReader ≡ (use_served (reader_in rs name) asked).reply
+none_replied reads entries rs name asked are is = ap (λ (o : Option Reader). (use_served o asked).reply) (sym (none_there reads entries rs name are is))

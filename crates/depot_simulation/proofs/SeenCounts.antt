@@ -14,7 +14,6 @@ use Rattle.depot_model.specs.journals.Lawful.{IsLawful}
 use Rattle.depot_model.specs.texts.Lines.{text_of_point, text_of_verdict}
 use Rattle.depot_model.specs.lists.Lists.{IsIn}
 use Rattle.depot_model.specs.checks.Own.{values_of}
-use Rattle.depot_model.specs.readers.ReaderFeeds.{reader_feed_of}
 use Rattle.depot_model.specs.readers.Readers.{Reader, trim_of}
 use Rattle.depot_model.specs.worlds.World.{setting_of}
 use Rattle.depot_model.specs.declared.judgement.JudgeError.{JudgeError}
@@ -32,10 +31,10 @@ use Rattle.depot_world.specs.EventRequests.{label_by, request_in}
 use Rattle.depot_world.specs.ScheduleStops.{restart_by}
 use Rattle.depot_world.specs.FaultySigning.{updated, proof_in}
 use Rattle.depot_world.specs.Forgetting.{IsAlikeFor}
-use Rattle.depot_world.specs.Run.{Host, Run, bytes_of_label, reader_in, host_in, put_host, seen_with, with_host, world_by}
+use Rattle.depot_world.specs.Run.{Host, Run, bytes_of_label, host_in, put_host, seen_with, with_host, world_by}
 use Rattle.depot_world.specs.ScheduleStops.{EventResult, event_result}
 use Rattle.depot_world.specs.Setups.{Setup, stands_on, signs_on}
-use Rattle.depot_world.specs.Transcript.{Done, pending_at, done_at_node, done_by_node, done_by_update, done, judged_with, asked_for, run_after, trimmed_with, trim_at, reader_told, tgive_by}
+use Rattle.depot_world.specs.Transcript.{Done, pending_at, done_at_node, done_by_node, done_by_update, done, judged_with, asked_for, run_after, trimmed_with, trim_at}
 use Rattle.depot_world.proofs.of_worlds.GoodRuns.{found_is}
 use Rattle.depot_world.proofs.ReadCounts.{few_taken}
 use Rattle.depot_simulation.specs.Acting.{ActorView}
@@ -139,13 +138,6 @@ trim_counts setup run node text name = by_host (host_in run.hosts node) where
   by_host None = none_counts run
   by_host (Some s) = none_counts run
 
-tgive_counts : (run : Run) (name stream : List ℕ) → CountsOn run (tgive_by run name stream).run
-unfolding tgive_by
-tgive_counts run name stream = by_reader (reader_in run.readers name) where
-  by_reader : (o : Option Reader) → CountsOn run (elim o as (λ x. Done) [ None ↦ record { answer = []; behind = []; run = run } | Some R ↦ reader_told run name (reader_feed_of R stream) ]).run
-  by_reader None = none_counts run
-  by_reader (Some R) = none_counts run
-
 update_counts : (sign : Signs) (run : Run) (label : List ℕ) (values : List (List ℕ)) (o : Option Update) → CountsOn run (done_by_update sign run label values o).run
 update_counts sign run label values None = none_counts run
 update_counts sign run label values (Some u) = λ n c. record {
@@ -178,7 +170,7 @@ event_counts setup run (event.Join label first second) = none_counts run
 event_counts setup run (event.Stop node call image) = pending_counts run node call image
 event_counts setup run event.Audit = none_counts run
 event_counts setup run (event.Trim node label name) = trim_counts setup run node (bytes_of_label run label) name
-event_counts setup run (event.Tgive name label) = tgive_counts run name (bytes_of_label run label)
+event_counts setup run (event.Tgive name label) = none_counts run
 event_counts setup run (event.Tget name key) = none_counts run
 event_counts setup run e = asked_counts setup run (event_node e) (label_by e) (request_in run e)
 

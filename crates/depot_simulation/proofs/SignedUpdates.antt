@@ -126,14 +126,14 @@ judged_done A view reads setup run label bytes text lines simulation at same is 
 -- ---- lines
 
 -- the lines of an event: the head of the first, and those from the arrow on
-pub lines_told : (e : Event) (d : Done) (none front behind whole : List ℕ) → none ≡ [] → front ≡ none ++ (join 32 (head_words e) ++ codes " ->") → behind ≡ lines_after_arrow d.answer d.behind → whole ≡ front ++ behind → whole ≡ lines_of e d
+pub lines_told : (e : Event) (d : Done) (front behind whole : List ℕ) → front ≡ join 32 (head_words e) ++ codes " ->" → behind ≡ lines_after_arrow d.answer d.behind → whole ≡ front ++ behind → whole ≡ lines_of e d
 unfolding lines_of
-lines_told e d none front behind whole is_none is_front is_behind is_whole =
+lines_told e d front behind whole is_front is_behind is_whole =
     let words = join 32 (head_words e) in
     let arrow = codes " ->" in
     let rest = flat_map ended d.behind in
     is_whole
-    ∙ ap (λ (t : List ℕ). t ++ behind) (is_front ∙ ap (λ (t : List ℕ). t ++ (words ++ arrow)) is_none)
+    ∙ ap (λ (t : List ℕ). t ++ behind) is_front
     ∙ ap (λ (t : List ℕ). (words ++ arrow) ++ t) is_behind
     ∙ sym (append_assoc (words ++ arrow) (ended d.answer) rest)
     ∙ ap (λ (t : List ℕ). t ++ rest) (sym (append_assoc (words ++ arrow) d.answer (10 ∷ [])))

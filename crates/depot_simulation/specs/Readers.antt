@@ -1,13 +1,11 @@
--- Readers of a simulation, and what is reported of them.
+-- Readers of a simulation.
 use Rattle.std.specs.Prelude.{◌≡◌, ℕ, List, [], ◌∷◌, ◌++◌, Option, Some, None, Vec, if◌then◌else◌}
 use Rattle.std.specs.Str.{bytes_eq}
 use Rattle.std.specs.declared.alloc.Global.{Global}
-use Rattle.depot_answers.specs.AnswerTexts.{spaced, text_of_reader_feed, text_of_trim}
-use Rattle.depot_model.specs.readers.ReaderFeeds.{reader_feed_of}
 use Rattle.depot_model.specs.readers.Readers.{Reader, TrimAnswer}
-use Rattle.depot_world.specs.Run.{NamedReader, put_reader, reader_in}
-use Rattle.depot_requests.specs.Effects.{ended}
-use Rattle.depot_world.specs.Transcript.{answer_of_reader, reader_made}
+use Rattle.depot_requests.specs.ReaderRequests.{made_served, use_served}
+use Rattle.depot_requests.specs.declared.reader_request.ReaderUse.{ReaderUse}
+use Rattle.depot_world.specs.Run.{NamedReader, reader_in, readers_with}
 use Rattle.depot_scenario.specs.Labels.{named_in}
 use Rattle.depot_simulation.specs.declared.reading.Trimming.{Trimming}
 
@@ -20,25 +18,10 @@ IsMade reads None (Some r) = ⊥
 IsMade reads (Some x) None = ⊥
 IsMade reads (Some x) (Some r) = reads r x
 
--- what a node answered when a reader was to be made of it: that is printed, and the reader is there if it was made
+-- what a node answered when a reader was to be made of it: this is the reply, and the reader is there if it was made
 pub record HasTrimmed {R : Type 0} (reads : Reader → R → Type 0) (answer : TrimAnswer) (t : Trimming R) : Type 0 where
-  pub lines_are : t.lines ≡ ended (spaced (text_of_trim answer))
-  pub reader_is : IsMade reads t.reader (reader_made answer)
-
--- the lines of a reader that takes a stream, or of none
-abbrev pub reader_lines : Option Reader → List ℕ → List ℕ
-reader_lines None stream = ended []
-reader_lines (Some r) stream = ended (spaced (text_of_reader_feed (reader_feed_of r stream)))
-
--- the reader that has taken a stream
-abbrev pub gone_on : Option Reader → List ℕ → Option Reader
-gone_on None stream = None
-gone_on (Some r) stream = Some (reader_feed_of r stream).reader
-
--- the lines of a reader that reads a key, or of none
-abbrev pub reader_shown : Option Reader → List ℕ → List ℕ
-reader_shown None key = ended []
-reader_shown (Some r) key = ended (answer_of_reader r key)
+  pub reply_is : t.reply ≡ (made_served answer).reply
+  pub reader_is : IsMade reads t.reader (made_served answer).reader
 
 -- ---- readers by their names
 
@@ -58,11 +41,6 @@ IsNamed reads (Some o) (Some r) = IsMade reads o r.reader
 abbrev pub AreReaders : {R : Type 0} → (Reader → R → Type 0) → List (Vec ℕ Global × Option R) → List NamedReader → Type 0
 AreReaders reads entries readers = (name : List ℕ) → IsNamed reads (named_in name entries) (first_named readers name)
 
--- the reader of a name, replacing the one before, if any
-abbrev pub readers_with : List ℕ → Option Reader → List NamedReader → List NamedReader
-readers_with name None readers = readers
-readers_with name (Some r) readers = put_reader name r readers
-
 -- ---- what calls leave of them
 
 -- Whatever readers were kept, and whatever was made: the same are kept, and this one at the end, under its name.
@@ -70,7 +48,7 @@ abbrev pub KeepsMade : {R : Type 0} → (Reader → R → Type 0) → List (Vec 
 KeepsMade reads old name reader new = (readers : List NamedReader) (made : Option Reader) → AreReaders reads old readers → IsMade reads reader made
     → AreReaders reads new (readers ++ record { name = name; reader = made } ∷ [])
 
--- Whatever readers were kept: the same are kept, after the one of this name took a stream.
-abbrev pub TakesStream : {R : Type 0} → (Reader → R → Type 0) → List (Vec ℕ Global × Option R) → List ℕ → List ℕ → List (Vec ℕ Global × Option R) → Type 0
-TakesStream reads old name stream new = (readers : List NamedReader) → AreReaders reads old readers
-    → AreReaders reads new (readers_with name (gone_on (reader_in readers name) stream) readers)
+-- Whatever readers were kept: the same are kept, after the one of this name was used.
+abbrev pub UsesNamed : {R : Type 0} → (Reader → R → Type 0) → List (Vec ℕ Global × Option R) → List ℕ → ReaderUse → List (Vec ℕ Global × Option R) → Type 0
+UsesNamed reads old name u new = (readers : List NamedReader) → AreReaders reads old readers
+    → AreReaders reads new (readers_with name (use_served (reader_in readers name) u).reader readers)

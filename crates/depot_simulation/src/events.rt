@@ -12,7 +12,7 @@ use crate::simulation::Simulation;
 use depot_base::{Bytes, Memory};
 use depot_lines::Label;
 use depot_model::{Scheme, Signer};
-use depot_scenario::{Scenario, event_head, judged};
+use depot_scenario::{Scenario, head_and_arrow, judged};
 use depot_schedule::Event;
 
 impl<A: Actor> Simulation<A> {
@@ -28,8 +28,7 @@ impl<A: Actor> Simulation<A> {
         ensures lines { IfOk result (λ lines. PlaysEvent S.verifies G.key_of G.signature_of scenario.now A.view A.Reader.reads self.old event.now lines self.new) }
         ensures asked { self.new.seen.asked ≡ self.old.seen.asked }
     {
-        let mut lines = Bytes::new(self.alloc);
-        event_head(self.alloc, &mut lines, event)?;
+        let mut lines = head_and_arrow(self.alloc, event)?;
         let behind = self.lines(scenario, event)?;
         lines.push_all(behind.as_slice())?;
         Ok(lines)

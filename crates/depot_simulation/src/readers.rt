@@ -2,11 +2,13 @@
 ghost use Rattle.std.specs.Prelude.{◌≡◌, List, Option, [], IfOk, OnOk};
 ghost use Rattle.depot_model.specs.readers.Readers.{Reader};
 ghost use Rattle.depot_world.specs.Run.{NamedReader, reader_in};
-ghost use Rattle.depot_simulation.specs.Readers.{AreReaders, IsMade, KeepsMade, TakesStream, gone_on, reader_shown, reader_lines};
+ghost use Rattle.depot_requests.specs.ReaderRequests.{use_served};
+ghost use Rattle.depot_simulation.specs.Readers.{AreReaders, IsMade, KeepsMade, UsesNamed};
 
 use crate::reading::Reading;
-use depot_base::{Bytes, Key, Memory};
+use depot_base::Memory;
 use depot_lines::Label;
+use depot_requests::{ReaderReply, ReaderUse};
 use std::alloc::Global;
 use std::collections::BTreeMap;
 
@@ -42,49 +44,27 @@ impl<R: Reading> Readers<R> {
         Ok(())
     }
 
-    /// Gives the reader of a name a stream. Returns the lines from the arrow on, empty if there is no reader.
-    pub fn tgive(&mut self, name: &Label, stream: &[u8]) -> Result<Bytes, Memory>
+    /// Uses the reader of a name. The reply says if there is none.
+    pub fn serve(&mut self, name: &Label, asked: &ReaderUse) -> Result<ReaderReply, Memory>
         requires { (readers : List NamedReader) × AreReaders R.reads self.old.map.entries readers }
-        ensures lines { IfOk result (λ lines. (readers : List NamedReader) → AreReaders R.reads self.old.map.entries readers → lines ≡ reader_lines (reader_in readers name.now) stream.now) }
-        ensures readers { OnOk result (TakesStream R.reads self.old.map.entries name.now stream.now self.new.map.entries) }
+        ensures reply { IfOk result (λ reply. (readers : List NamedReader) → AreReaders R.reads self.old.map.entries readers → reply ≡ (use_served (reader_in readers name.now) asked.now).reply) }
+        ensures readers { OnOk result (UsesNamed R.reads self.old.map.entries name.now asked.now self.new.map.entries) }
     {
         match self.map.get_mut(name.bytes()) {
-            Some(kept) => tgive_to(self.alloc, kept, stream),
-            None => Ok(Bytes::from_slice(self.alloc, b"\n")?),
-        }
-    }
-
-    /// Reads a key at the reader of a name. Returns the lines from the arrow on, empty if there is no reader.
-    pub fn tget(&self, name: &Label, key: &Key) -> Result<Bytes, Memory>
-        requires { (readers : List NamedReader) × AreReaders R.reads self.now.map.entries readers }
-        ensures { IfOk result (λ lines. (readers : List NamedReader) → AreReaders R.reads self.now.map.entries readers → lines ≡ reader_shown (reader_in readers name.now) key.now) }
-    {
-        match self.map.get(name.bytes()) {
-            Some(kept) => tget_from(self.alloc, kept, key),
-            None => Ok(Bytes::from_slice(self.alloc, b"\n")?),
+            Some(kept) => serve_kept(kept, asked),
+            None => Ok(ReaderReply::NoReader),
         }
     }
 }
 
-/// What is kept under a name takes a stream, where it is a reader.
-fn tgive_to<R: Reading>(alloc: Global, kept: &mut Option<R>, stream: &[u8]) -> Result<Bytes, Memory>
+/// What is kept under a name is used, where it is a reader.
+fn serve_kept<R: Reading>(kept: &mut Option<R>, asked: &ReaderUse) -> Result<ReaderReply, Memory>
     requires { (made : Option Reader) × IsMade R.reads kept.old made }
-    ensures lines { IfOk result (λ lines. (made : Option Reader) → IsMade R.reads kept.old made → lines ≡ reader_lines made stream.now) }
-    ensures goes_on { OnOk result ((made : Option Reader) → IsMade R.reads kept.old made → IsMade R.reads kept.new (gone_on made stream.now)) }
+    ensures reply { IfOk result (λ reply. (made : Option Reader) → IsMade R.reads kept.old made → reply ≡ (use_served made asked.now).reply) }
+    ensures goes_on { OnOk result ((made : Option Reader) → IsMade R.reads kept.old made → IsMade R.reads kept.new (use_served made asked.now).reader) }
 {
     match kept {
-        Some(reader) => reader.tgive(stream),
-        None => Ok(Bytes::from_slice(alloc, b"\n")?),
-    }
-}
-
-/// What is kept under a name reads a key, where it is a reader.
-fn tget_from<R: Reading>(alloc: Global, kept: &Option<R>, key: &Key) -> Result<Bytes, Memory>
-    requires { (made : Option Reader) × IsMade R.reads kept.now made }
-    ensures { IfOk result (λ lines. (made : Option Reader) → IsMade R.reads kept.now made → lines ≡ reader_shown made key.now) }
-{
-    match kept {
-        Some(reader) => reader.tget(key),
-        None => Ok(Bytes::from_slice(alloc, b"\n")?),
+        Some(reader) => reader.serve(asked),
+        None => Ok(ReaderReply::NoReader),
     }
 }

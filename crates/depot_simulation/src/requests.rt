@@ -74,7 +74,7 @@ impl<A: Actor> Simulation<A> {
     }
 
     /// A copy of the bytes of a label.
-    fn copied(&self, label: &Label) -> Result<Bytes, Memory>
+    pub fn copied(&self, label: &Label) -> Result<Bytes, Memory>
         ensures { IfOk result (λ bytes. OfEachRun A.view A.Reader.reads self.now (λ setup run. bytes ≡ bytes_of_label run label.now)) }
     {
         Ok(Bytes::from_slice(self.alloc, self.bytes_of(label))?)

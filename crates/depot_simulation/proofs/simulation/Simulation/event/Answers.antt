@@ -8,7 +8,7 @@ returns-clause-lines g c = λ setup run on sound at.
     let e = c.args.event.now in
     let d = c.in_ok-behind.ensures.lines setup run on sound at in
     record {
-      lines_are = lines_told e (done setup run e) c.new-lines.result c.event_head.new.out c.in_ok-behind.behind c.push_all.new.self c.new-lines.ensures c.in_ok-event_head.ensures d.lines_are
-          (c.in_ok-push_all.ensures.ok ∙ ap (λ (t : List ℕ). c.event_head.new.out ++ t) c.as_slice.ensures);
+      lines_are = lines_told e (done setup run e) c.in_ok-lines.lines c.in_ok-behind.behind c.push_all.new.self c.in_ok-lines.ensures d.lines_are
+          (c.in_ok-push_all.ensures.ok ∙ ap (λ (t : List ℕ). c.in_ok-lines.lines ++ t) c.as_slice.ensures);
       at = d.at;
     }

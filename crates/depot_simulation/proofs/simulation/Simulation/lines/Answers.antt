@@ -58,4 +58,4 @@ returns-in-Tgive-clause-lines g c = IfOk-weaker c.tgive.result _ _ (λ lines tol
 pub returns-in-Tget-clause-lines : goal.returns-in-Tget-clause-lines
 unfolding done
 returns-in-Tget-clause-lines g c = IfOk-weaker c.tget.result _ _ (λ lines told setup run on sound at.
-    subst (λ (e : Event). HasDone g.row.A.Denot g.A.Actor.view g.A.Reader.Reading.reads setup (done setup run e) lines c.args.self.now) (sym c.in-Tget.is) (told setup run at)) c.tget.ensures
+    subst (λ (e : Event). HasDone g.row.A.Denot g.A.Actor.view g.A.Reader.Reading.reads setup (done setup run e) lines c.tget.new.self) (sym c.in-Tget.is) (told setup run at)) c.tget.ensures.lines

@@ -1,10 +1,10 @@
+use Rattle.std.proofs.Common.{ℕ, List, subst}
 use Rattle.std.proofs.lemmas.Result.{IfOk-weaker}
-use Rattle.depot_simulation.proofs.ReaderEvents.{key_shown}
+use Rattle.depot_requests.specs.declared.reader_request.ReaderUse.TheVariants as uses
+use Rattle.depot_world.specs.Transcript.{used_at}
+use Rattle.depot_simulation.specs.Doing.{HasDone}
 use Rattle.depot_simulation.proofs.simulation.Simulation.tget.Goals as goal
 
-pub tget-requires : goal.tget-requires
-tget-requires g c = (c.requires.run.readers, c.requires.at.readers_are)
-
-pub returns : goal.returns
-returns g c = IfOk-weaker c.tget.result _ _ (λ lines shown setup run at.
-    key_shown g.row.A.Denot g.A.Actor.view g.A.Reader.Reading.reads setup run c.args.name.now c.args.key.now lines c.args.self.now at (shown run.readers at.readers_are)) c.tget.ensures
+pub returns-clause-lines : goal.returns-clause-lines
+returns-clause-lines g c = IfOk-weaker c.use_reader.result _ _ (λ lines told setup run at.
+    subst (λ (key : List ℕ). HasDone g.row.A.Denot g.A.Actor.view g.A.Reader.Reading.reads setup (used_at run c.args.name.now (uses.Get key)) lines c.use_reader.new.self) c.in_ok-key.ensures (told setup run at)) c.use_reader.ensures.lines
