@@ -14,12 +14,12 @@ use depot_base::Memory;
 use depot_outside::{Disk, Shelf, Sink};
 use depot_session::run_server;
 use depot_sign::Roster;
-use depot_source::Source;
+use depot_source::Waiting;
 use depot_winter::{WinterScheme, WinterSigner};
 use std::alloc::Global;
 
 /// Serves the node of the words in a roster, and returns how the run ended.
-fn serve_of<D: Disk, I: Source, S: Sink>(
+fn serve_of<D: Disk, I: Waiting, S: Sink>(
     alloc: Global,
     words: &ServerWords,
     roster: Roster,
@@ -49,7 +49,7 @@ fn serve_of<D: Disk, I: Source, S: Sink>(
 
 /// Serves the node of the words, and returns how the run ended. The roster is loaded and parsed first; the disk and the
 /// source are touched after that.
-pub fn serve<F: Shelf, D: Disk, I: Source, S: Sink>(
+pub fn serve<F: Shelf, D: Disk, I: Waiting, S: Sink>(
     alloc: Global,
     words: &ServerWords,
     shelf: &mut F,

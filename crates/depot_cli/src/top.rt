@@ -21,7 +21,7 @@ use crate::status::Status;
 use crate::word::Word;
 use depot_base::Memory;
 use depot_outside::{Disk, Shelf, Sink};
-use depot_source::Source;
+use depot_source::Waiting;
 use std::alloc::Global;
 
 /// Does what a command asks for, and says how the run ended.
@@ -81,7 +81,7 @@ fn offline<F: Shelf, D: Disk, S: Sink>(
 /// The commands are `scan LOG KEY`, `key SEED HEIGHT`, `judge ROSTER PROOF`, `replay SCHEDULE`, `load NUMBER`, `node
 /// ROSTER SEED HEIGHT ID SCRIPT`, `audit ROSTER TRACE..` and `serve ROSTER SEED HEIGHT ID`; other words are refused as
 /// Words. `docs/FORMATS.md` has each text that is printed, and `docs/PROMISES.md` explains the clauses.
-pub fn depot<F: Shelf, D: Disk, I: Source, S: Sink>(
+pub fn depot<F: Shelf, D: Disk, I: Waiting, S: Sink>(
     alloc: Global,
     words: &[Word],
     shelf: &mut F,

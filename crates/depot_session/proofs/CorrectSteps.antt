@@ -19,7 +19,7 @@ use Rattle.depot_script.specs.declared.command.Command.TheVariants as command
 use Rattle.depot_world.proofs.of_worlds.GoodEffects.{read_is, never_falls}
 use Rattle.depot_world.proofs.of_worlds.GoodNodes.{begun_grows, read_grows}
 use Rattle.depot_session.specs.SessionRuns.{world_at}
-use Rattle.depot_session.specs.Sessions.{Asking, Session, asked_in, asked_step, asks_for, given_by_name, shown_by_last, step_by, step_of}
+use Rattle.depot_session.specs.Sessions.{Asking, Session, asked_in, asked_step, asks_for, given_by_name, step_by, step_of}
 use Rattle.depot_session.proofs.AskedCommands.{of_file}
 
 -- ---- correct nodes
@@ -69,10 +69,6 @@ asks_no_read s (command.Tgive file) other = by_reader s.reader where
   by_reader : (o : Option Reader) → AsksNoRead (given_by_name s file o)
   by_reader None = tt
   by_reader (Some R) = of_file AsksNoRead _ file (s.files file) tt (λ bytes. tt)
-asks_no_read s (command.Tget key) other = by_reader s.reader where
-  by_reader : (o : Option Reader) → AsksNoRead (shown_by_last key o)
-  by_reader None = tt
-  by_reader (Some R) = tt
 asks_no_read s c other = tt
 
 reads_by : (here : Setting) (sign : Signs) (s : Session) (c : Command) (a : Asking) → AsksNoRead a → (step_by here sign s c a).session.correct.reads ≡ s.correct.reads

@@ -1,6 +1,7 @@
 -- A run, turn by turn.
-use Rattle.std.proofs.Common.{◌≡◌, ◌≤◌, ◌<◌, ℕ, ◌+◌, ◌-◌, ◌^◌, Option, Bool, true, false, IsTrue, List, [], ◌∷◌, ◌++◌, append-nil, append_assoc, length, length-append, map, take, Result, Ok, Err, refl, sym, ap, subst, ◌∙◌, arith, inl, inr, ⊎_elim}
+use Rattle.std.proofs.Common.{◌≡◌, ◌≤◌, ◌<◌, ◌⊎◌, ℕ, ◌+◌, ◌-◌, ◌^◌, Option, Bool, true, false, IsTrue, List, [], ◌∷◌, ◌++◌, append-nil, append_assoc, length, length-append, map, take, Result, Ok, Err, refl, sym, ap, subst, ◌∙◌, arith, inl, inr, ⊎_elim}
 use Rattle.std.proofs.lemmas.List.{take_all, take-append-le}
+use Rattle.std.proofs.Math.Seq.{take-append-add}
 use Rattle.std.proofs.Math.Nat.{eq-or-lt_of_le}
 use Rattle.std.specs.List.{flat_map}
 use Rattle.std.specs.Prelude.{min}
@@ -19,11 +20,11 @@ use Rattle.depot_source.specs.Inputs.{Inputs}
 use Rattle.depot_source.specs.Messages.{Message, text_of_message}
 use Rattle.depot_service.specs.Answering.{IsServing}
 use Rattle.depot_session.specs.Answering.{ServesBody, came_of}
-use Rattle.depot_session.specs.Serving.{AllStayKept, AreAnswered, FaultsRisen, GrowsToward, HasAnswered, IsCutOff, IsTurnShort, RunsWith, ServesShort, ServesWhole, StaysKept, TurnsRequest, bodies_of, came_at, faults_risen, place_after}
+use Rattle.depot_session.specs.Serving.{AllStayKept, AreAnswered, FaultsRisen, GrowsToward, HasAnswered, IsCutOff, IsTurnShort, RunsWith, ServesShort, ServesWhole, StaysKept, TurnsRequest, bodies_of, came_at, faults_risen, place_from}
 use Rattle.depot_session.specs.declared.server_ending.ServeEnding.{ServeEnding}
 use Rattle.depot_session.specs.declared.server_ending.ServeEnding.TheVariants as ending
 use Rattle.depot_session.proofs.of_serving.SameNodes.{same_before, same_behind}
-use Rattle.depot_session.proofs.of_serving.Folding.{bodies_more, each_more, journal_more, text_more, texts_more}
+use Rattle.depot_session.proofs.of_serving.Folding.{bodies_more, each_all, each_more, journal_all, journal_more, place_behind, text_all, text_more, texts_all, texts_more}
 
 -- ---- what is kept
 
@@ -76,6 +77,35 @@ kept_now g only_now first new J ran running at brings = record {
   is = sym (append-nil J);
   left = λ told. record { began = (brings.lasts.any_moment (subst (λ (b : Bool). IsTrue b) brings.lasts.told told) ran).later; past = omega arith; left = λ image left. subst (λ (x : List Record). HasFront x [] image) at (front_of_all (g.records new) image (running.stable told image (only_now new image left))) };
 }
+
+-- what is kept from some moment on, seen from an earlier one
+pub kept_from : {N : Type 0} (g : Ghosts N) (first mid new : N) (J then : List Record) {K L : List Record} → g.stopped first ≡ false → GrowsToward g first mid K → GrowsToward g mid new L → StaysKept g mid new J then → StaysKept g first new J then
+kept_from g first mid new J then ran one two kept = record {
+  moment = kept.moment;
+  more = kept.more;
+  is = kept.is;
+  left = λ told.
+      let since = kept.left told in
+      let told_mid = subst (λ (b : Bool). IsTrue b) two.lasts.told told in
+      let later = (one.lasts.any_moment (subst (λ (b : Bool). IsTrue b) one.lasts.told told_mid) ran).later in
+      record { began = omega (arith, later, since.began); past = since.past; left = since.left };
+}
+
+-- a number is at most another, or at least
+split_at : (k n : ℕ) → (k ≤ n) ⊎ (n ≤ k)
+split_at k n = grind arith
+
+take_behind : (k : ℕ) (xs ys : List Message) → length xs ≤ k → take k (xs ++ ys) ≡ xs ++ take (k - length xs) ys
+take_behind k xs ys le = subst (λ (n : ℕ). take n (xs ++ ys) ≡ xs ++ take (k - length xs) ys) (sym (omega (arith, le))) (take-append-add xs ys (k - length xs))
+
+-- how a run was cut short, said of what is equal
+pub cut_as : {N : Type 0} (g : Ghosts N) (f : ServesBody) (new : N) (J K : List Record) (next : List Message) (behind last : List ℕ) (over over' : Bool) (risen risen' : FaultsRisen) (place place' : ℕ) (e : ServeEnding) → J ≡ K → over ≡ over' → risen ≡ risen' → place ≡ place'
+    → IsCutOff (RunsWith g new) K (came_of f K (bodies_of next)) next behind last over' risen' place' e → IsCutOff (RunsWith g new) J (came_of f J (bodies_of next)) next behind last over risen place e
+cut_as g f new J K next behind last over over' risen risen' place place' e journal ends fails at cut =
+    subst (λ (x : List Record). IsCutOff (RunsWith g new) x (came_of f x (bodies_of next)) next behind last over risen place e) (sym journal)
+    (subst (λ (o : Bool). IsCutOff (RunsWith g new) K (came_of f K (bodies_of next)) next behind last o risen place e) (sym ends)
+    (subst (λ (x : FaultsRisen). IsCutOff (RunsWith g new) K (came_of f K (bodies_of next)) next behind last over' x place e) (sym fails)
+    (subst (λ (x : ℕ). IsCutOff (RunsWith g new) K (came_of f K (bodies_of next)) next behind last over' risen' x e) (sym at) cut)))
 
 -- ---- texts after one another
 
@@ -140,27 +170,98 @@ module _ {N : Type 0} (g : Ghosts N) (only_now : (n : N) (file : List ℕ) → g
           ];
         }
 
-    -- the end
-    pub over_now : new ≡ mid → input_turn.after ≡ input_turn.before → input.over ≡ true → Wrote sink_turn [] → ServesWhole g f first new input sink
-    over_now same given over wrote = record {
-      done = done;
-      answered = record {
-        each = so_far.each;
-        given = given_new ∙ given ∙ given_mid ∙ so_far.given ∙ ap (λ (s : List ℕ). s ++ flat_map text_of_message done) (sym given_first);
-        wrote = subst (Wrote sink) (append-nil texts) (wrote_more [] wrote);
-        journal = subst (λ (n : N). g.records n ≡ (came_at g f first done).journal) (sym same) so_far.journal;
-        same = subst (λ (n : N). IsSameNode g first n) (sym same) so_far.same;
-        running = subst (IsServing g) (sym same) so_far.running;
-        lawful = subst (λ (n : N). LastsIn g ⊥ first n) (sym same) so_far.lawful;
-        brings = subst (λ (n : N). GrowsToward g first n (came_at g f first done).journal) (sym same) so_far.brings;
-        kept = subst (λ (n : N). AllStayKept g f first n done (came_at g f first done).journal) (sym same) so_far.kept;
-      };
-      over = over;
+    -- what was kept by then, and what is kept of those after it
+    kept_all : (more : List Message) (then then' : List Record) → then' ≡ then → GrowsToward g mid new then → AllStayKept g f mid new more then → AllStayKept g f first new (done ++ more) then'
+    kept_all more then then' is brings kept k le = elim (split_at k (length done)) [
+      | inl within ↦
+          subst (λ (ms : List Message). StaysKept g first new (came_at g f first ms).journal then') (sym (take-append-le k done more within))
+          (subst (StaysKept g first new (came_at g f first (take k done)).journal) (sym is) (kept_on g first mid new _ _ _ so_far.running.runs so_far.journal (so_far.kept k within) brings))
+      | inr behind ↦
+          let rest : k - length done ≤ length more = omega (arith, behind, le, length-append done more) in
+          let front : take k (done ++ more) ≡ done ++ take (k - length done) more = take_behind k done more behind in
+          let journal_is : (came_at g f first (done ++ take (k - length done) more)).journal ≡ (came_at g f mid (take (k - length done) more)).journal = journal_all f (g.records first) (g.records mid) done (take (k - length done) more) so_far.journal in
+          subst (λ (ms : List Message). StaysKept g first new (came_at g f first ms).journal then') (sym front)
+          (subst (λ (J : List Record). StaysKept g first new J then') (sym journal_is)
+          (subst (StaysKept g first new (came_at g f mid (take (k - length done) more)).journal) (sym is) (kept_from g first mid new _ then ran so_far.brings brings (kept (k - length done) rest))))
+    ]
+
+    -- several turns more
+    pub answered_all : (more : List Message) (t : AreAnswered g f mid new input_turn sink_turn more) → AreAnswered g f first new input sink (done ++ more)
+    answered_all more t =
+        let J = g.records first in
+        let journal_is : (came_at g f first (done ++ more)).journal ≡ (came_at g f mid more).journal = journal_all f J (g.records mid) done more so_far.journal in
+        let text_is : (came_at g f first (done ++ more)).text ≡ texts ++ (came_at g f mid more).text = text_all f J (g.records mid) done more so_far.journal in
+        record {
+          each = each_all done more so_far.each t.each;
+          given = given_more (flat_map text_of_message more) t.given ∙ ap (λ (x : List ℕ). input.before ++ x) (sym (texts_all done more));
+          wrote = subst (Wrote sink) (sym text_is) (wrote_more _ t.wrote);
+          journal = t.journal ∙ sym journal_is;
+          same = same_behind g first mid new so_far.same t.same;
+          running = t.running;
+          lawful = joined_in g ⊥ ⊥ first mid new (λ never. never) so_far.same.stands ran so_far.running.runs so_far.lawful t.lawful;
+          brings = subst (GrowsToward g first new) (sym journal_is) (brings_joined g first mid new _ _ ran so_far.running.runs so_far.journal so_far.brings t.brings);
+          kept = kept_all more (came_at g f mid more).journal (came_at g f first (done ++ more)).journal journal_is t.brings t.kept;
+        }
+
+    -- the end after them
+    pub whole_all : input.over ≡ input_turn.over → ServesWhole g f mid new input_turn sink_turn → ServesWhole g f first new input sink
+    whole_all over w = record { done = done ++ w.done; answered = answered_all w.done w.answered; over = over ∙ w.over }
+
+    -- a run that was cut short after them
+    pub short_all : (begins place : ℕ) (e : ServeEnding) → place ≡ place_from begins done → faults_risen (g.faults mid) (g.faults new) input_turn sink_turn ≡ faults_risen (g.faults first) (g.faults new) input sink → input.over ≡ input_turn.over
+        → ServesShort g f mid new input_turn sink_turn place e → ServesShort g f first new input sink begins e
+    short_all begins place e at_place fails over t =
+        let J = g.records first in
+        let K = (came_at g f mid t.done).journal in
+        let is : (came_at g f first (done ++ t.done)).journal ≡ K = journal_all f J (g.records mid) done t.done so_far.journal in
+        let text_is : (came_at g f first (done ++ t.done)).text ≡ texts ++ (came_at g f mid t.done).text = text_all f J (g.records mid) done t.done so_far.journal in
+        let then : List Record → List Record = λ x. (came_of f x (bodies_of t.breaks.next)).journal in
+        let next = t.breaks.next in
+        let behind = t.breaks.behind in
+        let last = t.breaks.last in
+        let place_is : place_from place t.done ≡ place_from begins (done ++ t.done) = ap (λ (x : ℕ). place_from x t.done) at_place ∙ place_behind begins done t.done in
+        record {
+          done = done ++ t.done;
+          each = each_all done t.done so_far.each t.each;
+          breaks = record {
+            next = next;
+            behind = behind;
+            next_is = t.breaks.next_is;
+            given = given_more (flat_map text_of_message t.done ++ behind) (t.breaks.given ∙ append_assoc input_turn.before (flat_map text_of_message t.done) behind) ∙ ap (λ (x : List ℕ). input.before ++ x) (sym (append_assoc (flat_map text_of_message done) (flat_map text_of_message t.done) behind))
+                ∙ sym (append_assoc input.before (flat_map text_of_message done ++ flat_map text_of_message t.done) behind) ∙ ap (λ (x : List ℕ). (input.before ++ x) ++ behind) (sym (texts_all done t.done));
+            last = last;
+            cut = cut_as g f new (came_at g f first (done ++ t.done)).journal K next behind last input.over input_turn.over (faults_risen (g.faults first) (g.faults new) input sink) (faults_risen (g.faults mid) (g.faults new) input_turn sink_turn) (place_from begins (done ++ t.done)) (place_from place t.done) e is over (sym fails) (sym place_is) t.breaks.cut;
+          };
+          wrote = subst (λ (x : List ℕ). Wrote sink (x ++ last)) (sym text_is) (subst (Wrote sink) (sym (append_assoc texts (came_at g f mid t.done).text last)) (wrote_more ((came_at g f mid t.done).text ++ last) t.wrote));
+          same = same_behind g first mid new so_far.same t.same;
+          lawful = joined_in g ⊥ (e ≡ ending.Disk) first mid new (λ never. never) so_far.same.stands ran so_far.running.runs so_far.lawful t.lawful;
+          brings = subst (λ (x : List Record). GrowsToward g first new (then x)) (sym is) (brings_joined g first mid new _ _ ran so_far.running.runs so_far.journal so_far.brings t.brings);
+          kept = kept_all t.done (then K) (then (came_at g f first (done ++ t.done)).journal) (ap then is) t.brings t.kept;
+        }
+
+    -- they were answered after these
+    pub short_done : (begins place : ℕ) (e : ServeEnding) (at_place : place ≡ place_from begins done) (fails : faults_risen (g.faults mid) (g.faults new) input_turn sink_turn ≡ faults_risen (g.faults first) (g.faults new) input sink) (over : input.over ≡ input_turn.over) (t : ServesShort g f mid new input_turn sink_turn place e)
+        → (short_all begins place e at_place fails over t).done ≡ done ++ t.done
+    unfolding short_all
+    short_done begins place e at_place fails over t = refl
+
+    -- nothing more came
+    pub still_answered : new ≡ mid → input_turn.after ≡ input_turn.before → Wrote sink_turn [] → AreAnswered g f first new input sink done
+    still_answered same given wrote = record {
+      each = so_far.each;
+      given = given_new ∙ given ∙ given_mid ∙ so_far.given ∙ ap (λ (s : List ℕ). s ++ flat_map text_of_message done) (sym given_first);
+      wrote = subst (Wrote sink) (append-nil texts) (wrote_more [] wrote);
+      journal = subst (λ (n : N). g.records n ≡ (came_at g f first done).journal) (sym same) so_far.journal;
+      same = subst (λ (n : N). IsSameNode g first n) (sym same) so_far.same;
+      running = subst (IsServing g) (sym same) so_far.running;
+      lawful = subst (λ (n : N). LastsIn g ⊥ first n) (sym same) so_far.lawful;
+      brings = subst (λ (n : N). GrowsToward g first n (came_at g f first done).journal) (sym same) so_far.brings;
+      kept = subst (λ (n : N). AllStayKept g f first n done (came_at g f first done).journal) (sym same) so_far.kept;
     }
 
     -- a turn that was cut short
-    pub cut_short : (place : ℕ) (e : ServeEnding) → place ≡ place_after done → faults_risen (g.faults mid) (g.faults new) input_turn sink_turn ≡ faults_risen (g.faults first) (g.faults new) input sink → input.over ≡ input_turn.over → IsTurnShort g f mid new input_turn sink_turn place e → ServesShort g f first new input sink e
-    cut_short place e at_place fails over t =
+    pub cut_short : (begins place : ℕ) (e : ServeEnding) → place ≡ place_from begins done → faults_risen (g.faults mid) (g.faults new) input_turn sink_turn ≡ faults_risen (g.faults first) (g.faults new) input sink → input.over ≡ input_turn.over → IsTurnShort g f mid new input_turn sink_turn place e → ServesShort g f first new input sink begins e
+    cut_short begins place e at_place fails over t =
         let K = (came_at g f first done).journal in
         let at : g.records mid ≡ K = so_far.journal in
         let before_is : input_turn.before ≡ input.before ++ flat_map text_of_message done = given_mid ∙ so_far.given ∙ ap (λ (s : List ℕ). s ++ flat_map text_of_message done) (sym given_first) in
@@ -174,9 +275,9 @@ module _ {N : Type 0} (g : Ghosts N) (only_now : (n : N) (file : List ℕ) → g
             next_is = t.breaks.next_is;
             given = given_new ∙ t.breaks.given ∙ ap (λ (s : List ℕ). s ++ t.breaks.behind) before_is;
             last = t.breaks.last;
-            cut = subst (λ (o : Bool). IsCutOff (RunsWith g new) K (came_of f K (bodies_of t.breaks.next)) t.breaks.next t.breaks.behind t.breaks.last o (faults_risen (g.faults first) (g.faults new) input sink) (place_after done) e) (sym over)
-                (subst (λ (x : FaultsRisen). IsCutOff (RunsWith g new) K (came_of f K (bodies_of t.breaks.next)) t.breaks.next t.breaks.behind t.breaks.last input_turn.over x (place_after done) e) fails
-                (subst (λ (J : List Record). IsCutOff (RunsWith g new) J (came_of f J (bodies_of t.breaks.next)) t.breaks.next t.breaks.behind t.breaks.last input_turn.over (faults_risen (g.faults mid) (g.faults new) input_turn sink_turn) (place_after done) e) at
+            cut = subst (λ (o : Bool). IsCutOff (RunsWith g new) K (came_of f K (bodies_of t.breaks.next)) t.breaks.next t.breaks.behind t.breaks.last o (faults_risen (g.faults first) (g.faults new) input sink) (place_from begins done) e) (sym over)
+                (subst (λ (x : FaultsRisen). IsCutOff (RunsWith g new) K (came_of f K (bodies_of t.breaks.next)) t.breaks.next t.breaks.behind t.breaks.last input_turn.over x (place_from begins done) e) fails
+                (subst (λ (J : List Record). IsCutOff (RunsWith g new) J (came_of f J (bodies_of t.breaks.next)) t.breaks.next t.breaks.behind t.breaks.last input_turn.over (faults_risen (g.faults mid) (g.faults new) input_turn sink_turn) (place_from begins done) e) at
                 (subst (λ (x : ℕ). IsCutOff (RunsWith g new) (g.records mid) (came_of f (g.records mid) (bodies_of t.breaks.next)) t.breaks.next t.breaks.behind t.breaks.last input_turn.over (faults_risen (g.faults mid) (g.faults new) input_turn sink_turn) x e) at_place t.breaks.cut)));
           };
           wrote = wrote_more t.breaks.last t.wrote;
@@ -203,11 +304,11 @@ quiet a b v e cause = elim (eq-or-lt_of_le cause.never_falls) [
   untrue v e is = cc
 
 -- the run was cut short before anything came
-pub ended_by_count : {N : Type 0} (g : Ghosts N) (f : ServesBody) (first now : N) (input : Inputs) (sink : Sinks) (done : List Message) → AreAnswered g f first now input sink done → ServesShort g f first now input sink ending.Memory
+pub ended_by_count : {N : Type 0} (g : Ghosts N) (f : ServesBody) (first now : N) (input : Inputs) (sink : Sinks) (done : List Message) → AreAnswered g f first now input sink done → ServesShort g f first now input sink 0 ending.Memory
 ended_by_count g f first now input sink done a = record {
   done = done;
   each = a.each;
-  breaks = record { next = []; behind = []; next_is = tt; given = a.given ∙ sym (append-nil (input.before ++ flat_map text_of_message done)); last = []; cut = refl };
+  breaks = record { next = []; behind = []; next_is = (tt, ([], refl)); given = a.given ∙ sym (append-nil (input.before ++ flat_map text_of_message done)); last = []; cut = refl };
   wrote = subst (Wrote sink) (sym (append-nil (came_at g f first done).text)) a.wrote;
   same = a.same;
   lawful = lasts_so g ⊥ _ first now (λ never. absurd never) a.lawful;
@@ -216,9 +317,9 @@ ended_by_count g f first now input sink done a = record {
 }
 
 -- a turn by what the node serves, which is what it served at first
-pub of_first : {N : Type 0} (g : Ghosts N) (f h : ServesBody) (old new : N) (input : Inputs) (sink : Sinks) (place : ℕ) (r : Result (Option ℕ) ServeEnding) → f ≡ h → TurnsRequest g f old new input sink place r → TurnsRequest g h old new input sink place r
-of_first g f h old new input sink place r serves turns = subst (λ (x : ServesBody). TurnsRequest g x old new input sink place r) serves turns
+pub of_first : {N : Type 0} (g : Ghosts N) (f h : ServesBody) (old new : N) (input : Inputs) (sink : Sinks) (place : ℕ) (first : Bool) (r : Result (Option ℕ) ServeEnding) → f ≡ h → TurnsRequest g f old new input sink place first r → TurnsRequest g h old new input sink place first r
+of_first g f h old new input sink place first r serves turns = subst (λ (x : ServesBody). TurnsRequest g x old new input sink place first r) serves turns
 
 -- a place after one message more
-pub place_more : (done : List Message) (m : Message) (at long : ℕ) → at ≡ place_after done → long ≡ length (text_of_message m) → min (at + long) (2 ^ 64 - 1) ≡ place_after (done ++ m ∷ [])
-place_more done m at long is so = let all : length (flat_map text_of_message (done ++ m ∷ [])) ≡ length (flat_map text_of_message done) + length (text_of_message m) = ap length (texts_more done m) ∙ length-append (flat_map text_of_message done) (text_of_message m) in grind (arith, all, is, so)
+pub place_more : (begins : ℕ) (done : List Message) (m : Message) (at long : ℕ) → at ≡ place_from begins done → long ≡ length (text_of_message m) → min (at + long) (2 ^ 64 - 1) ≡ place_from begins (done ++ m ∷ [])
+place_more begins done m at long is so = let all : length (flat_map text_of_message (done ++ m ∷ [])) ≡ length (flat_map text_of_message done) + length (text_of_message m) = ap length (texts_more done m) ∙ length-append (flat_map text_of_message done) (text_of_message m) in grind (arith, all, is, so)

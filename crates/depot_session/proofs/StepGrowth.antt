@@ -2,13 +2,12 @@
 use Rattle.std.proofs.Common.{◌≡◌, List, [], ◌∷◌, Option, Some, None, refl}
 use Rattle.depot_model.specs.exchange.Bundle.{Signs}
 use Rattle.depot_model.specs.checks.Checks.{Setting}
-use Rattle.depot_model.specs.readers.Readers.{Reader}
 use Rattle.depot_model.proofs.of_journals.FeedGrowth.{IsGrown, grown_none, grown_twice}
 use Rattle.depot_requests.proofs.ServedRequests.{served_grows}
 use Rattle.depot_script.specs.declared.command.Command.{Command}
 use Rattle.depot_script.specs.declared.command.Command.TheVariants as command
 use Rattle.depot_session.specs.declared.ending.ScriptEnding.{ScriptEnding}
-use Rattle.depot_session.specs.Sessions.{Answers, Asking, Session, Step, answers_of, asked_in, asks_for, feeds, followed_by, shown_by_last, step_by, step_of, trims}
+use Rattle.depot_session.specs.Sessions.{Answers, Asking, Session, Step, answers_of, asked_in, asks_for, asks_reader, followed_by, step_by, step_of}
 use Rattle.depot_session.proofs.AskedCommands.{of_file}
 
 -- ---- a step
@@ -40,37 +39,33 @@ step_begun here sign s c = begun_by here sign s c (asked_in s c)
 
 -- ---- readers
 
--- the command makes no reader and gives none a stream
-abbrev pub MakesNoReader : Command → Type 0
-MakesNoReader (command.Trim file) = ⊥
-MakesNoReader (command.Tgive file) = ⊥
-MakesNoReader other = Unit {0}
+-- the command asks nothing of readers
+abbrev pub AsksNoReader : Command → Type 0
+AsksNoReader (command.Trim file) = ⊥
+AsksNoReader (command.Tgive file) = ⊥
+AsksNoReader (command.Tget key) = ⊥
+AsksNoReader other = Unit {0}
 
--- nor is it asked for
+-- nor is that asked for
 abbrev AsksNone : Asking → Type 0
-AsksNone (trims text) = ⊥
-AsksNone (feeds R stream) = ⊥
+AsksNone (asks_reader r) = ⊥
 AsksNone other = Unit {0}
 
-asks_none : (s : Session) (c : Command) → MakesNoReader c → AsksNone (asked_in s c)
+asks_none : (s : Session) (c : Command) → AsksNoReader c → AsksNone (asked_in s c)
 asks_none s (command.Bundle hello file) other = of_file AsksNone _ hello (s.files hello) tt (λ bytes. tt)
 asks_none s (command.Take file) other = of_file AsksNone _ file (s.files file) tt (λ bytes. tt)
 asks_none s (command.Sign file) other = of_file AsksNone _ file (s.files file) tt (λ bytes. tt)
 asks_none s (command.Trim file) other = absurd other
 asks_none s (command.Tgive file) other = absurd other
-asks_none s (command.Tget key) other = by_reader s.reader where
-  by_reader : (o : Option Reader) → AsksNone (shown_by_last key o)
-  by_reader None = tt
-  by_reader (Some R) = tt
+asks_none s (command.Tget key) other = absurd other
 asks_none s c other = tt
 
 reader_by : (here : Setting) (sign : Signs) (s : Session) (c : Command) (a : Asking) → AsksNone a → (step_by here sign s c a).session.reader ≡ s.reader
-reader_by here sign s c (trims text) none = absurd none
-reader_by here sign s c (feeds R stream) none = absurd none
+reader_by here sign s c (asks_reader r) none = absurd none
 reader_by here sign s c other none = refl
 
 -- so the last one is that from before
-pub step_reader : (here : Setting) (sign : Signs) (s : Session) (c : Command) → MakesNoReader c → (step_of here sign s c).session.reader ≡ s.reader
+pub step_reader : (here : Setting) (sign : Signs) (s : Session) (c : Command) → AsksNoReader c → (step_of here sign s c).session.reader ≡ s.reader
 unfolding step_of
 step_reader here sign s c other = reader_by here sign s c (asked_in s c) (asks_none s c other)
 

@@ -6,6 +6,7 @@ use Rattle.std.specs.Str.{bytes_eq}
 use Rattle.depot_base.proofs.Combined.{whole_again}
 use Rattle.depot_base.specs.Format.{whole}
 use Rattle.depot_base.specs.Writes.{one_change}
+use Rattle.depot_base.specs.declared.check.Full.{Full}
 use Rattle.depot_base.specs.declared.record.Record.{Record}
 use Rattle.depot_base.specs.declared.write.Change.{Change}
 use Rattle.depot_model.proofs.of_texts.CheckpointLaws.{checkpoint_lawful}
@@ -19,7 +20,7 @@ use Rattle.depot_model.specs.journals.Journal.{accepted}
 use Rattle.depot_model.specs.checks.Limits.{Limit, limit_of_put}
 use Rattle.depot_model.specs.readers.Opening.{MadeCheckpoint, Opened, ids_of, made_text, make_of, many_leaves, no_leaves, opened_as, opened_text, opened_unless, unknown_leaf}
 use Rattle.depot_model.specs.readers.ReaderFeeds.{reader_feed_of}
-use Rattle.depot_model.specs.readers.Readers.{Reader, trim_of, trimmed_as, trimmed_unless, unsigned_node}
+use Rattle.depot_model.specs.readers.Readers.{Reader, TrimAnswer, trim_of, trimmed_as, trimmed_unless, unsigned_node}
 use Rattle.depot_model.specs.worlds.Receipts.{NoReceipt, lacks_value, no_receipt, receipt_changes, unknown}
 use Rattle.depot_model.specs.texts.Roster.{has_node}
 use Rattle.depot_model.specs.checks.Taking.{at_start}
@@ -27,12 +28,16 @@ use Rattle.depot_model.specs.texts.Texts.{hash_of_roster}
 use Rattle.depot_script.specs.declared.command.Command.{Command}
 use Rattle.depot_script.specs.declared.command.Command.TheVariants as command
 use Rattle.depot_requests.specs.Effects.{checkpoint_changes}
+use Rattle.depot_requests.specs.ReaderRequests.{counts_of_feed, made_served, served_last, use_served}
 use Rattle.depot_requests.specs.Replies.{closing_told}
 use Rattle.depot_requests.specs.Requests.{bundle_served, checkpoint_served, handing, put_served, receipts_served, served, sign_served}
+use Rattle.depot_requests.specs.declared.reader_reply.ReaderReply.TheVariants as told
+use Rattle.depot_requests.specs.declared.reader_request.ReaderRequest.TheVariants as readers
+use Rattle.depot_requests.specs.declared.reader_request.ReaderUse.TheVariants as use_of
 use Rattle.depot_requests.specs.declared.request.Request.TheVariants as request
 use Rattle.depot_session.specs.declared.ending.ScriptEnding.{ScriptEnding}
 use Rattle.depot_session.specs.declared.ending.ScriptEnding.TheVariants as ending
-use Rattle.depot_session.specs.Sessions.{Asking, Session, answers_of, asks_for, ending_of_closing, ending_of_reply, ending_of_tgive, ending_of_trim, feeds, followed_by, given_by_name, shown_by_last, step_by, step_of, trims, with_file}
+use Rattle.depot_session.specs.Sessions.{Asking, Session, answers_of, asks_for, asks_reader, ending_of_closing, ending_of_reader_reply, ending_of_reply, followed_by, given_by_name, step_by, step_of, with_file}
 use Rattle.depot_session.specs.declared.requesting.TheConstants.{TAKEN_PIECE}
 use Rattle.depot_session.specs.Unhindered.{AreUnhindered, IsCheckpointOf, IsHelloFor, IsThere, IsUnhindered}
 use Rattle.depot_session.proofs.UnhinderedStreams.{taken_whole}
@@ -83,30 +88,39 @@ sign_goes here J text ids None within = put_goes here J (checkpoint_changes text
 
 -- ---- readers
 
-trim_goes : (here : Setting) (J : List Record) (text : List ℕ) (ids : List (List ℕ)) (o : Option (List ℕ)) → ending_of_trim (trimmed_as here J text (opened_unless ids o)) ≡ None
-trim_goes here J text ids (Some id) = refl
-trim_goes here J text ids None = by_node (unsigned_node here J text ids) where
-  by_node : (o : Option ℕ) → ending_of_trim (trimmed_unless here J ids o) ≡ None
+-- how a trim ends the run
+abbrev trim_ending : Option Reader → TrimAnswer → Option ScriptEnding
+trim_ending last a = ending_of_reader_reply (served_last last (made_served a)).reply
+
+trim_goes : (here : Setting) (J : List Record) (last : Option Reader) (text : List ℕ) (ids : List (List ℕ)) (o : Option (List ℕ)) → trim_ending last (trimmed_as here J text (opened_unless ids o)) ≡ None
+trim_goes here J last text ids (Some id) = refl
+trim_goes here J last text ids None = by_node (unsigned_node here J text ids) where
+  by_node : (o : Option ℕ) → trim_ending last (trimmed_unless here J ids o) ≡ None
   by_node (Some node) = refl
   by_node None = refl
 
 -- so a reader is made of its text, or none, and the run goes on
-trim_text_goes : (here : Setting) (J : List Record) (text : List ℕ) → IsCheckpointOf here text → ending_of_trim (trim_of here J text) ≡ None
+trim_text_goes : (here : Setting) (J : List Record) (last : Option Reader) (text : List ℕ) → IsCheckpointOf here text → trim_ending last (trim_of here J text) ≡ None
 unfolding trim_of
-trim_text_goes here J text c = ap (λ (o : Opened). ending_of_trim (trimmed_as here J text o)) (is_opened here J text c) ∙ trim_goes here J text (ids_of c.made) (unknown_leaf (accepted J) c.made.leaves)
+trim_text_goes here J last text c = ap (λ (o : Opened). trim_ending last (trimmed_as here J text o)) (is_opened here J text c) ∙ trim_goes here J last text (ids_of c.made) (unknown_leaf (accepted J) c.made.leaves)
+
+-- nor does a key that is read of one end it
+shown_goes : (key : List ℕ) (last : Option Reader) → ending_of_reader_reply (use_served last (use_of.Get key)).reply ≡ None
+shown_goes key None = refl
+shown_goes key (Some R) = refl
 
 module _ (here : Setting) (sign : Signs) (s : Session) (c : Command) where
   -- with a file that is there
   with_there : (asks : List ℕ → Asking) (name bytes : List ℕ) → s.files name ≡ Some bytes → (step_by here sign s c (with_file asks name (s.files name))).ending ≡ (step_by here sign s c (asks bytes)).ending
   with_there asks name bytes there = ap (λ (o : Option (List ℕ)). (step_by here sign s c (with_file asks name o)).ending) there
 
-  given_goes : (file : List ℕ) (o : Option Reader) → ((R : Reader) → o ≡ Some R → IsThere s file (λ stream. (reader_feed_of R stream).full ≡ None)) → (step_by here sign s c (given_by_name s file o)).ending ≡ None
-  given_goes file None each = refl
-  given_goes file (Some R) each = let one = each R refl in with_there (feeds R) file one.bytes one.there ∙ ap ending_of_tgive one.holds
-
-  shown_goes : (key : List ℕ) (o : Option Reader) → (step_by here sign s c (shown_by_last key o)).ending ≡ None
-  shown_goes key None = refl
-  shown_goes key (Some R) = refl
+  given_goes : (file : List ℕ) (o : Option Reader) → s.reader ≡ o → ((R : Reader) → o ≡ Some R → IsThere s file (λ stream. (reader_feed_of R stream).full ≡ None)) → (step_by here sign s c (given_by_name s file o)).ending ≡ None
+  given_goes file None last each = ap (λ (x : Option Reader). ending_of_reader_reply (use_served x (use_of.Give [])).reply) last
+  given_goes file (Some R) last each =
+      let one = each R refl in
+      with_there (λ stream. asks_reader (readers.Use (use_of.Give stream))) file one.bytes one.there
+      ∙ ap (λ (x : Option Reader). ending_of_reader_reply (use_served x (use_of.Give one.bytes)).reply) last
+      ∙ ap (λ (full : Option Full). ending_of_reader_reply (told.Took (counts_of_feed (reader_feed_of R one.bytes)) full)) one.holds
 
 -- ---- each command
 
@@ -131,9 +145,9 @@ goes_on here sign s (command.Sign file) u =
     with_there here sign s (command.Sign file) (λ bytes. asks_for (request.Sign bytes)) file u.bytes u.there
     ∙ ap (λ (o : Opened). ending_of_reply (sign_served here J u.bytes o).reply) (is_opened here J u.bytes c)
     ∙ sign_goes here J u.bytes (ids_of c.made) (unknown_leaf (accepted J) c.made.leaves) (λ known. u.holds.1 (ids_of c.made) (is_opened here J u.bytes c ∙ ap (opened_unless (ids_of c.made)) known))
-goes_on here sign s (command.Trim file) u = with_there here sign s (command.Trim file) trims file u.bytes u.there ∙ trim_text_goes here s.correct.journal u.bytes u.holds
-goes_on here sign s (command.Tgive file) u = given_goes here sign s (command.Tgive file) file s.reader u
-goes_on here sign s (command.Tget key) u = shown_goes here sign s (command.Tget key) key s.reader
+goes_on here sign s (command.Trim file) u = with_there here sign s (command.Trim file) (λ text. asks_reader (readers.Trim text)) file u.bytes u.there ∙ trim_text_goes here s.correct.journal s.reader u.bytes u.holds
+goes_on here sign s (command.Tgive file) u = given_goes here sign s (command.Tgive file) file s.reader refl u
+goes_on here sign s (command.Tget key) u = shown_goes key s.reader
 
 -- ---- a script
 

@@ -1,7 +1,7 @@
 -- Which request comes next over a source.
 use Rattle.std.specs.Prelude.{◌≡◌, ◌<◌, ◌⊎◌, ℕ, List, ◌++◌, length, Bool, true, Option, Some, None, Result, Ok, Err}
 use Rattle.depot_source.specs.Inputs.{Inputs}
-use Rattle.depot_source.specs.Messages.{IsMessage, IsNoMessage, IsPartOfMessage, Message, text_of_message}
+use Rattle.depot_source.specs.Messages.{HasHeard, IsMessage, IsNoMessage, IsPartOfMessage, Message, text_of_message}
 use Rattle.depot_source.specs.Pieces.{GivesMore}
 use Rattle.depot_service.specs.Bodies.{IsAskedFault, asked_of_body}
 use Rattle.depot_session.specs.declared.server_ending.ServeEnding.{ServeEnding}
@@ -28,12 +28,21 @@ pub record FailsWithin (input : Inputs) : Type 0 where
   pub part : IsPartOfMessage behind
   pub rose : input.faults_before < input.faults_after
 
--- What comes next: a request; the end; or what came is none, or the source failed, or no memory was found. Its message
--- begins at an offset.
-abbrev pub HearsRequest : Inputs → ℕ → Result (Option Heard) ServeEnding → Type 0
-HearsRequest input place (Ok (Some heard)) = HasHeardRequest input heard
-HearsRequest input place (Ok None) = (input.after ≡ input.before) × (input.over ≡ true)
-HearsRequest input place (Err ending.Memory) = GivesMore input.before input.after
-HearsRequest input place (Err ending.Source) = FailsWithin input
-HearsRequest input place (Err (ending.Input at within)) = (at ≡ place) × ((behind : List ℕ) × ((input.after ≡ input.before ++ behind) × NoRequestCame input.over behind within))
-HearsRequest input place (Err other) = ⊥
+-- What comes next: a message's body; the end, or, of a message that isn't the first of its group, none that waits; or
+-- what came is none, or the source failed, or no memory was found. Its message begins at an offset.
+abbrev pub HearsBody : Bool → Inputs → ℕ → Result (Option (List ℕ)) ServeEnding → Type 0
+HearsBody first input place (Ok (Some body)) = HasHeard input.before input.after body
+HearsBody first input place (Ok None) = (input.after ≡ input.before) × (first ≡ true → input.over ≡ true)
+HearsBody first input place (Err ending.Memory) = GivesMore input.before input.after
+HearsBody first input place (Err ending.Source) = FailsWithin input
+HearsBody first input place (Err (ending.Input at within)) = (at ≡ place) × ((within ≡ 0) × ((behind : List ℕ) × ((input.after ≡ input.before ++ behind) × IsNoMessage input.over behind)))
+HearsBody first input place (Err other) = ⊥
+
+-- The same of what is asked: a request.
+abbrev pub HearsRequest : Bool → Inputs → ℕ → Result (Option Heard) ServeEnding → Type 0
+HearsRequest first input place (Ok (Some heard)) = HasHeardRequest input heard
+HearsRequest first input place (Ok None) = (input.after ≡ input.before) × (first ≡ true → input.over ≡ true)
+HearsRequest first input place (Err ending.Memory) = GivesMore input.before input.after
+HearsRequest first input place (Err ending.Source) = FailsWithin input
+HearsRequest first input place (Err (ending.Input at within)) = (at ≡ place) × ((behind : List ℕ) × ((input.after ≡ input.before ++ behind) × NoRequestCame input.over behind within))
+HearsRequest first input place (Err other) = ⊥

@@ -8,6 +8,8 @@ pub mod Unhindered
 pub mod Exports
 pub mod Hearing
 pub mod Answering
+pub mod Keeping
+pub mod GroupCalls
 pub mod Serving
 pub mod FirstMessages
 pub mod ServerRuns

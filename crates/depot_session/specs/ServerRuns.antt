@@ -18,7 +18,7 @@ use Rattle.depot_source.specs.Messages.{Message, text_of_message}
 use Rattle.depot_source.specs.declared.source.Source as source_of
 use Rattle.depot_session.specs.Answering.{ServesBody, came_of, serves_at}
 use Rattle.depot_session.specs.FirstMessages.{refused_text, started_text}
-use Rattle.depot_session.specs.Serving.{AreAsking, BreaksOff, bodies_of, faults_risen, place_after}
+use Rattle.depot_session.specs.Serving.{AreAsking, BreaksOff, bodies_of, faults_risen, place_from}
 use Rattle.depot_session.specs.declared.server_ending.ServeEnding.{ServeEnding}
 use Rattle.depot_session.specs.declared.server_ending.ServeEnding.TheVariants as serve
 use Rattle.depot_session.specs.declared.server_ending.ServerEnding.{ServerEnding}
@@ -131,14 +131,14 @@ pub record IsServedWhole (here : Setting) (f : ServesBody) (J : List Record) (di
   pub kept : AllAreLeft f J disk done (came_of f J (bodies_of done)).journal
 
 -- The run was cut short. Some requests were answered, and after the first message their replies are complete. The next
--- one may have been started: each crash image has the journal after the answered ones and a prefix of what the next one
--- brings.
+-- ones may have been started: each crash image has the journal after the answered ones and a prefix of what the next
+-- ones bring.
 pub record IsServedShort (here : Setting) (f : ServesBody) (J : List Record) (disk : Disks) (input : Inputs) (sink : Sinks) (ends : ServerEnding) : Type 0 where
   pub done : List Message
   pub why : ServeEnding
   pub ending_is : ends ≡ ending_of_served (Err why)
   pub each : AreAsking done
-  pub breaks : BreaksOff f (StandsOn disk) (came_of f J (bodies_of done)).journal (input.before ++ flat_map text_of_message done) input.after input.over (faults_risen disk.faults_before disk.faults_after input sink) (place_after done) why
+  pub breaks : BreaksOff f (StandsOn disk) (came_of f J (bodies_of done)).journal (input.before ++ flat_map text_of_message done) input.after input.over (faults_risen disk.faults_before disk.faults_after input sink) (place_from 0 done) why
   pub wrote : Wrote sink (started_text here J ++ ((came_of f J (bodies_of done)).text ++ breaks.last))
   pub grows : GrowsFromFile here disk (came_of f (came_of f J (bodies_of done)).journal (bodies_of breaks.next)).journal
   pub kept : AllAreLeft f J disk done (came_of f (came_of f J (bodies_of done)).journal (bodies_of breaks.next)).journal

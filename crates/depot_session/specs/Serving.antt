@@ -1,5 +1,5 @@
 -- How a process serves a node: requests come over a source, and the replies go to a sink.
-use Rattle.std.specs.Prelude.{◌≡◌, ◌<◌, ◌≤◌, ◌-◌, ◌^◌, min, ℕ, Option, Some, None, List, [], ◌∷◌, ◌++◌, length, map, take, Bool, true, IsTrue, Result, Ok, Err}
+use Rattle.std.specs.Prelude.{◌≡◌, ◌<◌, ◌≤◌, ◌+◌, ◌-◌, ◌^◌, min, ℕ, Option, Some, None, List, [], ◌∷◌, ◌++◌, length, map, take, Bool, true, IsTrue, Result, Ok, Err}
 use Rattle.std.specs.List.{flat_map}
 use Rattle.depot_base.specs.declared.record.Record.{Record}
 use Rattle.depot_streams.specs.Lasting.{LastsIn}
@@ -85,10 +85,9 @@ pub record ServesWhole {N : Type 0} (g : Ghosts N) (f : ServesBody) (old new : N
 
 -- ---- a run that was cut short
 
--- the next request, if it was begun
+-- The requests of the next group that were begun. More may have been read after them.
 abbrev pub IsNextAsked : List Message → List ℕ → Type 0
-IsNextAsked [] behind = Unit {0}
-IsNextAsked (m ∷ messages) behind = (messages ≡ []) × (IsAsking m × (behind ≡ text_of_message m))
+IsNextAsked next behind = AreAsking next × ((more : List ℕ) × (behind ≡ flat_map text_of_message next ++ more))
 
 -- what failed in the run
 pub record FaultsRisen : Type 1 where
@@ -101,11 +100,10 @@ pub record RunsWith {N : Type 0} (g : Ghosts N) (node : N) (J : List Record) : T
   pub running : IsServing g node
   pub journal : g.records node ≡ J
 
--- The sink failed in a reply: its request was carried out, the journal after it is kept, and a prefix of the reply is
--- written.
+-- The sink failed in the replies of a group: its requests were carried out, the journal after them is kept, and a prefix
+-- of the replies is written.
 pub record IsHalfTold (Stands : List Record → Type 0) (comes : Came) (next : List Message) (last : List ℕ) : Type 0 where
-  pub message : Message
-  pub begun : next ≡ message ∷ []
+  pub begun : 1 ≤ length next
   pub stands : Stands comes.journal
   pub count : ℕ
   pub front : last ≡ take count comes.text
@@ -128,15 +126,15 @@ pub record IsUnheard (Stands : List Record → Type 0) (J : List Record) (next :
 
 -- Why it was cut short, and what holds after the replies, where `Stands` says what is known of the journal: no memory
 -- was found; the source failed, within a message or before it; the disk or the sink failed; or what came is no request,
--- and then all before it was answered. A prefix of the next reply is written only if its request was carried out.
+-- and then all before it was answered. A prefix of the next replies is written only if their requests were carried out.
 abbrev pub IsCutOff : (List Record → Type 0) → List Record → Came → List Message → List ℕ → List ℕ → Bool → FaultsRisen → ℕ → ServeEnding → Type 0
 IsCutOff Stands J comes next behind last over risen place ending.Memory = last ≡ []
 IsCutOff Stands J comes next behind last over risen place ending.Source = risen.source × IsUnheard Stands J next behind last
-IsCutOff Stands J comes next behind last over risen place ending.Disk = ((m : Message) × (next ≡ m ∷ [])) × ((last ≡ []) × risen.disk)
+IsCutOff Stands J comes next behind last over risen place ending.Disk = (1 ≤ length next) × ((last ≡ []) × risen.disk)
 IsCutOff Stands J comes next behind last over risen place ending.Sink = risen.sink × IsHalfTold Stands comes next last
 IsCutOff Stands J comes next behind last over risen place (ending.Input at within) = IsNotAsked Stands J next behind last over place at within
 
--- After a journal and earlier input, the next request may have been started, and the run was cut short.
+-- After a journal and earlier input, the next requests may have been started, and the run was cut short.
 pub record BreaksOff (f : ServesBody) (Stands : List Record → Type 0) (J : List Record) (before after : List ℕ) (over : Bool) (risen : FaultsRisen) (place : ℕ) (ends : ServeEnding) : Type 0 where
   pub next : List Message
   pub behind : List ℕ
@@ -145,9 +143,9 @@ pub record BreaksOff (f : ServesBody) (Stands : List Record → Type 0) (J : Lis
   pub last : List ℕ
   pub cut : IsCutOff Stands J (came_of f J (bodies_of next)) next behind last over risen place ends
 
--- how many bytes the messages before a place have, capped at 2^64 - 1
-abbrev pub place_after : List Message → ℕ
-place_after messages = min (length (flat_map text_of_message messages)) (2 ^ 64 - 1)
+-- the offset after messages that begin at an offset, capped at 2^64 - 1
+abbrev pub place_from : ℕ → List Message → ℕ
+place_from at messages = min (at + length (flat_map text_of_message messages)) (2 ^ 64 - 1)
 
 -- the faults of a run that rose
 abbrev pub faults_risen : ℕ → ℕ → Inputs → Sinks → FaultsRisen
@@ -157,12 +155,13 @@ faults_risen disk_before disk_after input sink = record {
   sink = sink.faults_before < sink.faults_after;
 }
 
--- The run was cut short. Some requests were answered, and their replies are complete. The next one may have been
--- started: each crash image has the journal after the answered ones and a prefix of what the next one brings.
-pub record ServesShort {N : Type 0} (g : Ghosts N) (f : ServesBody) (old new : N) (input : Inputs) (sink : Sinks) (ends : ServeEnding) : Type 0 where
+-- The run was cut short. Some requests were answered, and their replies are complete. The next ones may have been
+-- started: each crash image has the journal after the answered ones and a prefix of what the next ones bring. The first
+-- message begins at an offset.
+pub record ServesShort {N : Type 0} (g : Ghosts N) (f : ServesBody) (old new : N) (input : Inputs) (sink : Sinks) (place : ℕ) (ends : ServeEnding) : Type 0 where
   pub done : List Message
   pub each : AreAsking done
-  pub breaks : BreaksOff f (RunsWith g new) (came_at g f old done).journal (input.before ++ flat_map text_of_message done) input.after input.over (faults_risen (g.faults old) (g.faults new) input sink) (place_after done) ends
+  pub breaks : BreaksOff f (RunsWith g new) (came_at g f old done).journal (input.before ++ flat_map text_of_message done) input.after input.over (faults_risen (g.faults old) (g.faults new) input sink) (place_from place done) ends
   pub wrote : Wrote sink ((came_at g f old done).text ++ breaks.last)
   pub same : IsSameNode g old new
   pub brings : GrowsToward g old new (came_of f (came_at g f old done).journal (bodies_of breaks.next)).journal
@@ -172,7 +171,20 @@ pub record ServesShort {N : Type 0} (g : Ghosts N) (f : ServesBody) (old new : N
 -- The outcome of a run.
 abbrev pub ServesInput : {N : Type 0} → Ghosts N → ServesBody → N → N → Inputs → Sinks → Result (Unit {0}) ServeEnding → Type 0
 ServesInput g f old new input sink (Ok _) = ServesWhole g f old new input sink
-ServesInput g f old new input sink (Err e) = ServesShort g f old new input sink e
+ServesInput g f old new input sink (Err e) = ServesShort g f old new input sink 0 e
+
+-- The outcome of requests that wait, the first of which begins at an offset: they were answered, and the next one begins
+-- at this offset; or the run was cut short.
+abbrev pub ServesWaiting : {N : Type 0} → Ghosts N → ServesBody → N → N → Inputs → Sinks → ℕ → Result ℕ ServeEnding → Type 0
+ServesWaiting g f old new input sink place (Ok at) = (done : List Message) × (AreAnswered g f old new input sink done × (at ≡ place_from place done))
+ServesWaiting g f old new input sink place (Err e) = ServesShort g f old new input sink place e
+
+-- The outcome of a group of requests, the first of which begins at an offset: they were answered, and the next one
+-- begins at this offset; or the input ended; or the run was cut short.
+abbrev pub ServesGroup : {N : Type 0} → Ghosts N → ServesBody → N → N → Inputs → Sinks → ℕ → Result (Option ℕ) ServeEnding → Type 0
+ServesGroup g f old new input sink place (Ok (Some at)) = (done : List Message) × (AreAnswered g f old new input sink done × (at ≡ place_from place done))
+ServesGroup g f old new input sink place (Ok None) = ServesWhole g f old new input sink
+ServesGroup g f old new input sink place (Err e) = ServesShort g f old new input sink place e
 
 -- ---- one turn
 
@@ -196,8 +208,9 @@ pub record IsTurnShort {N : Type 0} (g : Ghosts N) (f : ServesBody) (old new : N
   pub brings : GrowsToward g old new (came_of f (g.records old) (bodies_of breaks.next)).journal
   pub lawful : LastsIn g (ends ≡ ending.Disk) old new
 
--- The outcome of a turn: a message of so many bytes was answered; the input ended; or it was cut short.
-abbrev pub TurnsRequest : {N : Type 0} → Ghosts N → ServesBody → N → N → Inputs → Sinks → ℕ → Result (Option ℕ) ServeEnding → Type 0
-TurnsRequest g f old new input sink place (Ok (Some long)) = (a : HasAnswered g f old new input sink) × (long ≡ length (text_of_message a.message))
-TurnsRequest g f old new input sink place (Ok None) = (new ≡ old) × ((input.after ≡ input.before) × ((input.over ≡ true) × Wrote sink []))
-TurnsRequest g f old new input sink place (Err e) = IsTurnShort g f old new input sink place e
+-- The outcome of a turn: a message of so many bytes was answered; the input ended, or, of a message that isn't the first
+-- of its group, none waits; or it was cut short.
+abbrev pub TurnsRequest : {N : Type 0} → Ghosts N → ServesBody → N → N → Inputs → Sinks → ℕ → Bool → Result (Option ℕ) ServeEnding → Type 0
+TurnsRequest g f old new input sink place first (Ok (Some long)) = (a : HasAnswered g f old new input sink) × (long ≡ length (text_of_message a.message))
+TurnsRequest g f old new input sink place first (Ok None) = (new ≡ old) × ((input.after ≡ input.before) × ((first ≡ true → input.over ≡ true) × Wrote sink []))
+TurnsRequest g f old new input sink place first (Err e) = IsTurnShort g f old new input sink place e

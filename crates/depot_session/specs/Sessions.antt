@@ -1,23 +1,26 @@
 -- What a script makes a node do, command by command: the lines, the journal, the files, and how the run ends.
 use Rattle.std.specs.Prelude.{◌≡◌, ◌⊎◌, ℕ, List, [], ◌∷◌, ◌++◌, length, take, drop, Bool, true, is_some, Option, Some, None, codes, if◌then◌else◌}
 use Rattle.std.specs.Str.{bytes_eq}
-use Rattle.depot_answers.specs.AnswerTexts.{spaced, text_of_reader_feed, text_of_traced, text_of_trim}
+use Rattle.depot_answers.specs.AnswerTexts.{spaced, text_of_traced}
 use Rattle.depot_answers.specs.declared.exchange_answers.Closing.{Closing}
 use Rattle.depot_answers.specs.declared.exchange_answers.Closing.TheVariants as closing
 use Rattle.depot_base.specs.Writes.{one_change}
-use Rattle.depot_base.specs.declared.check.Full.{Full}
 use Rattle.depot_base.specs.declared.record.Record.{Record}
 use Rattle.depot_model.specs.exchange.Bundle.{Signs}
 use Rattle.depot_model.specs.checks.Checks.{Setting}
-use Rattle.depot_model.specs.readers.Opening.{ill_at, of_roster, with_unknown, opened}
-use Rattle.depot_model.specs.readers.ReaderFeeds.{ReaderFeed, reader_feed_of}
-use Rattle.depot_model.specs.readers.Readers.{Reader, TrimAnswer, unopened, unsigned, reading, trim_of}
+use Rattle.depot_model.specs.readers.Readers.{Reader}
 use Rattle.depot_model.specs.worlds.Traces.{Trace}
 use Rattle.depot_model.specs.worlds.World.{Correct, Read}
 use Rattle.depot_lines.specs.Language.{join}
 use Rattle.depot_requests.specs.Effects.{ended}
+use Rattle.depot_requests.specs.ReaderRequests.{ReaderServed, line_of_reader_reply, reader_served}
 use Rattle.depot_requests.specs.Replies.{lines_of_reply}
 use Rattle.depot_requests.specs.Requests.{Served, reads_after, served}
+use Rattle.depot_requests.specs.declared.reader_reply.ReaderReply.{ReaderReply}
+use Rattle.depot_requests.specs.declared.reader_reply.ReaderReply.TheVariants as told
+use Rattle.depot_requests.specs.declared.reader_request.ReaderRequest.{ReaderRequest}
+use Rattle.depot_requests.specs.declared.reader_request.ReaderRequest.TheVariants as readers
+use Rattle.depot_requests.specs.declared.reader_request.ReaderUse.TheVariants as use_of
 use Rattle.depot_requests.specs.declared.reply.Reason.TheVariants as reason
 use Rattle.depot_requests.specs.declared.reply.Reply.{Reply}
 use Rattle.depot_requests.specs.declared.reply.Reply.TheVariants as reply
@@ -28,7 +31,6 @@ use Rattle.depot_script.specs.declared.command.Command.{Command}
 use Rattle.depot_script.specs.declared.command.Command.TheVariants as command
 use Rattle.depot_traces.specs.ToldTraces.{file_of_trace}
 use Rattle.depot_world.specs.Audits.{trace_with}
-use Rattle.depot_world.specs.Transcript.{answer_of_reader}
 use Rattle.depot_node.specs.Starting.{started}
 use Rattle.depot_session.specs.declared.ending.ScriptEnding.{ScriptEnding}
 use Rattle.depot_session.specs.declared.ending.ScriptEnding.TheVariants as ending
@@ -141,14 +143,8 @@ pub data Asking : Type 0 where
   lacks : List ℕ → Asking
   -- the run is asked for its trace
   hands_in : Asking
-  -- a reader is to be made of the node, below the checkpoint of this text
-  trims : List ℕ → Asking
-  -- this reader is given a stream
-  feeds : Reader → List ℕ → Asking
-  -- this reader is asked for a key
-  shows : Reader → List ℕ → Asking
-  -- a reader is asked for something, and none was made
-  no_reader : Asking
+  -- this is asked of the node and of the last reader
+  asks_reader : ReaderRequest → Asking
 
 -- with a file of this name, which may be absent
 abbrev pub with_file : (List ℕ → Asking) → List ℕ → Option (List ℕ) → Asking
@@ -157,13 +153,8 @@ with_file asks name (Some bytes) = asks bytes
 
 -- The last reader is given a stream. If none was made, no file is loaded.
 abbrev pub given_by_name : Session → List ℕ → Option Reader → Asking
-given_by_name s name None = no_reader
-given_by_name s name (Some R) = with_file (feeds R) name (s.files name)
-
--- it is asked for a key
-abbrev pub shown_by_last : List ℕ → Option Reader → Asking
-shown_by_last key None = no_reader
-shown_by_last key (Some R) = shows R key
+given_by_name s name None = asks_reader (readers.Use (use_of.Give []))
+given_by_name s name (Some R) = with_file (λ stream. asks_reader (readers.Use (use_of.Give stream))) name (s.files name)
 
 abbrev pub asked_in : Session → Command → Asking
 asked_in s (command.Put key value) = asks_for (request.Put (one_change key value))
@@ -177,9 +168,9 @@ asked_in s (command.Settled id k) = asks_for (request.Settled id k)
 asked_in s (command.Export file) = hands_in
 asked_in s (command.Checkpoint file) = asks_for request.Checkpoint
 asked_in s (command.Sign file) = with_file (λ bytes. asks_for (request.Sign bytes)) file (s.files file)
-asked_in s (command.Trim file) = with_file trims file (s.files file)
+asked_in s (command.Trim file) = with_file (λ text. asks_reader (readers.Trim text)) file (s.files file)
 asked_in s (command.Tgive file) = given_by_name s file s.reader
-asked_in s (command.Tget key) = shown_by_last key s.reader
+asked_in s (command.Tget key) = asks_reader (readers.Use (use_of.Get key))
 
 -- it asks a node
 abbrev pub AsksTheNode : Command → Type 0
@@ -195,6 +186,19 @@ file_asked (command.Bundle hello file) = Some hello
 file_asked (command.Take file) = Some file
 file_asked (command.Sign file) = Some file
 file_asked other = None
+
+-- it asks of readers
+abbrev pub AsksOfReaders : Command → Type 0
+AsksOfReaders (command.Trim file) = Unit {0}
+AsksOfReaders (command.Tgive file) = Unit {0}
+AsksOfReaders (command.Tget key) = Unit {0}
+AsksOfReaders other = ⊥
+
+-- the file with whose bytes it does so, if there is one, depending on whether a reader was made before
+abbrev pub reader_file : Bool → Command → Option (List ℕ)
+reader_file made (command.Trim file) = Some file
+reader_file true (command.Tgive file) = Some file
+reader_file made other = None
 
 -- ---- how a command ends the run
 
@@ -212,18 +216,12 @@ ending_of_reply (reply.Refused (reason.IllFormed at)) = Some ending.Input
 ending_of_reply (reply.Refused (reason.OtherRoster given)) = Some ending.Identity
 ending_of_reply other = None
 
-abbrev pub ending_of_trim : TrimAnswer → Option ScriptEnding
-ending_of_trim (unopened (ill_at at)) = Some ending.Input
-ending_of_trim (unopened (of_roster given)) = Some ending.Identity
-ending_of_trim (unopened (with_unknown id)) = None
-ending_of_trim (unopened (opened ids)) = None
-ending_of_trim (unsigned node) = None
-ending_of_trim (reading R) = None
-
--- a stream for which a reader has no room ends the run; nothing else about it does
-abbrev pub ending_of_tgive : Option Full → Option ScriptEnding
-ending_of_tgive None = None
-ending_of_tgive (Some what) = Some ending.Limit
+-- by a reader's reply
+abbrev pub ending_of_reader_reply : ReaderReply → Option ScriptEnding
+ending_of_reader_reply (told.Refused (reason.IllFormed at)) = Some ending.Input
+ending_of_reader_reply (told.Refused (reason.OtherRoster given)) = Some ending.Identity
+ending_of_reader_reply (told.Took counts (Some what)) = Some ending.Limit
+ending_of_reader_reply other = None
 
 -- ---- what a command hands out, and where it is stored
 
@@ -275,35 +273,16 @@ asked_step here sign s c r = answered_step s c (reads_after s.correct r) (served
 abbrev pub traced_text : Session → List ℕ
 traced_text s = ended (spaced (text_of_traced (length s.correct.journal) (length (reads_of_run s))))
 
--- the last reader made, after a trim that was answered so
-abbrev pub reader_after : Option Reader → TrimAnswer → Option Reader
-reader_after before (reading R) = Some R
-reader_after before other = before
-
--- another reader is the last one made
-abbrev pub step_with_reader : Option Reader → Step → Step
-step_with_reader reader step = record step { session = record step.session { reader = reader } }
-
-abbrev pub trim_step : Session → Command → TrimAnswer → Step
-trim_step s c answer = step_with_reader (reader_after s.reader answer) (told_step s c (ended (spaced (text_of_trim answer))) None (ending_of_trim answer))
-
-abbrev pub tgive_step : Session → Command → ReaderFeed → Step
-tgive_step s c fed = step_with_reader (Some fed.reader) (told_step s c (ended (spaced (text_of_reader_feed fed))) None (ending_of_tgive fed.full))
-
--- the line of what the last reader shows of a key: empty if none was made
-abbrev pub tget_lines : List ℕ → Option Reader → List ℕ
-tget_lines key None = ended []
-tget_lines key (Some R) = ended (answer_of_reader R key)
+-- a command by which this was asked of readers: the last reader then, and the reply
+abbrev pub reader_step : Session → Command → ReaderServed → Step
+reader_step s c d = let step = told_step s c (line_of_reader_reply d.reply) None (ending_of_reader_reply d.reply) in record step { session = record step.session { reader = d.reader } }
 
 -- the step of a command that asks for this
 abbrev pub step_by : Setting → Signs → Session → Command → Asking → Step
 step_by here sign s c (asks_for r) = asked_step here sign s c r
 step_by here sign s c (lacks name) = absent s name
 step_by here sign s c hands_in = told_step s c (traced_text s) (Some (file_of_trace (trace_of_run s))) None
-step_by here sign s c (trims text) = trim_step s c (trim_of here s.correct.journal text)
-step_by here sign s c (feeds R stream) = tgive_step s c (reader_feed_of R stream)
-step_by here sign s c (shows R key) = told_step s c (tget_lines key (Some R)) None None
-step_by here sign s c no_reader = told_step s c (ended []) None None
+step_by here sign s c (asks_reader r) = reader_step s c (reader_served here s.correct.journal s.reader r)
 
 unfoldable pub step_of : Setting → Signs → Session → Command → Step
 step_of here sign s c = step_by here sign s c (asked_in s c)

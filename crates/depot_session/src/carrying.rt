@@ -3,21 +3,22 @@ ghost use Rattle.std.specs.Prelude.{◌≡◌, ◌++◌, IsSome, IsTrue, OnOk, i
 ghost use Rattle.depot_base.specs.declared.limits.TheConstants.{MOST_LINES};
 ghost use Rattle.depot_outside.specs.Told.{shelves, sinks};
 ghost use Rattle.depot_script.specs.Scripts.{FitsCommand};
+ghost use Rattle.depot_service.specs.ReaderCalls.{IsSomebodys};
 ghost use Rattle.depot_session.specs.KeptReads.{FitWithin, KeepsReads, is_export};
 ghost use Rattle.depot_session.specs.Sessions.{loads_of};
 ghost use Rattle.depot_session.specs.ScriptTelling.{TellsShelf};
-ghost use Rattle.depot_session.specs.Turns.{EndsUnstored, IsRunning, IsSomebodys, Keeps, KeepsLast, StoresAt, TurnsInRun};
+ghost use Rattle.depot_session.specs.Turns.{EndsUnstored, IsRunning, Keeps, KeepsLast, StoresAt, TurnsInRun};
 
 use crate::asking::ask_node;
 use crate::ending::ScriptEnding;
 use crate::exporting::export;
 use crate::kept_reads::kept;
-use crate::last_reader::LastReader;
-use crate::reader_commands::{tget, tgive, trim};
+use crate::reader_commands::ask_readers;
 use depot_model::Scheme;
 use depot_outside::{Shelf, Sink};
 use depot_queries::LocalNode;
 use depot_script::Command;
+use depot_service::LastReader;
 use depot_traces::Reads;
 use std::alloc::Global;
 
@@ -53,9 +54,9 @@ pub fn carry_out<S: Scheme + Copy, R: LocalNode<Of = S>, F: Shelf, K: Sink>(
 {
     match command {
         Command::Export { file } => export(alloc, node, command, file, kept(reads), shelf, out),
-        Command::Trim { file } => trim(alloc, node, command, file, last, shelf, out),
-        Command::Tgive { file } => tgive(alloc, node, command, file, last, shelf, out),
-        Command::Tget { key } => tget(alloc, node, command, key, last, out),
+        Command::Trim { .. } | Command::Tgive { .. } | Command::Tget { .. } => {
+            ask_readers(alloc, node, command, last, shelf, out)
+        }
         _ => ask_node(alloc, node, command, reads, shelf, out),
     }
 }

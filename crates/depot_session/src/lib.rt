@@ -12,18 +12,19 @@
 //!   command `receipt` writes their keys, and only `checkpoint` and `sign` write those of checkpoints. `session_laws`
 //!   says what each image then has, and which scripts complete (`specs/Unhindered.antt`).
 //! - If a script hands in a trace, the reads of the run are kept, as traces record them (`kept_reads`); other scripts
-//!   keep none. The last reader that a script made is kept in memory, beside the node (`last_reader`).
+//!   keep none. The last reader that a script made is kept in memory, beside the node.
 //! - `whole_script` carries out a script, and `carrying` one command. Most commands ask the node: `requesting` makes
 //!   their requests, and `asking` loads a command's file, asks, stores what the node hands out, and prints the reply
-//!   last. The others are those of readers (`reader_commands`) and of the trace (`exporting`). `telling` writes lines,
-//!   and `command_heads` the words of a command.
+//!   last. `reader_commands` does the same for what is asked of readers, and `exporting` hands in the trace. `telling`
+//!   writes lines, and `command_heads` the words of a command.
 //!
 //! A node that stays (`run_server`):
 //!
 //! - It says by one message whether the node was started (`start_telling`), and then serves it.
-//! - `serve_all` reads a message, has what it asks carried out, writes the reply to a sink, and so on to the end of
-//!   the input. A reply is written only once each crash image has what it reports, and no byte after a request is read
-//!   before its reply is written.
+//! - `serve_all` serves a `KeptNode`, a node in memory and the file in which its journal is kept. It reads a message, and
+//!   those that wait behind it in a source that reads ahead: they are a group. It has their requests carried out in
+//!   memory, appends the new records to the file as one group, and then writes the replies; so on to the end of the
+//!   input. A reply is written only once each crash image has what it reports.
 //! - It leaves a disk as the run of a script does: `specs/ServerRuns.antt`.
 #![tactic(auto)]
 
@@ -32,9 +33,10 @@ mod carrying;
 mod command_heads;
 mod ending;
 mod exporting;
+mod kept_node;
 mod kept_reads;
-mod last_reader;
 mod reader_commands;
+mod replies;
 mod request_hearing;
 mod requesting;
 mod running;
@@ -50,7 +52,6 @@ pub use ending::ScriptEnding;
 pub use running::{refusal_line, run};
 pub use server_ending::{ServeEnding, ServerEnding};
 pub use server_running::run_server;
-pub use serving::serve_all;
 pub use session_laws::{
     exports_are_right, images_hold_what_receipts_speak_of, runs_leave_true_receipts,
     unhindered_scripts_are_done,

@@ -1,14 +1,14 @@
-//! What a command asks a node for.
-ghost use Rattle.std.specs.Prelude.{◌≡◌, ◌∷◌, ℕ, List, [], IfOk, None, Some, option_copied};
+//! What a command asks a node for, and of readers.
+ghost use Rattle.std.specs.Prelude.{◌≡◌, ◌∷◌, ℕ, List, [], Bool, IfOk, None, Some, is_some, option_copied};
 ghost use Rattle.depot_base.specs.Writes.{one_change};
 ghost use Rattle.depot_requests.specs.Requests.{IsRequest};
 ghost use Rattle.depot_script.specs.Scripts.{FitsCommand};
-ghost use Rattle.depot_session.specs.Sessions.{AsksTheNode, Session, asked_in, asks_for};
+ghost use Rattle.depot_session.specs.Sessions.{AsksOfReaders, AsksTheNode, Session, asked_in, asks_for, asks_reader};
 ghost use Rattle.depot_session.specs.Sessions as sessions;
 
 use depot_base::{Bytes, Changes, Hash32, Ids, Key, Memory, Value};
 use depot_lines::FileName;
-use depot_requests::Request;
+use depot_requests::{ReaderRequest, ReaderUse, Request};
 use depot_script::Command;
 use std::alloc::Global;
 
@@ -77,6 +77,42 @@ pub fn request_with(command: &Command, bytes: Bytes) -> Request
             }
         }
         Command::Sign { .. } => Request::Sign(bytes),
+        _ => unreachable!(),
+    }
+}
+
+/// The file whose bytes a command asks readers with, if any, depending on whether a reader was made before.
+pub fn reader_file(command: &Command, made: bool) -> Option<&FileName>
+    ensures { option_copied result ≡ sessions.reader_file made command.now }
+{
+    match command {
+        Command::Trim { file } => Some(file),
+        Command::Tgive { file } if made => Some(file),
+        _ => None,
+    }
+}
+
+/// What a command asks of readers without a file. What it names is copied.
+pub fn reader_request_alone(alloc: Global, command: &Command) -> Result<ReaderRequest, Memory>
+    requires asks { AsksOfReaders command.now }
+    requires alone { (made : Bool) × (sessions.reader_file made command.now ≡ None) }
+    ensures { IfOk result (λ r. (s : Session) → sessions.reader_file (is_some s.reader) command.now ≡ None → asked_in s command.now ≡ asks_reader r) }
+{
+    match command {
+        Command::Tgive { .. } => Ok(ReaderRequest::Use(ReaderUse::Give(Bytes::new(alloc)))),
+        Command::Tget { key } => Ok(ReaderRequest::Use(ReaderUse::Get(key.copy()?))),
+        _ => unreachable!(),
+    }
+}
+
+/// What a command asks of readers with these bytes of its file.
+pub fn reader_request_with(command: &Command, bytes: Bytes) -> ReaderRequest
+    requires { (made : Bool) × ((name : List ℕ) × (sessions.reader_file made command.now ≡ Some name)) }
+    ensures { (s : Session) (name : List ℕ) → sessions.reader_file (is_some s.reader) command.now ≡ Some name → s.files name ≡ Some bytes → asked_in s command.now ≡ asks_reader result }
+{
+    match command {
+        Command::Trim { .. } => ReaderRequest::Trim(bytes),
+        Command::Tgive { .. } => ReaderRequest::Use(ReaderUse::Give(bytes)),
         _ => unreachable!(),
     }
 }

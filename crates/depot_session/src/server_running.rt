@@ -5,22 +5,24 @@ ghost use Rattle.depot_streams.specs.Lasting.{LastsIn};
 ghost use Rattle.depot_model.specs.texts.Roster.{key_of};
 ghost use Rattle.depot_node.specs.Starting.{placed};
 ghost use Rattle.depot_outside.specs.Told.{disks, sinks};
+ghost use Rattle.depot_session.specs.Keeping.{IsAllKept, NeverFails, kept_state};
 ghost use Rattle.depot_session.specs.SessionRuns.{KeepsFile, Settles};
 ghost use Rattle.depot_source.specs.Inputs.{inputs};
 ghost use Rattle.depot_service.specs.Answering.{IsServing};
 ghost use Rattle.depot_session.specs.ServerRuns.{EndsByInput, EndsRunning, IsAfterDiskFault, ServerAnswers, ServerBegins, ending_of_served};
 ghost use Rattle.depot_session.specs.Staying.{StaysWith};
 
+use crate::kept_node::KeptNode;
 use crate::server_ending::{ServeEnding, ServerEnding};
 use crate::serving::serve_all;
 use crate::start_telling::{say_refused, say_started};
 use depot_base::NodeId;
-use depot_model::{Scheme, Signer};
-use depot_node::Node;
+use depot_model::{Replica, Scheme, Signer};
+use depot_node::{DetachedNode, Node};
 use depot_outside::{Back, Disk, Sink};
 use depot_queries::LocalNode;
 use depot_sign::Roster;
-use depot_source::Source;
+use depot_source::Waiting;
 use std::alloc::Global;
 
 /// How a run ends whose requests were served.
@@ -38,25 +40,27 @@ fn ended(served: Result<(), ServeEnding>) -> ServerEnding
 }
 
 /// Writes that a node was started, and serves it to the end of the input.
-fn stay<I: Source, K: Sink, N: LocalNode>(
+fn stay<I: Waiting, K: Sink, N: LocalNode, D: Disk>(
     alloc: Global,
-    node: &mut N,
+    node: &mut KeptNode<N, D>,
     input: &mut I,
     out: &mut K,
 ) -> ServerEnding
-    requires running { IsServing N.NodeState node.old }
-    ensures stays { StaysWith N.NodeState node.old node.new (inputs I.Source input.old input.new) (input.new ≡ input.old) (sinks K.Sink out.old out.new) result }
-    ensures lawful { LastsIn N.NodeState (result ≡ ServerEnding.Disk) node.old node.new }
-    ensures rests { EndsRunning result → IsServing N.NodeState node.new }
+    requires kept { IsAllKept N.NodeState D.Disk node.old }
+    requires calm { NeverFails N.NodeState }
+    ensures began { IsServing (kept_state N.NodeState D.Disk) node.old }
+    ensures stays { StaysWith (kept_state N.NodeState D.Disk) node.old node.new (inputs I.Source input.old input.new) (input.new ≡ input.old) (sinks K.Sink out.old out.new) result }
+    ensures lawful { LastsIn (kept_state N.NodeState D.Disk) (result ≡ ServerEnding.Disk) node.old node.new }
+    ensures rests { EndsRunning result → IsServing (kept_state N.NodeState D.Disk) node.new }
     ensures whole { IsTrue (I.tells input.old) → I.given input.new ++ I.rest input.new ≡ I.given input.old ++ I.rest input.old }
     ensures same_sink { K.tells out.new ≡ K.tells out.old }
     ensures same_source { I.tells input.new ≡ I.tells input.old }
-    ensures handle { N.handle node.new ≡ N.handle node.old }
-    ensures disk_cause { HasCause (N.faults node.old) (N.faults node.new) (result ≡ ServerEnding.Disk) }
+    ensures handle { D.handle node.new.disk ≡ D.handle node.old.disk }
+    ensures disk_cause { HasCause (D.faults node.old.disk) (D.faults node.new.disk) (result ≡ ServerEnding.Disk) }
     ensures sink_cause { HasCause (K.faults out.old) (K.faults out.new) (result ≡ ServerEnding.Sink) }
     ensures source_cause { HasCause (I.faults input.old) (I.faults input.new) (result ≡ ServerEnding.Source) }
 {
-    match say_started(alloc, node, out) {
+    match say_started(alloc, &node.node, out) {
         Ok(()) => ended(serve_all(alloc, node, input, out)),
         Err(ending) => ending,
     }
@@ -70,7 +74,7 @@ struct Ran<D> {
 }
 
 /// Runs a server over a disk, and gives the disk back.
-fn run_over<D: Disk, I: Source, K: Sink, S: Scheme + Copy, G: Signer<Of = S>>(
+fn run_over<D: Disk, I: Waiting, K: Sink, S: Scheme + Copy, G: Signer<Of = S>>(
     alloc: Global,
     disk: D,
     roster: Roster,
@@ -98,28 +102,38 @@ fn run_over<D: Disk, I: Source, K: Sink, S: Scheme + Copy, G: Signer<Of = S>>(
 {
     // Called for its clause alone: the entries make a roster.
     let _entries = roster.entries();
-    let mut node = match Node::start(alloc, disk, roster, scheme, signer, me) {
+    let node = match Node::start(alloc, disk, roster, scheme, signer, me) {
         Ok(node) => node,
         Err(Back { error, disk }) => {
             let ending = say_refused(alloc, &error, out);
             return Ran { disk, ending };
         }
     };
+    let DetachedNode { node, disk, gate } = node.detach();
+    let kept = node.record_count();
+    let mut node = KeptNode {
+        node,
+        disk,
+        gate,
+        kept,
+        stopped: false,
+    };
     let ending = stay(alloc, &mut node, input, out);
     Ran {
-        disk: node.into_disk(),
+        disk: node.disk,
         ending,
     }
 }
 
 /// Runs a server: starts the node `me` of a roster from the journal on a disk, says by one message whether it was
-/// started, and then serves it: reads a request from the source, has it carried out, writes the reply to the sink, and
-/// so on to the end of the input.
+/// started, and then serves it to the end of the input, group by group: reads a request from the source, and those that
+/// wait behind it, has them carried out, appends what they brought to the file by two syncs, and writes the replies to
+/// the sink.
 ///
 /// Lack of memory, faults of the disk, the source and the sink, and input that is no request cut a run short. If a
 /// start is refused, the reason is written and the source isn't read; if the key, the roster or the journal is the
 /// reason, the disk's file then reads as before. The messages are those of docs/FORMATS.md ("Requests").
-pub fn run_server<D: Disk, I: Source, K: Sink, S: Scheme + Copy, G: Signer<Of = S>>(
+pub fn run_server<D: Disk, I: Waiting, K: Sink, S: Scheme + Copy, G: Signer<Of = S>>(
     alloc: Global,
     disk: &mut D,
     roster: Roster,

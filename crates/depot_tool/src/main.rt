@@ -9,7 +9,7 @@
 use depot_base::Memory;
 use depot_cli::{Status, Word, depot};
 use depot_outside::{RealDisk, RealShelf, RealSink};
-use depot_source::RealSource;
+use depot_source::{Buffered, RealSource};
 use std::env;
 use std::fs::{File, OpenOptions};
 use std::io::{self, ErrorKind};
@@ -47,7 +47,7 @@ fn run(rt: &HostRuntime) -> Result<Status, Memory> {
     let words = words_of(rt)?;
     let mut shelf = RealShelf::new(rt.clone()?);
     let mut disk = RealDisk::new(rt.clone()?);
-    let mut input = RealSource::new(rt.reader());
+    let mut input = Buffered::new(rt.alloc(), RealSource::new(rt.reader()));
     let mut out = RealSink::new(rt.clone()?);
     Ok(depot(
         rt.alloc(),

@@ -25,7 +25,7 @@ use Rattle.depot_service.specs.Answering.{Came, IsServing}
 use Rattle.depot_session.specs.Answering.{ServesBody, came_of, serves_at, serves_of}
 use Rattle.depot_session.specs.FirstMessages.{started_text}
 use Rattle.depot_session.specs.ServerRuns.{AllAreLeft, AnswersInput, EndsByInput, EndsRunning, GrowsFromFile, IsLeftOn, IsServedShort, IsServedWhole, IsServerStarted, IsUnsaid, ServesJournal, StandsOn, ending_of_served}
-use Rattle.depot_session.specs.Serving.{AllStayKept, FaultsRisen, GrowsToward, IsCutOff, RunsWith, ServesInput, ServesShort, ServesWhole, StaysKept, bodies_of, came_at, faults_risen, place_after}
+use Rattle.depot_session.specs.Serving.{AllStayKept, FaultsRisen, GrowsToward, IsCutOff, RunsWith, ServesInput, ServesShort, ServesWhole, StaysKept, bodies_of, came_at, faults_risen, place_from}
 use Rattle.depot_session.specs.Staying.{IsFirstSaid, IsLeftAlone, StaysBy, StaysWith}
 use Rattle.depot_session.specs.declared.server_ending.ServeEnding.{ServeEnding}
 use Rattle.depot_session.specs.declared.server_ending.ServeEnding.TheVariants as serve
@@ -63,7 +63,7 @@ cut_on : (A B : List Record → Type 0) → ((K : List Record) → A K → B K) 
 cut_on A B so r s disk source sink J comes next behind last over place serve.Memory c = c
 cut_on A B so r s disk source sink J comes next behind last over place serve.Source c = (source c.0, record { unbegun = c.1.unbegun; untold = c.1.untold; stands = so J c.1.stands; part = c.1.part })
 cut_on A B so r s disk source sink J comes next behind last over place serve.Disk c = (c.0, (c.1.0, disk c.1.1))
-cut_on A B so r s disk source sink J comes next behind last over place serve.Sink c = (sink c.0, record { message = c.1.message; begun = c.1.begun; stands = so comes.journal c.1.stands; count = c.1.count; front = c.1.front })
+cut_on A B so r s disk source sink J comes next behind last over place serve.Sink c = (sink c.0, record { begun = c.1.begun; stands = so comes.journal c.1.stands; count = c.1.count; front = c.1.front })
 cut_on A B so r s disk source sink J comes next behind last over place (serve.Input at within) c =
     record { at_place = c.at_place; unbegun = c.unbegun; untold = c.untold; stands = so J c.stands; came = c.came }
 
@@ -150,7 +150,7 @@ module _ {N : Type 0} (g : Ghosts N) (here : Setting) (old new : N) (disk : Disk
     sink_rose : behind.faults_before < behind.faults_after → sink.faults_before < sink.faults_after
     sink_rose rose = let calm = said.calm in let faults = said.faults in omega (arith, calm, faults, rose)
 
-    short : (why : ServeEnding) → e ≡ ending_of_served (Err why) → ServesShort g f old new input behind why → IsServedShort here f (g.records old) disk input sink e
+    short : (why : ServeEnding) → e ≡ ending_of_served (Err why) → ServesShort g f old new input behind 0 why → IsServedShort here f (g.records old) disk input sink e
     short why is s =
         let K = (came_at g f old s.done).journal in
         record {
@@ -165,7 +165,7 @@ module _ {N : Type 0} (g : Ghosts N) (here : Setting) (old new : N) (disk : Disk
             given = s.breaks.given;
             last = s.breaks.last;
             cut = cut_on (RunsWith g new) (StandsOn disk) stands_so (faults_risen (g.faults old) (g.faults new) input behind) (faults_risen disk.faults_before disk.faults_after input sink) on.rose (λ rose. rose) sink_rose
-                K (came_of f K (bodies_of s.breaks.next)) s.breaks.next s.breaks.behind s.breaks.last input.over (place_after s.done) why s.breaks.cut;
+                K (came_of f K (bodies_of s.breaks.next)) s.breaks.next s.breaks.behind s.breaks.last input.over (place_from 0 s.done) why s.breaks.cut;
           };
           wrote = behind_first sink behind (started_text here (g.records old)) ((came_at g f old s.done).text ++ s.breaks.last) said s.wrote;
           grows = grows_so (came_of f K (bodies_of s.breaks.next)).journal s.brings;

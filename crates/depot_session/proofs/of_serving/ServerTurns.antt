@@ -1,5 +1,5 @@
 -- One turn, from what was read, replied and written.
-use Rattle.std.proofs.Common.{◌≡◌, ◌<◌, ℕ, Bool, true, false, IsTrue, List, [], ◌∷◌, ◌++◌, append-nil, length, take, Option, Some, Err, refl, sym, ap, subst, ◌∙◌}
+use Rattle.std.proofs.Common.{◌≡◌, ◌<◌, ℕ, Bool, true, false, IsTrue, List, [], ◌∷◌, ◌++◌, append-nil, length, take, Option, Some, Err, refl, sym, ap, subst, ◌∙◌, arith}
 use Rattle.std.specs.Prelude.{is_some}
 use Rattle.depot_base.specs.declared.record.Record.{Record}
 use Rattle.depot_streams.specs.Lasting.{LastsIn}
@@ -18,7 +18,7 @@ use Rattle.depot_source.specs.Pieces.{GivesMore}
 use Rattle.depot_service.specs.Answering.{Came, IsAskedCall, IsServing, came_by}
 use Rattle.depot_session.specs.Answering.{ServesBody, came_of_found, serves_of}
 use Rattle.depot_session.specs.Hearing.{FailsWithin, HasHeardRequest, HearsRequest, NoRequestCame}
-use Rattle.depot_session.specs.Serving.{GrowsToward, HasAnswered, IsAsking, IsTurnShort}
+use Rattle.depot_session.specs.Serving.{AreAsking, GrowsToward, HasAnswered, IsAsking, IsTurnShort}
 use Rattle.depot_session.specs.declared.server_ending.ServeEnding.{ServeEnding}
 use Rattle.depot_session.specs.declared.server_ending.ServeEnding.TheVariants as ending
 use Rattle.depot_session.specs.declared.request_hearing.Heard.{Heard}
@@ -61,13 +61,21 @@ asking input heard h = record { is = h.is; asks = ap is_some h.asked }
 pub none_written : (sink : Sinks) → sink.after ≡ sink.before → Wrote sink []
 none_written sink same = λ told. same ∙ sym (append-nil sink.before)
 
+-- a request alone
+alone_asks : (input : Inputs) (heard : Heard) (h : HasHeardRequest input heard) → AreAsking (h.message ∷ [])
+alone_asks input heard h = (asking input heard h, tt)
+
+-- and its text
+alone : (text : List ℕ) → text ≡ (text ++ []) ++ []
+alone text = sym (append-nil (text ++ []) ∙ append-nil text)
+
 -- ---- nothing was begun
 
 module _ {N : Type 0} (g : Ghosts N) (only_now : (n : N) (file : List ℕ) → g.left_since n (g.moment n) file → g.may_leave n file) (lawful : (n : N) → IsLawful (g.stands n) (g.records n)) (f : ServesBody) (n : N) (input : Inputs) (sink : Sinks) (place : ℕ) (running : IsServing g n) (same : sink.after ≡ sink.before) where
   -- no memory was found
   none_heard : GivesMore input.before input.after → IsTurnShort g f n n input sink place ending.Memory
   none_heard more = record {
-    breaks = record { next = []; behind = more.0; next_is = tt; given = more.1; last = []; cut = refl };
+    breaks = record { next = []; behind = more.0; next_is = (tt, (more.0, refl)); given = more.1; last = []; cut = refl };
     wrote = none_written sink same;
     same = same_before g n;
     brings = grows_by_nothing g only_now lawful n running;
@@ -77,7 +85,7 @@ module _ {N : Type 0} (g : Ghosts N) (only_now : (n : N) (file : List ℕ) → g
   -- the source failed
   source_failed : FailsWithin input → IsTurnShort g f n n input sink place ending.Source
   source_failed failed = record {
-    breaks = record { next = []; behind = failed.behind; next_is = tt; given = failed.given; last = []; cut = (failed.rose, record { unbegun = refl; untold = refl; stands = record { running = running; journal = refl }; part = failed.part }) };
+    breaks = record { next = []; behind = failed.behind; next_is = (tt, (failed.behind, refl)); given = failed.given; last = []; cut = (failed.rose, record { unbegun = refl; untold = refl; stands = record { running = running; journal = refl }; part = failed.part }) };
     wrote = none_written sink same;
     same = same_before g n;
     brings = grows_by_nothing g only_now lawful n running;
@@ -90,7 +98,7 @@ module _ {N : Type 0} (g : Ghosts N) (only_now : (n : N) (file : List ℕ) → g
     breaks = record {
       next = [];
       behind = came.0;
-      next_is = tt;
+      next_is = (tt, (came.0, refl));
       given = came.1.0;
       last = [];
       cut = record { at_place = here; unbegun = refl; untold = refl; stands = record { running = running; journal = refl }; came = came.1.1 };
@@ -102,12 +110,12 @@ module _ {N : Type 0} (g : Ghosts N) (only_now : (n : N) (file : List ℕ) → g
   }
 
   -- whatever kept a request from being heard
-  pub unheard : (e : ServeEnding) → HearsRequest input place (Err e) → IsTurnShort g f n n input sink place e
-  unheard ending.Memory more = none_heard more
-  unheard ending.Source failed = source_failed failed
-  unheard (ending.Input at within) came = not_asked at within came.0 came.1
-  unheard ending.Disk never = absurd never
-  unheard ending.Sink never = absurd never
+  pub unheard : (first : Bool) (e : ServeEnding) → HearsRequest first input place (Err e) → IsTurnShort g f n n input sink place e
+  unheard first ending.Memory more = none_heard more
+  unheard first ending.Source failed = source_failed failed
+  unheard first (ending.Input at within) came = not_asked at within came.0 came.1
+  unheard first ending.Disk never = absurd never
+  unheard first ending.Sink never = absurd never
 
 -- ---- a request was begun
 
@@ -128,7 +136,7 @@ module _ {N : Type 0} (g : Ghosts N) (old new : N) (input : Inputs) (sink : Sink
   -- and no memory was found for it, or for its reply
   pub begun_in_vain : (failed → ending.Memory ≡ ending.Disk) → Wrote sink [] → IsTurnShort g f old new input sink place ending.Memory
   begun_in_vain so wrote = record {
-    breaks = record { next = h.message ∷ []; behind = text_of_message h.message; next_is = (refl, (asking input heard h, refl)); given = h.given; last = []; cut = refl };
+    breaks = record { next = h.message ∷ []; behind = text_of_message h.message; next_is = (alone_asks input heard h, ([], alone (text_of_message h.message))); given = h.given; last = []; cut = refl };
     wrote = wrote;
     same = call.same;
     brings = grows;
@@ -138,7 +146,7 @@ module _ {N : Type 0} (g : Ghosts N) (old new : N) (input : Inputs) (sink : Sink
   -- and the disk failed
   pub disk_failed : g.faults old < g.faults new → Wrote sink [] → IsTurnShort g f old new input sink place ending.Disk
   disk_failed rose wrote = record {
-    breaks = record { next = h.message ∷ []; behind = text_of_message h.message; next_is = (refl, (asking input heard h, refl)); given = h.given; last = []; cut = ((h.message, refl), (refl, rose)) };
+    breaks = record { next = h.message ∷ []; behind = text_of_message h.message; next_is = (alone_asks input heard h, ([], alone (text_of_message h.message))); given = h.given; last = []; cut = (omega arith, (refl, rose)) };
     wrote = wrote;
     same = call.same;
     brings = grows;
@@ -160,14 +168,13 @@ module _ {N : Type 0} (g : Ghosts N) (old new : N) (input : Inputs) (sink : Sink
       breaks = record {
         next = h.message ∷ [];
         behind = text_of_message h.message;
-        next_is = (refl, (asking input heard h, refl));
+        next_is = (alone_asks input heard h, ([], alone (text_of_message h.message)));
         given = h.given;
         last = take n text;
         cut = (
           rose,
           record {
-            message = h.message;
-            begun = refl;
+            begun = omega arith;
             stands = record { running = serves_on g old new _ failed call well; journal = journal_is };
             count = n;
             front = ap (take n) (text_is ∙ sym (append-nil (f (g.records old) h.message.body).text));

@@ -1,12 +1,12 @@
-use Rattle.std.proofs.Common.{refl, sym, ap, ◌∙◌}
+use Rattle.std.proofs.Common.{refl, sym, ap, ◌∙◌, rules}
 use Rattle.std.specs.Prelude.{is_some}
 use Rattle.std.proofs.lemmas.List.{append-nil}
-use Rattle.depot_outside.specs.Told.{shelves}
 use Rattle.depot_session.proofs.AskedCommands.{asks_unless}
-use Rattle.depot_session.proofs.AskedShelves.{goes_on_anyhow, unstored}
+use Rattle.depot_session.proofs.AskedShelves.{goes_on_anyhow}
 use Rattle.depot_session.proofs.ExportTurns.{export_goes_on}
 use Rattle.depot_session.proofs.KeptSteps.{few_kept, fit_kept, keeps_unread, kept_are, on_ok}
 use Rattle.depot_session.proofs.LastReaders.{keeps_last, keeps_unasked}
+use Rattle.depot_session.proofs.ReaderTurns.{reader_no_get, reader_stores_none}
 use Rattle.depot_session.proofs.StoredNames.{nothing_stored, trace_stored}
 use Rattle.depot_session.specs.KeptReads.{is_export}
 use Rattle.depot_session.proofs.carrying.carry_out.Goals as goal
@@ -20,7 +20,7 @@ pub returns-in_default-clause-turns : goal.returns-in_default-clause-turns
 returns-in_default-clause-turns g c = λ s told at of_run keeps. c.ask_node.ensures.turns s told at
 
 pub returns-in_default-clause-reader : goal.returns-in_default-clause-reader
-returns-in_default-clause-reader g c = on_ok c.ask_node.result _ (λ s told at keeps. keeps_unasked g.S.Scheme.verifies c.args.last.now.made (g.R.NodeState.stands c.args.node.now) (g.R.NodeState.signature_of c.args.node.now) s c.args.command.now c.in_default.not-Trim c.in_default.not-Tgive keeps)
+returns-in_default-clause-reader g c = on_ok c.ask_node.result _ (λ s told at keeps. keeps_unasked g.S.Scheme.verifies c.args.last.now.made (g.R.NodeState.stands c.args.node.now) (g.R.NodeState.signature_of c.args.node.now) s c.args.command.now c.in_default.not-Trim c.in_default.not-Tgive c.in_default.not-Tget keeps)
 
 pub returns-in_default-clause-somebodys : goal.returns-in_default-clause-somebodys
 returns-in_default-clause-somebodys g c = on_ok c.ask_node.result _ c.requires.reader
@@ -42,26 +42,8 @@ export-requires-clause-fit g c = fit_kept c.args.reads.now c.kept.result.now c.r
 pub returns-in-Export-clause-turns : goal.returns-in-Export-clause-turns
 returns-in-Export-clause-turns g c = λ s told at of_run keeps. c.export.ensures.turns s told at (kept_are s c.args.reads.now c.kept.result.now of_run c.kept.ensures)
 
-pub returns-in-Trim-clause-turns : goal.returns-in-Trim-clause-turns
-returns-in-Trim-clause-turns g c = λ s told at of_run keeps. c.trim.ensures.turns s told at keeps
-
-pub returns-in-Tgive-clause-turns : goal.returns-in-Tgive-clause-turns
-returns-in-Tgive-clause-turns g c = λ s told at of_run keeps. c.tgive.ensures.turns s told at keeps
-
-pub returns-in-Tget-clause-turns : goal.returns-in-Tget-clause-turns
-returns-in-Tget-clause-turns g c = λ s told at of_run keeps. c.tget.ensures.turns (shelves g.F.Shelf c.args.shelf.now c.args.shelf.now) s (λ name. refl) at keeps
-
 pub returns-in-Export-clause-reads : goal.returns-in-Export-clause-reads
 returns-in-Export-clause-reads g c = on_ok c.export.result _ (keeps_unread _ _ _ _ _ _ c.in-Export.is tt)
-
-pub returns-in-Trim-clause-reads : goal.returns-in-Trim-clause-reads
-returns-in-Trim-clause-reads g c = on_ok c.trim.result _ (keeps_unread _ _ _ _ _ _ c.in-Trim.is tt)
-
-pub returns-in-Tgive-clause-reads : goal.returns-in-Tgive-clause-reads
-returns-in-Tgive-clause-reads g c = on_ok c.tgive.result _ (keeps_unread _ _ _ _ _ _ c.in-Tgive.is tt)
-
-pub returns-in-Tget-clause-reads : goal.returns-in-Tget-clause-reads
-returns-in-Tget-clause-reads g c = on_ok c.tget.result _ (keeps_unread _ _ _ _ _ _ c.in-Tget.is tt)
 
 pub returns-in-Export-clause-reader : goal.returns-in-Export-clause-reader
 returns-in-Export-clause-reader g c = on_ok c.export.result _ (λ s told at keeps. keeps_last g.S.Scheme.verifies c.args.last.now.made (g.R.NodeState.stands c.args.node.now) (g.R.NodeState.signature_of c.args.node.now) s c.args.command.now _ c.in-Export.is tt keeps)
@@ -69,41 +51,20 @@ returns-in-Export-clause-reader g c = on_ok c.export.result _ (λ s told at keep
 pub returns-in-Export-clause-somebodys : goal.returns-in-Export-clause-somebodys
 returns-in-Export-clause-somebodys g c = on_ok c.export.result _ c.requires.reader
 
-pub returns-in-Tget-clause-reader : goal.returns-in-Tget-clause-reader
-returns-in-Tget-clause-reader g c = on_ok c.tget.result _ (λ s told at keeps. keeps_last g.S.Scheme.verifies c.args.last.now.made (g.R.NodeState.stands c.args.node.now) (g.R.NodeState.signature_of c.args.node.now) s c.args.command.now _ c.in-Tget.is tt keeps)
-
-pub returns-in-Tget-clause-somebodys : goal.returns-in-Tget-clause-somebodys
-returns-in-Tget-clause-somebodys g c = on_ok c.tget.result _ c.requires.reader
-
 pub returns-in-Export-clause-loads : goal.returns-in-Export-clause-loads
 returns-in-Export-clause-loads g c = rw c.in-Export.is (c.export.ensures.loads ∙ sym (append-nil (g.F.Shelf.loads c.args.shelf.now)))
-
-pub returns-in-Trim-clause-loads : goal.returns-in-Trim-clause-loads
-returns-in-Trim-clause-loads g c = rw c.in-Trim.is c.trim.ensures.loads
-
-pub returns-in-Tget-clause-loads : goal.returns-in-Tget-clause-loads
-returns-in-Tget-clause-loads g c = rw c.in-Tget.is (sym (append-nil (g.F.Shelf.loads c.args.shelf.now)))
 
 pub returns-in-Export-clause-stores : goal.returns-in-Export-clause-stores
 returns-in-Export-clause-stores g c = λ s told at. trace_stored (g.F.Shelf.stores c.args.shelf.now) (g.F.Shelf.stores c.export.new.shelf) (g.R.NodeState.stands c.args.node.now) (g.R.NodeState.signature_of c.args.node.now) s c.args.command.now c.export.result _ c.in-Export.is c.export.ensures.stores
 
-pub returns-in-Trim-clause-stores : goal.returns-in-Trim-clause-stores
-returns-in-Trim-clause-stores g c = λ s told at. nothing_stored (g.F.Shelf.stores c.args.shelf.now) (g.F.Shelf.stores c.trim.new.shelf) (g.R.NodeState.stands c.args.node.now) (g.R.NodeState.signature_of c.args.node.now) s c.args.command.now c.trim.result _ c.in-Trim.is refl c.trim.ensures.stores
-
-pub returns-in-Tgive-clause-stores : goal.returns-in-Tgive-clause-stores
-returns-in-Tgive-clause-stores g c = λ s told at. nothing_stored (g.F.Shelf.stores c.args.shelf.now) (g.F.Shelf.stores c.tgive.new.shelf) (g.R.NodeState.stands c.args.node.now) (g.R.NodeState.signature_of c.args.node.now) s c.args.command.now c.tgive.result _ c.in-Tgive.is refl c.tgive.ensures.stores
-
-pub returns-in-Tget-clause-stores : goal.returns-in-Tget-clause-stores
-returns-in-Tget-clause-stores g c = λ s told at. nothing_stored (g.F.Shelf.stores c.args.shelf.now) (g.F.Shelf.stores c.args.shelf.now) (g.R.NodeState.stands c.args.node.now) (g.R.NodeState.signature_of c.args.node.now) s c.args.command.now c.tget.result _ c.in-Tget.is refl refl
-
 pub returns-in-Export-clause-unstored : goal.returns-in-Export-clause-unstored
 returns-in-Export-clause-unstored g c = λ s told at. rw c.in-Export.is (goes_on_anyhow _ _ (export_goes_on (g.R.NodeState.stands c.args.node.now) (g.R.NodeState.signature_of c.args.node.now) s _))
 
-pub returns-in-Trim-clause-unstored : goal.returns-in-Trim-clause-unstored
-returns-in-Trim-clause-unstored g c = λ s told at. unstored (g.F.Shelf.stores c.args.shelf.now) (g.F.Shelf.stores c.trim.new.shelf) _ c.trim.ensures.stores
+-- ---- readers are asked
 
-pub returns-in-Tgive-clause-unstored : goal.returns-in-Tgive-clause-unstored
-returns-in-Tgive-clause-unstored g c = λ s told at. unstored (g.F.Shelf.stores c.args.shelf.now) (g.F.Shelf.stores c.tgive.new.shelf) _ c.tgive.ensures.stores
+pub returns-in-Trim-clause-reads : goal.returns-in-Trim-clause-reads
+returns-in-Trim-clause-reads g c = on_ok c.ask_readers.result _ (keeps_unread _ _ _ _ _ _ refl (reader_no_get c.args.command.now (search rules)))
 
-pub returns-in-Tget-clause-unstored : goal.returns-in-Tget-clause-unstored
-returns-in-Tget-clause-unstored g c = λ s told at. unstored (g.F.Shelf.stores c.args.shelf.now) (g.F.Shelf.stores c.args.shelf.now) _ refl
+pub returns-in-Trim-clause-stores : goal.returns-in-Trim-clause-stores
+returns-in-Trim-clause-stores g c = λ s told at.
+    nothing_stored (g.F.Shelf.stores c.args.shelf.now) (g.F.Shelf.stores c.ask_readers.new.shelf) (g.R.NodeState.stands c.args.node.now) (g.R.NodeState.signature_of c.args.node.now) s c.args.command.now c.ask_readers.result c.args.command.now refl (reader_stores_none c.args.command.now (search rules)) c.ask_readers.ensures.stores

@@ -18,7 +18,7 @@ pub returns-in_err-heard-clause-turns : goal.returns-in_err-heard-clause-turns
 returns-in_err-heard-clause-turns g c =
     let p = err_from_is_err_and c.from_residual.result c.from_residual.ensures.1 in
     let n = c.args.node.now in
-    rw (p.1, p.2) (unheard g.N.NodeState g.met.N.Replica.only_now g.met.N.Replica.lawful (serves_of g.N.NodeState n) n (inputs g.I.Source c.args.input.now c.hear_request.new.input) (sinks g.K.Sink c.args.out.now c.args.out.now) c.args.at c.requires.running refl c.in_err-heard.field-0.0 c.in_err-heard.ensures.hears)
+    rw (p.1, p.2) (unheard g.N.NodeState g.met.N.Replica.only_now g.met.N.Replica.lawful (serves_of g.N.NodeState n) n (inputs g.I.Source c.args.input.now c.hear_request.new.input) (sinks g.K.Sink c.args.out.now c.args.out.now) c.args.at c.requires.running refl c.args.first c.in_err-heard.field-0.0 c.in_err-heard.ensures.hears)
 
 pub returns-in-Err-Memory-clause-turns : goal.returns-in-Err-Memory-clause-turns
 returns-in-Err-Memory-clause-turns g c =
