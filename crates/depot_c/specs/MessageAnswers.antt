@@ -21,18 +21,18 @@ IsReplyMessage (Ok reply) other = ⊥
 IsReplyMessage (Err e) told = told ≡ Err (refused.Halted e)
 
 -- what the node is where it was kept from answering what is asked; a question changes nothing, nor does a trace that is handed in
-abbrev pub IsLeftBy : NodeView → Asked → Halt → NodeView → Type 0
-IsLeftBy s (asked.Request r) e t = Serves s.here s.sign s.records r (Err e) t.records
-IsLeftBy s (asked.Question q) e t = t ≡ s
-IsLeftBy s (asked.Sending r) e t = Sends s.here s.sign s.records r (Err e) t.records
-IsLeftBy s asked.Export e t = t ≡ s
+abbrev pub IsViewLeftBy : NodeView → Asked → Halt → NodeView → Type 0
+IsViewLeftBy s (asked.Request r) e t = Serves s.here s.sign s.records r (Err e) t.records
+IsViewLeftBy s (asked.Question q) e t = t ≡ s
+IsViewLeftBy s (asked.Sending r) e t = Sends s.here s.sign s.records r (Err e) t.records
+IsViewLeftBy s asked.Export e t = t ≡ s
 
 -- What is answered to what is asked, and what the node is then: the message that answers; or what is asked was done, and no memory was found for the
 -- message; or the node was kept from it.
 abbrev pub AnswersBody : NodeView → Asked → CallAnswer → NodeView → Type 0
 AnswersBody s a (Ok text) t = came_by s.here s.sign s.records a ≡ record { journal = t.records; text = text }
 AnswersBody s a (Err refused.Memory) t = t.records ≡ (came_by s.here s.sign s.records a).journal
-AnswersBody s a (Err (refused.Halted e)) t = IsLeftBy s a e t
+AnswersBody s a (Err (refused.Halted e)) t = IsViewLeftBy s a e t
 AnswersBody s a other t = ⊥
 
 -- why nothing was read of a body: no memory was found for it, or the node was stopped
