@@ -13,8 +13,7 @@ use Rattle.depot_model.specs.updates.Judgement.{first_failed_point, verdict_of}
 use Rattle.depot_model.specs.texts.Lines.{text_of_point, text_of_verdict}
 use Rattle.depot_answers.specs.AnswerTexts.{spaced}
 use Rattle.depot_model.specs.lists.Lists.{IsIn}
-use Rattle.depot_model.specs.readers.ReaderFeeds.{reader_feed_of}
-use Rattle.depot_model.specs.readers.Readers.{Reader, trim_of}
+use Rattle.depot_model.specs.readers.Readers.{trim_of}
 use Rattle.depot_model.specs.texts.Texts.{id_of_update}
 use Rattle.depot_model.specs.checks.Vouching.{rising}
 use Rattle.depot_model.specs.worlds.World.{Correct, Read}
@@ -34,10 +33,10 @@ use Rattle.depot_schedule.specs.EventLines.{event_node, stop_line}
 use Rattle.depot_world.specs.EventRequests.{label_by, piece_of, request_in}
 use Rattle.depot_world.specs.ScheduleStops.{restart_by}
 use Rattle.depot_world.specs.FaultySigning.{all_referred, updated, proof_in}
-use Rattle.depot_world.specs.Run.{Run, Host, fresh_host, run_of, world_by, host_in, bytes_of_label, reader_in, referred, with_host}
+use Rattle.depot_world.specs.Run.{Run, Host, fresh_host, run_of, world_by, host_in, bytes_of_label, referred, with_host}
 use Rattle.depot_world.specs.ScheduleStops.{event_result}
 use Rattle.depot_world.specs.Setups.{Setup, setup_of, stands_on, signs_on}
-use Rattle.depot_world.specs.Transcript.{Done, done_by_node, done_at_node, pending_at, asked_at, asked_for, trimmed_with, trim_at, reader_told, tgive_by, done_by_update, judged_with, done, run_after, world_of}
+use Rattle.depot_world.specs.Transcript.{Done, done_by_node, done_at_node, pending_at, asked_at, asked_for, trimmed_with, trim_at, done_by_update, judged_with, done, run_after, world_of}
 use Rattle.depot_world.proofs.of_worlds.GoodRuns.{numbers_of}
 use Rattle.depot_world.proofs.of_worlds.GoodWorlds.{schedule_makes_world}
 use Rattle.depot_world.proofs.ReadCounts.{request_reads}
@@ -155,7 +154,7 @@ settled_follows : (setup : Setup) (run : Run) (node k : ℕ) (o : Option Update)
 settled_follows setup run node k None all = stays run _ node refl
 settled_follows setup run node k (Some u) all = asked_follows setup run node None (request.Settled (id_of_update u) k) all
 
--- a reader is made, or takes a stream: no node has a part in what it reads
+-- a reader is made: no node has a part in what it reads
 
 trim_stays : (setup : Setup) (run : Run) (node : ℕ) (text name : List ℕ) → run.hosts ≡ (trim_at setup run node text name).run.hosts
 unfolding trim_at
@@ -163,13 +162,6 @@ trim_stays setup run node text name = by_host (host_in run.hosts node) where
   by_host : (o : Option Host) → run.hosts ≡ (elim o as (λ x. Done) [ None ↦ record { answer = []; behind = []; run = run } | Some s ↦ trimmed_with run name (trim_of (stands_on setup node) s.correct.journal text) ]).run.hosts
   by_host None = refl
   by_host (Some s) = refl
-
-tgive_stays : (run : Run) (name stream : List ℕ) → run.hosts ≡ (tgive_by run name stream).run.hosts
-unfolding tgive_by
-tgive_stays run name stream = by_reader (reader_in run.readers name) where
-  by_reader : (o : Option Reader) → run.hosts ≡ (elim o as (λ x. Done) [ None ↦ record { answer = []; behind = []; run = run } | Some R ↦ reader_told run name (reader_feed_of R stream) ]).run.hosts
-  by_reader None = refl
-  by_reader (Some R) = refl
 
 event_follows : (setup : Setup) (run : Run) (e : Event) → ((s : Host) → IsIn s run.hosts → Waits s) → StopsLater e → Follows run (done setup run e).run (node_in e) (keys_in e)
 unfolding done
@@ -197,7 +189,7 @@ event_follows setup run event.Audit all later = stays run _ 0 refl
 event_follows setup run (event.Checkpoint node label) all later = asked_follows setup run node (Some label) request.Checkpoint all
 event_follows setup run (event.Sign node label) all later = asked_follows setup run node None (request.Sign (bytes_of_label run label)) all
 event_follows setup run (event.Trim node label name) all later = stays run _ node (trim_stays setup run node (bytes_of_label run label) name)
-event_follows setup run (event.Tgive name label) all later = stays run _ 0 (tgive_stays run name (bytes_of_label run label))
+event_follows setup run (event.Tgive name label) all later = stays run _ 0 refl
 event_follows setup run (event.Tget name key) all later = stays run _ 0 refl
 
 -- ---- all events
@@ -364,13 +356,6 @@ trim_judged setup run node text name = by_host (host_in run.hosts node) where
   by_host None = sym (append-nil run.judged)
   by_host (Some s) = sym (append-nil run.judged)
 
-tgive_judged : (run : Run) (name stream : List ℕ) → (tgive_by run name stream).run.judged ≡ run.judged ++ []
-unfolding tgive_by
-tgive_judged run name stream = by_reader (reader_in run.readers name) where
-  by_reader : (o : Option Reader) → (elim o as (λ x. Done) [ None ↦ record { answer = []; behind = []; run = run } | Some R ↦ reader_told run name (reader_feed_of R stream) ]).run.judged ≡ run.judged ++ []
-  by_reader None = sym (append-nil run.judged)
-  by_reader (Some R) = sym (append-nil run.judged)
-
 event_judges : (setup : Setup) (run : Run) (e : Event) → (done setup run e).run.judged ≡ run.judged ++ verdict_on setup run e
 unfolding done
 event_judges setup run (event.Restart node) = node_judged run node None _
@@ -387,7 +372,7 @@ event_judges setup run (event.Join label first second) = sym (append-nil run.jud
 event_judges setup run (event.Stop node call image) = stop_judged run node call image
 event_judges setup run event.Audit = sym (append-nil run.judged)
 event_judges setup run (event.Trim node label name) = trim_judged setup run node (bytes_of_label run label) name
-event_judges setup run (event.Tgive name label) = tgive_judged run name (bytes_of_label run label)
+event_judges setup run (event.Tgive name label) = sym (append-nil run.judged)
 event_judges setup run (event.Tget name key) = sym (append-nil run.judged)
 event_judges setup run e = asked_judged setup run (event_node e) (label_by e) (request_in run e)
 

@@ -40,7 +40,9 @@ use Rattle.sha2.specs.Sha256.{sha256, first_words, schedule, rounds, compress, h
 use Rattle.hex.specs.Hex.{encode_with, decode_pairs}
 use Rattle.std.specs.Fmt.{digits}
 use Rattle.depot_base.specs.Zeros.{zeros}
+use Rattle.depot_answers.specs.declared.reader_answers.ReaderCounts.{ReaderCounts}
 use Rattle.depot_base.specs.declared.check.Full.{Full}
+use Rattle.depot_requests.specs.declared.reader_reply.ReaderReply.TheVariants as reader_reply
 use Rattle.depot_base.specs.declared.record.Record.{Record}
 use Rattle.depot_base.specs.declared.write.Change.{Change}
 use Rattle.depot_base.specs.declared.record.Record.TheVariants.{Birth, OwnPut, OwnVoucher, Held}
@@ -60,7 +62,7 @@ use Rattle.depot_script.specs.declared.command.Command.TheVariants as command
 use Rattle.depot_session.specs.declared.ending.ScriptEnding.{ScriptEnding}
 use Rattle.depot_session.specs.declared.ending.ScriptEnding.TheVariants as ending
 use Rattle.depot_session.specs.SessionRuns.{CallsShort, DiskFailsAmong, GoesShort, GrowsTo, IsCutBy, IsLast, IsToBeWritten, LeavesFront, calls_of_run, pending_for, pending_in, world_at}
-use Rattle.depot_session.specs.Sessions.{Answers, Files, Session, answers_of, ending_of_closing, ending_of_tgive, session_from, step_of}
+use Rattle.depot_session.specs.Sessions.{Answers, Files, Session, answers_of, ending_of_closing, ending_of_reader_reply, session_from, step_of}
 use Rattle.depot_session.specs.Unhindered.{AreUnhindered}
 
 -- ---- a script
@@ -223,8 +225,8 @@ full_take : (what : Full) → ending_of_closing (closing_told (Some (out_of_room
 full_take what = refl
 
 -- and so does one for which a reader has none
-full_tgive : (what : Full) → ending_of_tgive (Some what) ≡ Some ending.Limit
-full_tgive what = refl
+full_tgive : (counts : ReaderCounts) (what : Full) → ending_of_reader_reply (reader_reply.Took counts (Some what)) ≡ Some ending.Limit
+full_tgive counts what = refl
 
 -- ---- runs that are cut short
 

@@ -81,11 +81,10 @@ pub fn hash(digits: &str) -> Result<Hash32, Fail> {
     Ok(Hash32::new(bytes))
 }
 
-/// The texts of these digits.
-pub fn texts(alloc: Global, journal: &[&str]) -> Result<Texts, Fail> {
-    let mut texts = Texts::new(alloc);
+/// Adds the texts of these digits.
+pub fn push_texts(alloc: Global, texts: &mut Texts, journal: &[&str]) -> Result<(), Fail> {
     for text in journal {
         texts.push(Bytes::from_vec(hex::decode(alloc, *text)?))?;
     }
-    Ok(texts)
+    Ok(())
 }

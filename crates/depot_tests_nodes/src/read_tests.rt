@@ -1,12 +1,12 @@
 //! Reads that show what the records then had, and reads that don't.
 
 use crate::faults::{Told, bare};
-use crate::journals::{A, B, C, FOREIGN, HELD, ONE, PUT, TWO, hash, node, roster, texts};
+use crate::journals::{A, B, C, FOREIGN, HELD, ONE, PUT, TWO, hash, node, push_texts, roster};
 use depot_audit::{
     Answered, Finding, Listing, MOST_READS, NodeAnswer, PlaceFault, ReadTrace, Reads, Shown, Trace,
     look_at, look_at_all,
 };
-use depot_base::{Key, Value};
+use depot_base::{Key, Texts, Value};
 use depot_sign::PlainScheme;
 use std::alloc::Global;
 use std::test::Fail;
@@ -135,21 +135,39 @@ fn listing(alloc: Global, listed: &[(&'static str, Sight)]) -> Result<Listing, F
     Ok(answer)
 }
 
+/// A read as a trace has it.
+fn read_trace(alloc: Global, told: &Read) -> Result<ReadTrace, Fail> {
+    let (length, key, listed) = told;
+    Ok(ReadTrace {
+        length: *length,
+        key: Key::new(alloc, *key)?,
+        answer: listing(alloc, *listed)?,
+    })
+}
+
+/// Adds records and reads to a trace.
+fn fill(alloc: Global, trace: &mut Trace, journal: &[&str], told: &[Read]) -> Result<(), Fail> {
+    push_texts(alloc, &mut trace.texts, journal)?;
+    for read in told {
+        trace.reads.push(read_trace(alloc, read)?)?;
+    }
+    Ok(())
+}
+
 /// A trace of a node with these records and reads.
 fn trace(alloc: Global, number: u16, journal: &[&str], told: &[Read]) -> Result<Trace, Fail> {
-    let mut reads = Reads::new(alloc);
-    for (length, key, listed) in told {
-        reads.push(ReadTrace {
-            length: *length,
-            key: Key::new(alloc, *key)?,
-            answer: listing(alloc, *listed)?,
-        })?;
-    }
-    Ok(Trace {
+    let mut trace = Trace {
         node: node(number)?,
-        texts: texts(alloc, journal)?,
-        reads,
-    })
+        texts: Texts::new(alloc),
+        reads: Reads::new(alloc),
+    };
+    match fill(alloc, &mut trace, journal, told) {
+        Ok(()) => Ok(trace),
+        Err(fault) => {
+            drop(trace);
+            Err(fault)
+        }
+    }
 }
 
 /// What is found of nodes.
@@ -182,20 +200,41 @@ fn found_of(alloc: Global, one: &Trace, two: &Trace) -> Result<FoundReads, Fail>
     }
 }
 
+/// What is found if the second node has these records and reads, beside the trace of the first.
+fn found_beside(
+    alloc: Global,
+    one: &Trace,
+    journal: &[&str],
+    told: &[Read],
+) -> Result<FoundReads, Fail> {
+    let two = trace(alloc, 2, journal, told)?;
+    let found = found_of(alloc, one, &two);
+    drop(two);
+    found
+}
+
 /// What is found if the second node has these reads, and all else is right.
 fn found_with(alloc: Global, told: &[Read]) -> Result<FoundReads, Fail> {
     let one = trace(alloc, 1, &ONE, &OF_ONE)?;
-    let two = trace(alloc, 2, &TWO, told)?;
-    found_of(alloc, &one, &two)
+    let found = found_beside(alloc, &one, &TWO, told);
+    drop(one);
+    found
 }
 
 /// What is found in the trace of node 2 alone, with these reads.
 fn found_alone(alloc: Global, told: &[Read]) -> Result<FoundReads, Fail> {
     let two = trace(alloc, 2, &TWO, told)?;
+    let found = answer_of(alloc, &two);
+    drop(two);
+    found
+}
+
+/// What is found in a trace of node 2.
+fn answer_of(alloc: Global, two: &Trace) -> Result<FoundReads, Fail> {
     if two.reads.as_slice().len() > MOST_READS as usize {
         return Err(Fail::from("too many reads"));
     }
-    match look_at(alloc, &roster(alloc)?, &PlainScheme, &two)? {
+    match look_at(alloc, &roster(alloc)?, &PlainScheme, two)? {
         NodeAnswer::Unlawful(PlaceFault { place, fault }) => {
             Ok(FoundReads::Record(2, place, bare(&fault)))
         }
@@ -225,8 +264,9 @@ fn the_first_wrong_read_is_found(rt: HostRuntime) -> Result<(), Fail> {
 /// What is found if both nodes have a wrong read, and the second has these records.
 fn found_behind(alloc: Global, journal: &[&str]) -> Result<FoundReads, Fail> {
     let one = trace(alloc, 1, &ONE, &[(2, b"k", &[])])?;
-    let two = trace(alloc, 2, journal, &[(2, b"k", &[])])?;
-    found_of(alloc, &one, &two)
+    let found = found_beside(alloc, &one, journal, &[(2, b"k", &[])]);
+    drop(one);
+    found
 }
 
 #[test]

@@ -2,9 +2,10 @@
 
 use crate::faults::{Told, bare};
 use crate::journals::{
-    BIRTH, BIRTH_ONE, DELETION, FOREIGN, HELD, PUT, PUT_ONE, TWO, node, roster, texts,
+    BIRTH, BIRTH_ONE, DELETION, FOREIGN, HELD, PUT, PUT_ONE, TWO, node, push_texts, roster,
 };
 use depot_audit::{PlaceFault, check_records};
+use depot_base::Texts;
 use depot_sign::PlainScheme;
 use std::alloc::Global;
 use std::test::Fail;
@@ -50,7 +51,8 @@ static JOURNALS: [(&[&str], Option<(u32, Told)>); 21] = [
 
 /// The place and the fault of the first of these texts that isn't the record of a lawful journal of the node of this number.
 fn first_fault(alloc: Global, number: u16, journal: &[&str]) -> Result<Option<(u32, Told)>, Fail> {
-    let texts = texts(alloc, journal)?;
+    let mut texts = Texts::new(alloc);
+    push_texts(alloc, &mut texts, journal)?;
     match check_records(alloc, node(number)?, &roster(alloc)?, &PlainScheme, &texts)? {
         None => Ok(None),
         Some(PlaceFault { place, fault }) => Ok(Some((place, bare(&fault)))),
