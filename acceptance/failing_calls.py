@@ -13,6 +13,8 @@ after one that failed. What stands on the disk then are records of the whole run
 that the commands leave whose lines were written among them. The run that is made again over them ends well, or where the leaves of the key
 are used up, and keeps them (one case asks for an absent file then). The same holds of a machine that stops, but for the status and the line.
 Of `serve` it holds with requests for commands and messages for lines; `disk` is told only by a node that wasn't started. Its input alone is read.
+Requests that come together are a group: what stands then are the records that were there at its start, or all; and where the group brings some,
+its run makes four calls on the journal's file more than a run without requests, two writes and two syncs.
 """
 
 import os
@@ -31,6 +33,8 @@ DEPOT = os.path.join(os.path.dirname(HERE), "crates/depot_tool/out/depot_tool")
 JOURNAL = "depot.journal"
 SHELF, DISK, OUTPUT, LIMIT, INPUT, STOPPED = 3, 4, 5, 8, 13, 99
 IMAGES = 3
+MOST_AHEAD, MOST_REQUESTS, MOST_REPLIES = 16_384, 64, 65_536  # bytes that are read at once; requests and bytes of replies of a group
+CALLS_OF_A_GROUP = 4
 
 # How a run that is made again ends: well, or at a limit. Where the update stands by which this case's node signed, it has its reader from
 # the first `trim` on, and the `tgive` behind that asks for a file that isn't there.
@@ -50,7 +54,7 @@ def last_message(status, name, text):
 
 
 # The cases of `serve`, and those of commands that have no node.
-SERVED = ["serve_exchanges_with_another", "serve_makes_and_signs_a_checkpoint", "serve_and_node_in_turn"]
+SERVED = ["serve_puts_and_reads", "serve_exchanges_with_another", "serve_makes_and_signs_a_checkpoint", "serve_and_node_in_turn"]
 OTHERS = ["judge_same_prev", "replay_a_join_supersedes_both", "scan_concurrent_writes"]
 
 
@@ -134,6 +138,11 @@ class Run:
             self.run(place)
         return self.journal(place)
 
+    def is_one_group(self, whole):
+        """Whether it is of `serve`, and all requests that come to it are answered together; it writes this text."""
+        comes = self.content("stdin", self.number)
+        return self.command() == "serve" and len(comes) <= MOST_AHEAD and len(bodies_in(comes)[0]) <= MOST_REQUESTS and len(whole) < MOST_REPLIES
+
     def front_of(self, whole, status, name, text):
         """What a run with this status wrote of the whole text, if it wrote a front of it and then what tells that something failed."""
         serves = self.command() == "serve"
@@ -147,9 +156,23 @@ def begins(records_, front):
     return records_[:len(front)] == front
 
 
+def is_all_or_none(run, whole, before, left, after):
+    """Whether of a group, if the run is one, all records stand or none. A journal that had none has its birth before the group."""
+    return not run.is_one_group(whole) or len(left) in (len(before), max(len(before), 1), len(after))
+
+
+def shares_its_syncs(run, whole, calls, after):
+    """Whether the run, if it is one group, makes four calls on the journal's file for all its records, and none where it brings none."""
+    place = run.place()
+    _, _, idle, _ = run.run(place, comes=b"")
+    made = CALLS_OF_A_GROUP if len(after) > len(run.journal(place)) else 0
+    return not run.is_one_group(whole) or calls[0] == idle[0] + made
+
+
 def ends_well(run, whole, after, status, failing):
     """Whether a run in which a call fails ends with this status, leaves what it must, and goes on."""
     place = run.place()
+    before = run.journal(place)
     ended, text, calls, name = run.run(place, **failing)
     front = run.front_of(whole, status, name, text)
     if ended != status or front is None or status in (DISK, STOPPED) and calls[0] not in failing.values():
@@ -157,7 +180,7 @@ def ends_well(run, whole, after, status, failing):
     left = run.journal(place)
     again, *_ = run.run(place)
     goes_on = again in ENDS_OF.get(os.path.basename(run.folder), ENDS) and begins(run.journal(place), left)
-    return goes_on and begins(after, left) and begins(left, run.told(front))
+    return goes_on and begins(after, left) and begins(left, run.told(front)) and is_all_or_none(run, whole, before, left, after)
 
 
 def failures(calls):
@@ -182,7 +205,8 @@ def tried(run):
     assert status == 0 and (calls[0] > 0) == (run.command() in ("node", "serve")), (run.folder, status, calls)
     assert (calls[3] > 0) == (run.command() == "serve"), (run.folder, calls)
     after, failing = run.journal(place), list(failures(calls))
-    return len(failing), [which for status, which in failing if not ends_well(run, whole, after, status, which)]
+    wrong = [which for status, which in failing if not ends_well(run, whole, after, status, which)]
+    return len(failing), wrong if shares_its_syncs(run, whole, calls, after) else [*wrong, "more syncs"]
 
 
 def runs_of(room, shim, name):

@@ -1,7 +1,8 @@
 #!/usr/bin/env python3
 """Runs `depot serve` over pipes, as a program would that keeps a node, and says of each case whether what is replied, when, what is left and
 how it ends are as they must: replies that come before the next request, messages byte by byte and many at once, a run that is killed, a second
-run over a locked journal, inputs and outputs that are closed or fail, and a memory that a head alone can't take.
+run over a locked journal, inputs and outputs that are closed or fail, and a memory that a head alone can't take. Requests that come together
+share their writes and syncs, and a kill leaves all that they bring or none.
 
     python3 acceptance/serving.py
 """
@@ -13,6 +14,7 @@ import signal
 import subprocess
 import sys
 import tempfile
+import time
 from contextlib import contextmanager
 
 sys.path.insert(0, os.path.join(os.path.dirname(os.path.abspath(__file__)), "makers"))
@@ -25,6 +27,7 @@ from make_serve_cases import words
 
 DEPOT = os.path.join(ROOT, "depot")
 PATIENCE = 60
+MOST_REQUESTS = 64  # of a group
 PUT_A = say.put((b"k", b"a"))
 STARTED = say.message(say.started(1, LISTED))
 
@@ -156,6 +159,32 @@ def many_at_once(room):
     return kinds and reads and ended == (0, b"") and same
 
 
+def writes_of(run):
+    """How many calls its process has made that write: to the journal, each followed by a sync, and to its output."""
+    with open(f"/proc/{run.process.pid}/io", encoding="ascii") as file:
+        return next(int(line.split()[1]) for line in file if line.startswith("syscw:"))
+
+
+def puts_that_come_together(room):
+    """Puts that wait together share two writes with their syncs, and the write of their replies; a put alone makes these three, too. Each is
+    answered in order, a read among them with what was put before it."""
+    place(room)
+    one = fresh()
+    puts = [one.put(b"k", b"%d" % at).id for at in range(3)]
+    requests, replies = [], []
+    for at, made in enumerate(puts):
+        requests += [say.put((b"k", b"%d" % at)), say.get(b"k")]
+        replies += [say.was_put(made, at, at + 1), say.was_read(" 1/%d/%d=%s" % (at, at + 1, (b"%d" % at).hex()))]
+    with server(room) as run:
+        run.hear()
+        before = writes_of(run)
+        run.write(say.messages(*requests))
+        together = [run.hear() for _ in requests] == replies
+        shared = writes_of(run) - before
+        alone = run.ask(say.put((b"k", b"a"))) == say.was_put(one.put(b"k", b"a").id, 3, 4)
+        return together and shared == 3 and alone and writes_of(run) - before == 6 and run.ends() == (0, b"") and journal(room) == one.file()
+
+
 def a_run_that_is_killed(room):
     """What was replied stands, its lock ends with it, and the next run goes on. Without a reply it may stand or not."""
     place(room)
@@ -182,6 +211,30 @@ def a_run_that_is_killed(room):
         ended = run.ends()
     shows = read == say.was_read(" 1/0/1=61" if made == 1 else " 1/1/2=62")
     return put == say.was_put(a.id, 0, 1) and killed == -signal.SIGKILL and kept and again and made in (1, 2) and shows and asked_again and ended[0] == 0 and journal(room) == one.file()
+
+
+def a_group_that_is_killed(room):
+    """Of puts that came together all stand or none, at whatever moment the run is killed, and all where one was replied; the next run goes on."""
+    one = fresh()
+    puts = [one.put(b"k", b"%d" % at).id for at in range(3)]
+    replies = say.messages(*[say.was_put(made, at, at + 1) for at, made in enumerate(puts)])
+    stood = set()
+    for step in range(16):
+        folder = place(os.path.join(room, str(step)))
+        with server(folder) as run:
+            run.hear()
+            run.write(say.messages(*[say.put((b"k", b"%d" % at)) for at in range(3)]))
+            time.sleep(0.0002 * step)
+            run.process.kill()
+            told = run.take(len(replies))
+        with server(folder) as run:
+            made = int.from_bytes(run.hear()[-4:], "big")
+            read, ended = run.ask(say.get(b"k")), run.ends()
+        shows = {0: say.was_read(), 3: say.was_read(" 1/2/3=32")}.get(made)
+        if read != shows or not replies.startswith(told) or told and made != 3 or ended != (0, b""):
+            return False
+        stood.add(made)
+    return 3 in stood
 
 
 def a_second_run(room):
@@ -216,14 +269,14 @@ def outputs_that_fail(room):
 
 
 def an_output_that_nobody_reads_any_more(room):
-    """The put whose reply can't be written stands, and nothing behind it is done."""
+    """What a group's requests bring stands, though their replies can't be written, and nothing behind the group is done."""
     place(room)
     one = fresh()
     one.put(b"k", b"a")
     with server(room) as run:
         run.hear()
         run.process.stdout.close()
-        run.write(say.messages(PUT_A, PUT_A))
+        run.write(say.messages(PUT_A, *[say.get(b"k")] * (MOST_REQUESTS - 1), say.put((b"k", b"b"))))
         status = run.process.wait(PATIENCE)
     return status == 5 and journal(room) == one.file()
 
@@ -267,7 +320,9 @@ CASES = (
     replies_before_the_next_request,
     bytes_one_by_one,
     many_at_once,
+    puts_that_come_together,
     a_run_that_is_killed,
+    a_group_that_is_killed,
     a_second_run,
     inputs_that_fail,
     outputs_that_fail,
