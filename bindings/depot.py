@@ -407,7 +407,7 @@ class Node:
         """What the maker of a hello lacks: a stream of at most so many bytes, that signs at most so many new vouchers (None: any number).
 
         Each voucher spends a leaf of the key, for whoever asks. With `own` it has updates of this node alone. Where `has_more`
-        is told, the other takes this one and asks again with its new hello.
+        is told, the other takes this one and asks again with its new hello; where that is the old one, within wider bounds.
         """
         return m.read_bundle(self.message(m.bundle_body(hello, most_bytes, most_vouchers, own)))
 

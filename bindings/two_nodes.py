@@ -31,13 +31,14 @@ def told(who, put):
 
 
 def exchange(sender, reader):
-    """Until the sender has no more for the reader: here at once."""
-    has_more = True
-    while has_more:
-        bundle = sender.bundle(reader.hello())
+    """Until the sender has no more for the reader, within wider bounds where the reader had all of it: here at once."""
+    most_bytes, hello, has_more = 1 << 20, reader.hello(), True
+    while has_more and most_bytes <= 1 << 26:
+        bundle = sender.bundle(hello, most_bytes)
         taken = reader.take(bundle.stream)
         print(taken.line(), *(it.line() for it in taken.refused), sep="\n")
-        has_more = bundle.has_more
+        was, hello, has_more = hello, reader.hello(), bundle.has_more
+        most_bytes = 2 * most_bytes if hello == was else 1 << 20
 
 
 def show(node, key):

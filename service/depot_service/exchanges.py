@@ -6,7 +6,7 @@ from dataclasses import dataclass
 
 from . import wire
 from .links import Link
-from .messages import MISSING
+from .messages import MISSING, MOST_BYTES_OF_BUNDLE
 from .serving import MOST_FAULTY, Own, Serving, Unanswerable, faulty_in, is_foul
 from .wire import Foul
 
@@ -89,24 +89,37 @@ class Exchange:
 
     async def give(self, hello: bytes, is_own: bool, rest: Rest) -> Given:
         """Gives what a hello lacks, a bundle after the other while the other side moves."""
-        given, is_last = Given(), False
-        while not is_last:
+        given, most_bytes, stuck_at = Given(), self.limits.bundle_bytes, 0
+        while True:
             await self.link.while_working(asyncio.sleep(rest.left()))
-            begun = time.monotonic()
-            try:
-                bundle = await self.link.while_working(self.serving.bundle_for(hello, is_own))
-            except Unanswerable as why:
-                raise Foul("a hello for which there is no bundle: %s" % why)
-            finally:
-                rest.note(begun)
+            bundle = await self.bundle_for(hello, is_own, most_bytes, rest)
             given.has_more = bundle.has_more
-            if bundle.is_empty():
+            # A bundle no longer than one of which all was known brings the same.
+            if bundle.is_empty() or len(bundle.stream) <= stuck_at:
                 break
+            was = given.new, given.refused
             moved = await self.send_bundle(bundle, given)
-            is_last = not bundle.has_more or moved == hello
+            if not bundle.has_more:
+                break
+            if moved != hello:
+                most_bytes, stuck_at = self.limits.bundle_bytes, 0
+            elif (given.new, given.refused) == was:
+                most_bytes, stuck_at = min(2 * most_bytes, MOST_BYTES_OF_BUNDLE), len(bundle.stream)
+            else:
+                break
             hello = moved
         await self.link.send(wire.END, bytes([given.has_more]))
         return given
+
+    async def bundle_for(self, hello: bytes, is_own: bool, most_bytes: int, rest: Rest):
+        """The next bundle; Foul where the hello is one for which there is none."""
+        begun = time.monotonic()
+        try:
+            return await self.link.while_working(self.serving.bundle_for(hello, is_own, most_bytes))
+        except Unanswerable as why:
+            raise Foul("a hello for which there is no bundle: %s" % why)
+        finally:
+            rest.note(begun)
 
     async def send_bundle(self, bundle, given: Given) -> bytes:
         """Sends a bundle, the next piece once the last was taken. Where there is more, the hello of the other behind it."""

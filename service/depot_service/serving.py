@@ -45,16 +45,17 @@ class Serving:
         self.convicted = frozenset(formats.read_hello(hello).convicted)
         return Own(hello, wire.state_of(hello), self.convicted)
 
-    async def bundle_for(self, hello: bytes, is_own: bool) -> m.Bundle:
-        """What a hello lacks, bounded; own updates alone, or others' too with the vouchers that the bucket has."""
+    async def bundle_for(self, hello: bytes, is_own: bool, most_bytes: int = 0) -> m.Bundle:
+        """What a hello lacks, within so many bytes (0: as usual); own updates alone, or others' too with the vouchers that the bucket has."""
+        most_bytes = most_bytes or self.limits.bundle_bytes
         vouchers = 0 if is_own else min(self.limits.vouchers, self.vouchers.left())
         try:
-            served = await self.node.bundle(hello, self.limits.bundle_bytes, vouchers, is_own)
+            served = await self.node.bundle(hello, most_bytes, vouchers, is_own)
         except Refused as why:
             if not why.reason.limit:
                 raise Unanswerable(why.reason.words)
             # No voucher can be kept any more: what needs none is handed on.
-            served = await self.node.bundle(hello, self.limits.bundle_bytes, 0, is_own)
+            served = await self.node.bundle(hello, most_bytes, 0, is_own)
         self.vouchers.spend(served.leaves)
         self.counts["leaves_for_vouchers"] += served.leaves
         self.counts["bundles"] += 1

@@ -8,7 +8,7 @@ from typing import Dict
 from stand_in import END, QUICK, SOON, MemoryNode, Members, body_of, frame_of, free_ports, quiet, run, serving_of, until
 from depot_service import messages as m
 from depot_service import wire
-from depot_service.exchanges import Given, Rest
+from depot_service.exchanges import Exchange, Given, Rest
 from depot_service.node import LOCAL, PEER, Refused
 from depot_service.rounds import Moves, Rounds
 from depot_service.wire import Foul
@@ -58,6 +58,71 @@ class Case(unittest.TestCase):
 def are_same(*sides) -> bool:
     """Whether all have the same updates."""
     return len({frozenset(it.node.updates) for it in sides}) == 1
+
+
+class TakerLink:
+    """A link behind which a node takes each piece at once."""
+
+    def __init__(self, node: MemoryNode):
+        self.taker, self.node, self.ends, self.told = node, node.me, [], b""
+
+    async def while_working(self, work):
+        """Does the work."""
+        return await work
+
+    async def send(self, kind: int, payload: bytes) -> None:
+        """Has the node take a piece; the end is noted."""
+        if kind == wire.END:
+            self.ends.append(payload)
+            return
+        piece = wire.read_piece(payload)
+        taken = await self.taker.take(piece.stream)
+        hello = await self.taker.far_hello() if piece.wants_hello else b""
+        self.told = wire.Taken(taken.new, taken.known, len(taken.refused), taken.count(m.MISSING), hello).text()
+
+    async def read(self, *kinds: int):
+        """What it said of the last piece."""
+        return wire.TAKEN, self.told
+
+
+class Giving(unittest.TestCase):
+    async def beside(self, shared: int):
+        """Node 1 knows an update of node 3 that node 2 lacks, and lacks one of node 2; both have so many of node 3."""
+        nodes = [MemoryNode(it) for it in (1, 2, 3)]
+        one, two, three = nodes
+        for place in range(shared + 1):
+            await three.put([(b"k", b"%d" % place)])
+        bodies = [it.body for it in three.updates.values()]
+        for body in bodies:
+            one.keep(body)
+        for body in bodies[:-1]:
+            two.keep(body)
+        await two.put([(b"t", b"new")])
+        return one, two
+
+    async def give(self, one: MemoryNode, two: MemoryNode):
+        """Node 2 gives what node 1 lacks by its hello, 1,024 bytes a bundle."""
+        link = TakerLink(one)
+        limits = dataclasses.replace(QUICK, bundle_bytes=1024)
+        given = await Exchange(link, serving_of(two, limits=limits), two.started.roster, two.me).give(await one.far_hello(), False, Rest())
+        return given, link
+
+    @run
+    async def test_a_bundle_of_which_all_is_known_is_followed_by_a_wider_one(self):
+        one, two = await self.beside(40)
+        given, link = await self.give(one, two)
+        self.assertEqual((given.new, given.refused, link.ends), (1, 0, [b"\0"]))
+        self.assertEqual(set(two.updates) - set(one.updates), set())
+
+    @run
+    async def test_where_wider_bounds_bring_no_more_it_ends(self):
+        one, two = await self.beside(40)
+        two.vouched = {it.id for it in list(two.updates.values())[:20]}
+        real = two.bundle
+        two.bundle = lambda hello, most_bytes, most_vouchers=None, own=False, urgency=PEER: real(hello, most_bytes, 0, own, urgency)
+        given, link = await self.give(one, two)
+        self.assertEqual((given.new, given.has_more, link.ends), (0, True, [b"\1"]))
+        self.assertLess(len(two.served), 9)
 
 
 class Exchanges(Case):
